@@ -1,0 +1,8 @@
+pub mod Moments
+mod Odd
+mod Recorded
+mod Fed
+mod MemCalls
+mod Shapes
+mod Images
+mod Frames

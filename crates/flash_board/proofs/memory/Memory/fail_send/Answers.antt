@@ -1,0 +1,38 @@
+use Rattle.std.proofs.Common.{◌≡◌, inl, ◌+◌, ℕ, List, false, refl, sym, ◌∙◌, ap, subst, arith}
+use Rattle.flash_board.specs.Losses.{Moment, Outcome, Frame, frame, Either, Unchanged, Sends}
+use Rattle.flash_board.specs.Kept.{start}
+use Rattle.flash_board.specs.declared.record.Call.TheVariants as call
+use Rattle.flash_board.proofs.MemCalls.{before_of, kept-push, elapses, covers}
+use Rattle.flash_board.proofs.Recorded.{replayed-noted}
+use Rattle.flash_board.proofs.memory.Memory.fail_send.Goals as goal
+
+pub invariant_of-self : goal.invariant_of-self
+invariant_of-self c = let m = c.args.self.now in record {
+  kept = λ told. let was = c.note.ensures.full told in kept-push m m.image c.note.new.calls.items m.frames.items _ (call.Send c.args.peer c.copied-bytes.result false) was (c.note.ensures.noted told) refl
+      (let one : c.saturating_add-self.result ≡ m.counts.sendings + 1 = omega (arith, c.note.ensures.count told) in
+      ap (λ n. let t : Moment = record { programs = m.counts.programs; erases = m.counts.erases; receptions = m.counts.receptions; sendings = n } in t) one)
+      (m.kept was).frames;
+  room = record { calls_room = omega (arith, m.room.calls_room); calls_size = omega arith; frames_room = m.room.frames_room; frames_size = m.room.frames_size };
+  shaped = m.shaped;
+  attached = m.attached;
+  peers = m.peers;
+}
+
+pub returns-clause-sends : goal.returns-clause-sends
+returns-clause-sends c =
+    let m = c.args.self.now in
+    let same = ap (λ (l : List ℕ). frame c.args.peer l) c.copied-bytes.ensures in
+    record {
+      words = record { geometry = refl; told = c.note.ensures.full; content = λ told. refl };
+      lists = λ e f stood told.
+          let was = stood (c.note.ensures.full told) in
+          let after = replayed-noted m.feed.items m.calls.items c.note.new.calls.items (call.Send c.args.peer c.copied-bytes.result false) (start m.base) (c.note.ensures.noted told) in (
+            was.0 ∙ sym (ap (λ (o : Outcome). o.events) after),
+            was.1 ∙ sym (ap (λ (o : Outcome). o.frames) after),
+          );
+      passes = elapses m _ (call.Send c.args.peer c.copied-bytes.result false) (record { feed = refl; base = refl; first = refl; told = c.note.ensures.full; noted = c.note.ensures.noted }) (Either Unchanged (Sends (frame c.args.peer c.args.bytes.now))) (Either Unchanged (Sends (frame c.args.peer c.args.bytes.now))) (record { programs = omega arith; erases = omega arith; receptions = omega arith; sendings = omega arith })
+          (λ o may. subst (λ (f : Frame). Either Unchanged (Sends f) (before_of m) o) same may)
+          (λ told. inl refl)
+          (λ told. inl refl);
+      covers = covers m _ (call.Send c.args.peer c.copied-bytes.result false) (record { feed = refl; base = refl; first = refl; told = c.note.ensures.full; noted = c.note.ensures.noted }) (Either Unchanged (Sends (frame c.args.peer c.args.bytes.now))) (λ o may. subst (λ (f : Frame). Either Unchanged (Sends f) (before_of m) o) (sym same) may);
+    }
