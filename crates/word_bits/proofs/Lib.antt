@@ -1,0 +1,10 @@
+pub mod Magnitude
+pub mod Nearest
+pub mod Units
+pub mod Signs
+pub mod Whole
+pub mod WholeSigns
+pub mod Unique
+pub mod Count
+pub mod Options
+pub mod Exact
