@@ -1,0 +1,7 @@
+use Rattle.std.proofs.Common.{refl}
+use Rattle.param_tree.specs.Rows.{servo_rows, each_from}
+use Rattle.param_tree.proofs.rows.servo_rows_1_to_4.Goals as goal
+
+pub returns : goal.returns
+unfolding servo_rows each_from
+returns c = refl
