@@ -1,0 +1,7 @@
+pub mod Lists
+pub mod Register
+pub mod Bytes
+pub mod Usual
+pub mod Pieces
+pub mod Uniqueness
+pub mod ByteLists
