@@ -1,0 +1,73 @@
+-- The values of fields in a payload.
+use Rattle.std.specs.Prelude.{ℕ, max, ◌+◌, ◌-◌, ◌*◌, ◌<◌, ◌≤◌, ◌^◌, ◌≡◌, ◌≢◌, ◌⊎◌, ◌==◌, Bool, true, false, not, ◌&&◌, if◌then◌else◌, List, [], ◌∷◌, ◌++◌, length, take, drop, map, replicate, slice_index}
+use Rattle.byteorder.specs.Endian.{little_number, little_bytes}
+use Rattle.mav_messages.specs.declared.layouts.Row.{Row}
+
+-- The value of a field: a number, a negative one as its two's complement; of an array its bytes.
+pub data Value : Type 0 where
+  Number : ℕ → Value
+  Bytes : List ℕ → Value
+
+-- the little endian number at an offset
+unfoldable pub number_at : ℕ → ℕ → List ℕ → ℕ
+number_at width offset payload = little_number width (drop offset payload)
+
+-- so many bytes at an offset
+unfoldable pub bytes_at : ℕ → ℕ → List ℕ → List ℕ
+bytes_at count offset payload = take count (drop offset payload)
+
+-- the value of a row's field
+abbrev pub value_at : List ℕ → Row → Value
+value_at payload r = if r.array == 0 then Number (number_at r.width r.offset payload) else Bytes (bytes_at r.array r.offset payload)
+
+-- the values of all fields
+abbrev pub values_in : List Row → List ℕ → List Value
+values_in rows payload = map (value_at payload) rows
+
+-- the payload filled with zeros to 64 bytes, and without its rest: no layout is longer than that
+unfoldable pub filled : List ℕ → List ℕ
+filled payload = take 64 payload ++ replicate (64 - length payload) 0
+
+-- a number as so many bytes, the lowest first
+unfoldable pub number_bytes : ℕ → ℕ → List ℕ
+number_bytes width n = little_bytes width n
+
+-- the bytes of a field's value
+abbrev pub value_bytes : Row → Value → List ℕ
+value_bytes r (Number n) = number_bytes r.width n
+value_bytes r (Bytes bytes) = bytes
+
+-- the bytes of fields one behind another; in version 1 without extensions
+unfoldable pub spelling : Bool → List Row → List Value → List ℕ
+spelling v2 [] vs = []
+spelling v2 (r ∷ rs) [] = []
+spelling v2 (r ∷ rs) (v ∷ vs) = (if not v2 && r.extension then [] else value_bytes r v) ++ spelling v2 rs vs
+
+-- a value has the form of its row: a number that fits its width, or as many bytes as the array has
+abbrev pub Suits : Row → Value → Type 0
+Suits r (Number n) = (r.array ≡ 0) × (r.width ≤ 8) × (n < 256 ^ r.width)
+Suits r (Bytes bytes) = (0 < r.array) × (length bytes ≡ r.array) × (r.width ≡ 1)
+
+-- there is one value for each row, and it suits the row
+abbrev pub Suit : List Row → List Value → Type 0
+Suit [] [] = Unit {0}
+Suit [] (v ∷ vs) = ⊥
+Suit (r ∷ rs) [] = ⊥
+Suit (r ∷ rs) (v ∷ vs) = Suits r v × Suit rs vs
+
+-- Bytes without their trailing zeros, but at least one byte.
+pub record IsTrimmed (whole bytes : List ℕ) : Type 0 where
+  pub zeros : ℕ
+  pub whole_is : whole ≡ bytes ++ replicate zeros 0
+  pub some : 0 < length bytes
+  pub last : (length bytes ≡ 1) ⊎ (slice_index bytes (length bytes - 1) ≢ 0)
+
+-- the payload that is sent: in version 1 whole and without extensions, in version 2 without trailing zeros
+abbrev pub IsPayload : Bool → List Row → List Value → List ℕ → Type 0
+IsPayload false rows values bytes = bytes ≡ spelling false rows values
+IsPayload true rows values bytes = IsTrimmed (spelling true rows values) bytes
+
+-- how many bytes all fields take
+abbrev pub total : List Row → ℕ
+total [] = 0
+total (r ∷ rs) = r.width * max 1 r.array + total rs
