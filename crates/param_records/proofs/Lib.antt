@@ -1,0 +1,14 @@
+pub mod RecordLemmas
+pub mod PieceLemmas
+pub mod AppendLemmas
+pub mod RewriteLemmas
+pub mod WalkLemmas
+pub mod ValueLemmas
+pub mod CountLemmas
+pub mod StoreLemmas
+pub mod PatternLemmas
+pub mod OtherLemmas
+pub mod StepLemmas
+pub mod WholeLemmas
+pub mod FormatLemmas
+pub mod SetLemmas

@@ -1,0 +1,148 @@
+//! The records in the parameter storage.
+ghost use Rattle.std.specs.Prelude.{◌≡◌, ◌≤◌, ◌+◌, ◌==◌, ◌&&◌, ◌↔◌, length, take, drop, IsTrue, MatchOption, MatchResult};
+ghost use Rattle.storage_lines.specs.Areas.{logical_of};
+ghost use Rattle.storage_lines.specs.declared.areas.Area.TheVariants.{Param};
+ghost use Rattle.param_records.specs.Records.{number_of, size_of, kind_of, IsEnd, magic, Begins, records_of, end_of, place_from, kind_eq};
+
+use param_tree::Kind;
+use storage_lines::{Area, STORAGE_BYTES, read};
+
+/// The bytes of the parameter storage.
+pub const PARAM_BYTES: usize = 9728;
+
+/// What stands before a value.
+#[derive(Clone, Copy)]
+pub struct Header {
+    pub key: u16,
+    pub element: u32,
+    pub kind: Kind,
+}
+
+/// The kind's type number.
+pub fn type_of(kind: Kind) -> u8
+    ensures number { result ≡ number_of kind }
+{
+    match kind {
+        Kind::I8 => 1,
+        Kind::I16 => 2,
+        Kind::I32 => 3,
+        Kind::F32 => 4,
+        Kind::Vec3 => 5,
+    }
+}
+
+/// How many bytes a value has.
+pub fn size_of(kind: Kind) -> usize
+    ensures size { result ≡ size_of kind }
+    ensures most { result ≤ 12 }
+{
+    match kind {
+        Kind::I8 => 1,
+        Kind::I16 => 2,
+        Kind::I32 | Kind::F32 => 4,
+        Kind::Vec3 => 12,
+    }
+}
+
+/// The kind with a type number.
+fn kind_of(number: u8) -> Option<Kind>
+    ensures { result ≡ kind_of number }
+{
+    match number {
+        1 => Some(Kind::I8),
+        2 => Some(Kind::I16),
+        3 => Some(Kind::I32),
+        4 => Some(Kind::F32),
+        5 => Some(Kind::Vec3),
+        _ => None,
+    }
+}
+
+/// The four bytes at a logical place.
+pub fn four_at(current: &[u8], at: usize) -> [u8; 4]
+    requires size { length current.now ≡ STORAGE_BYTES }
+    requires inside { at + 4 ≤ PARAM_BYTES }
+    ensures { result ≡ take 4 (drop at (logical_of Param current.now)) }
+{
+    let mut bytes = [0; 4];
+    read(Area::Param, at as u16, current, &mut bytes);
+    bytes
+}
+
+/// Whether the storage begins with the magic, `50 41 06 00`.
+pub fn has_magic(current: &[u8]) -> bool
+    requires { length current.now ≡ STORAGE_BYTES }
+    ensures { IsTrue result ↔ (take 4 (logical_of Param current.now) ≡ magic) }
+{
+    four_at(current, 0) == [80, 65, 6, 0]
+}
+
+/// The record that begins at a place, or None at an end.
+fn header_at(current: &[u8], at: usize) -> Option<Header>
+    requires size { length current.now ≡ STORAGE_BYTES }
+    requires inside { at ≤ PARAM_BYTES }
+    ensures { let bytes = drop at (logical_of Param current.now) in MatchOption result (IsEnd bytes) (λ h. Begins h.key h.element h.kind bytes) }
+{
+    if at > PARAM_BYTES - 4 {
+        return None;
+    }
+    let bytes = four_at(current, at);
+    let kind = kind_of(bytes[1] % 32)?;
+    if at + 4 + size_of(kind) > PARAM_BYTES {
+        return None;
+    }
+    Some(Header {
+        key: bytes[0] as u16 + 256 * (bytes[1] / 32 % 2) as u16,
+        element: (bytes[1] / 64) as u32 + 4 * bytes[2] as u32 + 1024 * bytes[3] as u32,
+        kind,
+    })
+}
+
+/// Whether a record with this header is the one that is looked for.
+fn is_match(header: &Header, key: u16, element: u32, kind: Kind) -> bool
+    ensures { result ≡ ((header.now.key == key) && ((header.now.element == element) && kind_eq header.now.kind kind)) }
+{
+    header.key == key && header.element == element && type_of(header.kind) == type_of(kind)
+}
+
+/// The logical place of the value of the first record that matches; where none does, the place of the first end as an `Err`.
+pub fn search(current: &[u8], key: u16, element: u32, kind: Kind) -> Result<u16, u16>
+    requires { length current.now ≡ STORAGE_BYTES }
+    ensures { let bytes = logical_of Param current.now in let at = place_from 4 key element kind (records_of bytes) in
+        MatchResult result (λ found. at ≡ Some found) (λ end. (at ≡ None) × (end ≡ end_of bytes)) }
+{
+    if !has_magic(current) {
+        return Err(4);
+    }
+    let mut at = 4;
+    while let Some(header) = header_at(current, at) {
+        if is_match(&header, key, element, kind) {
+            return Ok((at + 4) as u16);
+        }
+        at += 4 + size_of(header.kind);
+    }
+    Err(at as u16)
+}
+
+/// The logical place of the value of the first record of this key, element and kind.
+pub fn place(current: &[u8], key: u16, element: u32, kind: Kind) -> Option<u16>
+    requires { length current.now ≡ STORAGE_BYTES }
+    ensures { result ≡ place_from 4 key element kind (records_of (logical_of Param current.now)) }
+{
+    search(current, key, element, kind).ok()
+}
+
+/// The logical place of the first end: where the next record begins.
+pub fn end_place(current: &[u8]) -> u16
+    requires { length current.now ≡ STORAGE_BYTES }
+    ensures { result ≡ end_of (logical_of Param current.now) }
+{
+    if !has_magic(current) {
+        return 4;
+    }
+    let mut at = 4;
+    while let Some(header) = header_at(current, at) {
+        at += 4 + size_of(header.kind);
+    }
+    at as u16
+}
