@@ -1,0 +1,11 @@
+pub mod EntryLemmas
+pub mod SectorLemmas
+pub mod Pushes
+pub mod Programmable
+pub mod ReadLemmas
+pub mod BytesLemmas
+pub mod LogLemmas
+pub mod ValueLemmas
+pub mod AppendLemmas
+pub mod TornLemmas
+pub mod FillLemmas

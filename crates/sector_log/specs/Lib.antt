@@ -1,0 +1,12 @@
+pub mod Storage
+pub mod Header
+pub mod Entries
+pub mod Sector
+pub mod Bytes
+pub mod Log
+pub mod Walks
+pub mod Appends
+pub mod Fills
+pub mod Reads
+pub mod Errors
+pub mod Laws

@@ -1,0 +1,43 @@
+-- What a scan tells of a list of entries.
+use Rattle.std.specs.Prelude.{◌≡◌, All, ℕ, ◌+◌, ◌-◌, List, [], ◌∷◌, ◌++◌, length, drop, if◌then◌else◌, ◌==◌, Option, Some, None}
+use Rattle.std.specs.List.{count_by}
+use Rattle.std.specs.Option.{option_or, option_and_then}
+use Rattle.flash_board.specs.declared.board.Region.{Region}
+use Rattle.flash_board.specs.declared.board.Mark.{Mark}
+use Rattle.sector_log.specs.declared.log.Torn.{Torn}
+use Rattle.sector_log.specs.declared.log.Log.{Log}
+use Rattle.sector_log.specs.Entries.{Entry, IsEntry, entry_words, spelling}
+use Rattle.sector_log.specs.Bytes.{applied}
+
+-- the offset behind the last entry
+abbrev pub end_of : List Entry → ℕ
+end_of entries = 2 + length (spelling entries)
+
+abbrev pub last_of : List Entry → Option Entry
+last_of [] = None
+last_of (e ∷ entries) = option_or (last_of entries) (Some e)
+
+-- an entry that ends at this place, where it is torn
+abbrev pub torn_at : ℕ → Entry → Option Torn
+torn_at end e = if e.header.state == 1 then Some (record { at = end - length (entry_words e); line = e.header.line; lines = e.header.lines }) else None
+
+-- the last entry, where it is torn
+abbrev pub torn_of : List Entry → Option Torn
+torn_of entries = option_and_then (torn_at (end_of entries)) (last_of entries)
+
+-- the log of a sector with this mark and these entries
+pub record IsLogOf (log : Log) (of : Region) (first : Mark) (entries : List Entry) : Type 0 where
+  pub region : log.region ≡ of
+  pub mark : log.mark ≡ first
+  pub end : log.end ≡ end_of entries
+  pub torn : log.torn ≡ torn_of entries
+  pub valid : log.valid ≡ count_by (λ e. e.header.state == 0) entries
+  pub gaps : log.gaps ≡ count_by (λ e. e.header.state == 1) entries
+
+-- After a refusal: the bytes with the valid ones of some entries behind the sector's first two halfwords, those that were read.
+pub record IsReadSoFar (words before after : List ℕ) : Type 0 where
+  pub entries : List Entry
+  pub rest : List ℕ
+  pub whole : drop 2 words ≡ spelling entries ++ rest
+  pub each : All IsEntry entries
+  pub bytes : after ≡ applied before entries

@@ -1,0 +1,49 @@
+// Whether a torn entry can be completed.
+ghost use Rattle.std.specs.Prelude.{◌≡◌, ◌+◌, ◌*◌, ◌/◌, ◌<◌, ◌≤◌, ◌==◌, List, [], ◌∷◌, ◌++◌, ℕ, length, slice_index, bit_and, IfOk, IfErr, IfSome, IsSome};
+ghost use Rattle.flash_board.specs.declared.board.Fault.TheVariants.{Read};
+ghost use Rattle.flash_board.specs.declared.board.Mark.{Mark};
+ghost use Rattle.flash_board.specs.Words.{row, region_length, IsSectorSize};
+ghost use Rattle.flash_board.specs.Causes.{Rose};
+ghost use Rattle.sector_log.specs.Entries.{Entry};
+ghost use Rattle.sector_log.specs.Bytes.{halfwords_of, programmable};
+ghost use Rattle.sector_log.specs.Reads.{OnlyReads};
+ghost use Rattle.sector_log.specs.Appends.{IsTornLast, IsLogIn};
+
+use crate::Log;
+use byteorder::{ByteOrder, LittleEndian};
+use flash_board::{Board, Fault, Region};
+
+/// Whether the halfword at an offset can still be programmed to this one.
+fn word_fits<B: Board>(board: &mut B, region: Region, at: u32, new: u16) -> Result<bool, Fault>
+    requires attached { IsSectorSize (B.sector_bytes board.old) }
+    requires inside { at < region_length (B.sector_bytes board.old) region }
+    ensures fits { IfOk result (λ fits. B.tells board.new → fits ≡ (bit_and (slice_index (row (B.words board.old) region) at) new == new)) }
+    ensures fault { IfErr result (λ kind. (kind ≡ Read) × Rose (B.faults board.old Read) (B.faults board.new Read)) }
+    ensures reads { OnlyReads B.Board board.old board.new }
+{
+    match board.read(region, at) {
+        Ok(word) => Ok(word & new == new),
+        Err(_) => Err(Fault::Read),
+    }
+}
+
+/// Whether the torn last entry can be completed with these bytes, as many as it has: a program can only clear bits.
+pub fn torn_fits<B: Board>(board: &mut B, log: Log, bytes: &[u8]) -> Result<bool, Fault>
+    requires attached { IsSectorSize (B.sector_bytes board.old) }
+    requires log { IsLogIn (region_length (B.sector_bytes board.old) log.region) log }
+    requires torn { IsSome log.torn }
+    requires size { IfSome log.torn (λ torn. length bytes.now ≡ 8 * torn.lines) }
+    ensures fits { IfOk result (λ fits. B.tells board.new → (mark : Mark) (entries : List Entry) (line lines : ℕ) (content : List ℕ)
+        → IsTornLast log (B.words board.old) mark entries line lines content → fits ≡ programmable content (halfwords_of bytes.now)) }
+    ensures fault { IfErr result (λ kind. (kind ≡ Read) × Rose (B.faults board.old Read) (B.faults board.new Read)) }
+    ensures reads { OnlyReads B.Board board.old board.new }
+{
+    let Some(torn) = log.torn else { unreachable!() };
+    for i in 0..bytes.len() / 2 {
+        let new = LittleEndian::read_u16(&bytes[2 * i..]);
+        if !word_fits(board, log.region, torn.at + 1 + i as u32, new)? {
+            return Ok(false);
+        }
+    }
+    Ok(true)
+}
