@@ -1,0 +1,123 @@
+// The count that a guard row tells, and its next one.
+ghost use Rattle.std.specs.Prelude.{◌≡◌, ◌≢◌, ◌+◌, ◌<◌, ◌≤◌, ℕ, slice_index, IfOk, OnOk, IfErr};
+ghost use Rattle.flash_board.specs.declared.board.Fault.{Fault};
+ghost use Rattle.flash_board.specs.declared.board.Fault.TheVariants.{Read, Flash};
+ghost use Rattle.flash_board.specs.declared.board.Region.TheVariants.{Guard};
+ghost use Rattle.flash_board.specs.Words.{IsSectorSize, Same, Programs, ProgramMayLeave};
+ghost use Rattle.flash_board.specs.Losses.{ByResult, after_program};
+ghost use Rattle.flash_board.specs.Calls.{Changes};
+ghost use Rattle.flash_board.specs.Causes.{Rose, HasCause};
+ghost use Rattle.guard_row.specs.Row.{IsGuardRow, FirstBad, FirstFrom};
+ghost use Rattle.guard_row.specs.Steps.{Counts, CountMayLeave};
+ghost use Rattle.guard_row.specs.Errors.{OnWord, OnFault};
+
+use flash_board::{Board, Fault, Region};
+
+/// Why there is no count.
+#[derive(Clone, Copy, Debug, PartialEq, Eq)]
+pub enum GuardError {
+    /// A call failed.
+    Fault(Fault),
+    /// The halfword at this offset is neither 0 behind zeros nor FFFF.
+    Word { offset: u32, word: u16 },
+}
+
+/// The halfwords of the guard row.
+const HALFWORDS: u32 = 8192;
+
+/// The halfword at an offset.
+fn word_at<B: Board>(board: &mut B, at: u32) -> Result<u16, GuardError>
+    requires attached { IsSectorSize (B.sector_bytes board.old) }
+    requires inside { at < 8192 }
+    ensures word { IfOk result (λ word. B.tells board.new → word ≡ slice_index (B.words board.old).guard at) }
+    ensures no_word { IfErr result (λ e. OnWord e (λ offset word. ⊥)) }
+    ensures fault { IfErr result (λ e. OnFault e (λ kind. (kind ≡ Read) × Rose (B.faults board.old Read) (B.faults board.new Read))) }
+    ensures counts { (k : Fault) → B.faults board.old k ≤ B.faults board.new k }
+    ensures changes { Changes B.Board board.old board.new Same Same }
+    ensures keeps_told { B.tells board.old → B.tells board.new }
+    ensures moment { B.moment board.new ≡ B.moment board.old }
+{
+    match board.read(Region::Guard, at) {
+        Ok(word) => Ok(word),
+        Err(_) => Err(GuardError::Fault(Fault::Read)),
+    }
+}
+
+/// How many zeros lead.
+fn leading_zeros<B: Board>(board: &mut B) -> Result<u32, GuardError>
+    requires attached { IsSectorSize (B.sector_bytes board.old) }
+    ensures within { IfOk result (λ count. count ≤ 8192) }
+    ensures zeros { IfOk result (λ count. B.tells board.new → (k : ℕ) → k < count → slice_index (B.words board.old).guard k ≡ 0) }
+    ensures other { IfOk result (λ count. B.tells board.new → count < 8192 → slice_index (B.words board.old).guard count ≢ 0) }
+    ensures no_word { IfErr result (λ e. OnWord e (λ offset word. ⊥)) }
+    ensures fault { IfErr result (λ e. OnFault e (λ kind. (kind ≡ Read) × Rose (B.faults board.old Read) (B.faults board.new Read))) }
+    ensures counts { (k : Fault) → B.faults board.old k ≤ B.faults board.new k }
+    ensures changes { Changes B.Board board.old board.new Same Same }
+    ensures keeps_told { B.tells board.old → B.tells board.new }
+    ensures moment { B.moment board.new ≡ B.moment board.old }
+{
+    for at in 0..HALFWORDS {
+        let word = word_at(board, at)?;
+        if word != 0 {
+            return Ok(at);
+        }
+    }
+    Ok(HALFWORDS)
+}
+
+/// Tests that each halfword from an offset on is erased.
+fn test_erased<B: Board>(board: &mut B, from: u32) -> Result<(), GuardError>
+    requires attached { IsSectorSize (B.sector_bytes board.old) }
+    requires within { from ≤ 8192 }
+    ensures erased { OnOk result (B.tells board.new → (k : ℕ) → from ≤ k → k < 8192 → slice_index (B.words board.old).guard k ≡ 65535) }
+    ensures word { IfErr result (λ e. OnWord e (λ place word. B.tells board.new → FirstFrom (B.words board.old).guard from place word)) }
+    ensures fault { IfErr result (λ e. OnFault e (λ kind. (kind ≡ Read) × Rose (B.faults board.old Read) (B.faults board.new Read))) }
+    ensures counts { (k : Fault) → B.faults board.old k ≤ B.faults board.new k }
+    ensures changes { Changes B.Board board.old board.new Same Same }
+    ensures keeps_told { B.tells board.old → B.tells board.new }
+    ensures moment { B.moment board.new ≡ B.moment board.old }
+{
+    for at in from..HALFWORDS {
+        let word = word_at(board, at)?;
+        if word != 0xFFFF {
+            return Err(GuardError::Word { offset: at, word });
+        }
+    }
+    Ok(())
+}
+
+/// How many halfwords of the guard row are 0.
+pub fn count<B: Board>(board: &mut B) -> Result<u16, GuardError>
+    requires attached { IsSectorSize (B.sector_bytes board.old) }
+    ensures most { IfOk result (λ count. count ≤ 8192) }
+    ensures count { IfOk result (λ count. B.tells board.new → IsGuardRow (B.words board.old).guard count) }
+    ensures word { IfErr result (λ e. OnWord e (λ place word. B.tells board.new → FirstBad (B.words board.old).guard place word)) }
+    ensures fault { IfErr result (λ e. OnFault e (λ kind. (kind ≡ Read) × Rose (B.faults board.old Read) (B.faults board.new Read))) }
+    ensures counts { (k : Fault) → B.faults board.old k ≤ B.faults board.new k }
+    ensures changes { Changes B.Board board.old board.new Same Same }
+    ensures keeps_told { B.tells board.old → B.tells board.new }
+    ensures moment { B.moment board.new ≡ B.moment board.old }
+{
+    let zeros = leading_zeros(board)?;
+    test_erased(board, zeros)?;
+    Ok(zeros as u16)
+}
+
+/// Programs the next halfword of the guard row to 0, and gives the next count. A loss inside leaves the count or the
+/// next one.
+pub fn step<B: Board>(board: &mut B, count: u16) -> Result<u16, Fault>
+    requires attached { IsSectorSize (B.sector_bytes board.old) }
+    requires left { count < 8192 }
+    ensures next { IfOk result (λ next. next ≡ count + 1) }
+    ensures changes { Changes B.Board board.old board.new (ProgramMayLeave Guard count 0)
+        (ByResult result (Programs Guard count 0) (ProgramMayLeave Guard count 0)) }
+    ensures losses { Changes B.Board board.old board.new (CountMayLeave count) (ByResult result (Counts count) (CountMayLeave count)) }
+    ensures moment { B.moment board.new ≡ after_program (B.moment board.old) }
+    ensures cause { HasCause Flash (B.faults board.old) (B.faults board.new) result }
+    ensures kind { IfErr result (λ kind. kind ≡ Flash) }
+{
+    match board.program(Region::Guard, count as u32, 0) {
+        Ok(()) => Ok(count + 1),
+        Err(_) => Err(Fault::Flash),
+    }
+}
