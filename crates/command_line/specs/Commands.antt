@@ -1,0 +1,18 @@
+-- A command as the words say it, and the ranges that its numbers keep.
+use Rattle.std.specs.Prelude.{◌≡◌, ◌≤◌, ◌⊎◌, ℕ}
+use Rattle.command_line.specs.Lines.{CommandLine, serve, format}
+use Rattle.command_line.specs.declared.Command.{Command}
+use Rattle.command_line.specs.declared.Command.TheVariants as command
+
+abbrev pub line_of : Command → CommandLine
+line_of (command.Serve image port turns) = serve image.now port turns
+line_of (command.Format image sector) = format image.now sector
+
+-- one of the four sizes of a sector, in bytes
+abbrev pub IsSectorSize : ℕ → Type 0
+IsSectorSize n = (n ≡ 16384) ⊎ ((n ≡ 32768) ⊎ ((n ≡ 65536) ⊎ (n ≡ 131072)))
+
+-- a port and a number of turns are at least 1, and a sector has one of the four sizes
+abbrev pub IsInRange : Command → Type 0
+IsInRange (command.Serve image port turns) = (1 ≤ port) × (1 ≤ turns)
+IsInRange (command.Format image sector) = IsSectorSize sector

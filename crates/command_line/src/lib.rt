@@ -1,0 +1,150 @@
+//! The words of a command line, read with `clap` and defined apart from it.
+#![tactic(auto)]
+
+ghost use Rattle.std.specs.Prelude.{◌≡◌, IfOk, IfSome, None, map, option_map, drop, codes};
+ghost use Rattle.command_line.specs.Arguments.{arguments};
+ghost use Rattle.command_line.specs.Commands.{IsInRange, IsSectorSize, line_of};
+ghost use Rattle.command_line.specs.Lines.{format_from, format_options, format_says, line_of_words, sector_size_in, serve_from, serve_options, serve_says};
+ghost use Rattle.command_line.specs.Matches.{texts_of};
+
+mod number;
+mod reading;
+
+use crate::reading::{number_given_to, only_image, read};
+use clap::ArgMatches;
+use std::alloc::{AllocError, Global};
+
+/// What a command line asks for.
+#[derive(Clone, Copy, Debug, PartialEq, Eq)]
+pub enum Command<'a> {
+    /// `serve IMAGE [--port P] [--turns N]`: serve the image to ground stations over UDP.
+    Serve {
+        /// The image file's name.
+        image: &'a str,
+        /// The UDP port, from 1; 14550, the usual one of MAVLink, where none is given.
+        port: u16,
+        /// How many events are served at most, from 1; 4294967295 where no number is given.
+        turns: u32,
+    },
+    /// `format IMAGE [--sector S]`: make a fresh image.
+    Format {
+        /// The image file's name.
+        image: &'a str,
+        /// The bytes of a sector: 16384, 32768, 65536 or 131072; the last where none is given.
+        sector: u32,
+    },
+}
+
+static SERVE_OPTIONS: [&str; 2] = ["port", "turns"];
+
+/// What the matches of `serve` say.
+fn serve_said<'a>(matches: &ArgMatches<'a>) -> Option<Command<'a>>
+    ensures value { option_map line_of result ≡ serve_says (texts_of matches.now (codes "IMAGE"))
+        (texts_of matches.now (codes "port")) (texts_of matches.now (codes "turns")) }
+    ensures ranges { IfSome result IsInRange }
+{
+    let Some(image) = only_image(matches) else {
+        return None;
+    };
+    let Some(port) = number_given_to(matches, "port", 1, 65535, 14550) else {
+        return None;
+    };
+    let Some(turns) = number_given_to(matches, "turns", 1, u32::MAX, u32::MAX) else {
+        return None;
+    };
+    Some(Command::Serve {
+        image,
+        port: port as u16,
+        turns,
+    })
+}
+
+/// `serve IMAGE [--port P] [--turns N]`, from all the words.
+fn serve<'a>(alloc: Global, words: &'a [&'a str]) -> Result<Option<Command<'a>>, AllocError>
+    ensures value { IfOk result (λ r. option_map line_of r
+        ≡ serve_from (arguments serve_options None (drop 1 (map (λ s. s.now) words.entry.now)))) }
+    ensures ranges { IfOk result (λ r. IfSome r IsInRange) }
+{
+    match read(alloc, SERVE_OPTIONS.as_slice(), words) {
+        Err(error) => Err(error),
+        Ok(None) => Ok(None),
+        Ok(Some(matches)) => Ok(serve_said(&matches)),
+    }
+}
+
+static FORMAT_OPTIONS: [&str; 1] = ["sector"];
+
+/// The number, where it is one of the four sizes of a sector.
+fn sector_size(number: u32) -> Option<u32>
+    ensures value { result ≡ sector_size_in number }
+    ensures size { IfSome result IsSectorSize }
+{
+    if number == 16384 || number == 32768 || number == 65536 || number == 131072 {
+        Some(number)
+    } else {
+        None
+    }
+}
+
+/// What the matches of `format` say.
+fn format_said<'a>(matches: &ArgMatches<'a>) -> Option<Command<'a>>
+    ensures value { option_map line_of result ≡ format_says (texts_of matches.now (codes "IMAGE"))
+        (texts_of matches.now (codes "sector")) }
+    ensures ranges { IfSome result IsInRange }
+{
+    let Some(image) = only_image(matches) else {
+        return None;
+    };
+    let Some(number) = number_given_to(matches, "sector", 16384, 131072, 131072) else {
+        return None;
+    };
+    let Some(sector) = sector_size(number) else {
+        return None;
+    };
+    Some(Command::Format { image, sector })
+}
+
+/// `format IMAGE [--sector S]`, from all the words.
+fn format<'a>(alloc: Global, words: &'a [&'a str]) -> Result<Option<Command<'a>>, AllocError>
+    ensures value { IfOk result (λ r. option_map line_of r
+        ≡ format_from (arguments format_options None (drop 1 (map (λ s. s.now) words.entry.now)))) }
+    ensures ranges { IfOk result (λ r. IfSome r IsInRange) }
+{
+    match read(alloc, FORMAT_OPTIONS.as_slice(), words) {
+        Err(error) => Err(error),
+        Ok(None) => Ok(None),
+        Ok(Some(matches)) => Ok(format_said(&matches)),
+    }
+}
+
+/// The command that the words are, without the program's name, or `None` where they are no command
+/// line. The first word picks the command. Options stand before or behind IMAGE, each at most once,
+/// as `--name value` or `--name=value`. A word that begins with `-` and is not the single `-` is
+/// IMAGE only behind `--`. A number is one to ten ASCII digits.
+///
+/// # Errors
+///
+/// Only for want of memory.
+pub fn command_of<'a>(
+    alloc: Global,
+    words: &'a [&'a str],
+) -> Result<Option<Command<'a>>, AllocError>
+    ensures value { IfOk result (λ r. option_map line_of r
+        ≡ line_of_words (map (λ s. s.now) words.entry.now)) }
+    ensures ranges { IfOk result (λ r. IfSome r IsInRange) }
+{
+    if words.is_empty() {
+        return Ok(None);
+    }
+    let first = words[0];
+    if first == "serve" {
+        return serve(alloc, words);
+    }
+    if first == "format" {
+        return format(alloc, words);
+    }
+    Ok(None)
+}
+
+#[cfg(test)]
+mod tests;
