@@ -1,0 +1,31 @@
+// Makes a fresh image.
+ghost use Rattle.std.specs.Prelude.{◌≡◌, [], IfErr, IsOk};
+ghost use Rattle.flash_board.specs.Words.{IsSectorSize};
+ghost use Rattle.storage_cli.specs.Ends.{IsAttached, IsFormatStop, StopsByCause};
+ghost use Rattle.storage_cli.specs.Serving.{IsFreshImage, LeavesLink};
+
+use crate::endings::Stop;
+use crate::image::{AVAILABLE, IN_USE, SIGNATURE};
+use flash_board::{Board, Region, program_pair};
+
+/// Makes a fresh image with sectors of that size.
+pub(crate) fn format<B: Board>(board: &mut B, image: &str, sector_bytes: u32) -> Result<(), Stop>
+    requires { IsSectorSize sector_bytes }
+    ensures fresh { IsOk result → B.tells board.new → IsFreshImage sector_bytes (B.words board.new) }
+    ensures size { IsAttached result → B.sector_bytes board.new ≡ sector_bytes }
+    ensures no_link { IsAttached result → B.stands board.new [] [] }
+    ensures link { LeavesLink (B.moment board.old) (B.moment board.new) }
+    ensures stops { IfErr result IsFormatStop }
+    ensures cause { StopsByCause (B.faults board.old) (B.faults board.new) result }
+{
+    if board.attach(image, 0, Some(sector_bytes)).is_err() {
+        return Err(Stop::Attach);
+    }
+    if program_pair(board, Region::S1, 0, AVAILABLE, SIGNATURE).is_err() {
+        return Err(Stop::Flash);
+    }
+    if program_pair(board, Region::S0, 0, IN_USE, SIGNATURE).is_err() {
+        return Err(Stop::Flash);
+    }
+    Ok(())
+}
