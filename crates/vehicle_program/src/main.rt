@@ -1,0 +1,59 @@
+//! The program: the words that it was started with, a file and a socket as the board, and standard input and output.
+#![tactic(auto)]
+
+mod file_board;
+mod image_file;
+mod streams;
+
+use file_board::FileBoard;
+use std::alloc::AllocError;
+use std::fs::File;
+use std::io::ErrorKind;
+use std::net::Net;
+use std::process::ExitCode;
+use std::rt::Files;
+use std::{env, io};
+use storage_cli::{Status, run};
+use streams::{ReaderSource, WriterSink};
+
+/// The words behind the program's name, and none where they are no texts.
+fn words_of<R: env::Env + AllocGlobal>(rt: &R) -> Result<Vec<String>, AllocError> {
+    match env::args(rt) {
+        Ok(all) => all.skip(1).collect(rt.alloc()),
+        Err(e) if e.kind() == ErrorKind::OutOfMemory => Err(AllocError),
+        Err(_) => Ok(Vec::new(rt.alloc())),
+    }
+}
+
+/// Does what the words ask for. The error is want of memory for the words.
+fn answer<R: env::Env + AllocGlobal + Input + Print + Files<File = File> + Net>(
+    rt: &R,
+) -> Result<Status, AllocError> {
+    let owned = words_of(rt)?;
+    let mut words: Vec<&str> = Vec::new(rt.alloc());
+    for word in owned.iter() {
+        words.push(word.as_str())?;
+    }
+    let mut board = FileBoard::new(rt, rt.alloc());
+    let mut input = ReaderSource::new(rt.reader());
+    let mut out = WriterSink::new(io::writer(rt));
+    let status = run(
+        rt.alloc(),
+        words.as_slice(),
+        &mut board,
+        &mut input,
+        &mut out,
+    );
+    board.close();
+    Ok(status)
+}
+
+fn main(rt: HostRuntime) -> ExitCode {
+    match answer(&rt) {
+        Ok(status) => ExitCode::from(status.0),
+        Err(AllocError) => ExitCode::from(2),
+    }
+}
+
+#[cfg(test)]
+mod tests;
