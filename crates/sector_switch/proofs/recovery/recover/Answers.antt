@@ -1,0 +1,44 @@
+use Rattle.std.proofs.Common.{sym, ◌∙◌, ap, subst}
+use Rattle.std.proofs.lemmas.Result.{IfOk-weaker}
+use Rattle.flash_board.specs.Words.{Words}
+use Rattle.sector_switch.specs.Stands.{Reads, count_in, count_after, is_alone, is_due}
+use Rattle.sector_switch.proofs.RecoveryLemmas.{found, found_as, reads_keep, reads_then_keep, worn_through}
+use Rattle.sector_switch.proofs.recovery.recover.Goals as goal
+
+pub returns-in-Ok-clause-changes : goal.returns-in-Ok-clause-changes
+returns-in-Ok-clause-changes g c = reads_then_keep g.B.Board g.met.B.Board.reads 2 c.in-Ok.ensures.reads.changes c.settle.ensures.changes
+
+pub returns-in-Err-Fault-clause-changes : goal.returns-in-Err-Fault-clause-changes
+returns-in-Err-Fault-clause-changes g c = reads_keep g.B.Board g.met.B.Board.reads 2 c.in-Err-Fault.ensures.reads.changes
+
+pub returns-in-Err-Foreign-clause-changes : goal.returns-in-Err-Foreign-clause-changes
+returns-in-Err-Foreign-clause-changes g c = reads_keep g.B.Board g.met.B.Board.reads 2 c.in-Err-Foreign.ensures.reads.changes
+
+pub returns-in-Ok-clause-guard : goal.returns-in-Ok-clause-guard
+returns-in-Ok-clause-guard g c = IfOk-weaker c.settle.result _ _ (λ alone guard told reading reads.
+    let told_mid = c.settle.ensures.changes.told told in
+    let is = found g.B.Board c.survey.new.board c.in-Ok.survey.shape c.in-Ok.survey.kept c.survey.new.images c.in-Ok.ensures.fits told_mid in
+    guard ∙ sym is.after ∙ ap count_after (found_as (g.B.Board.words c.survey.new.board) (g.B.Board.words c.args.board.now) c.in-Ok.survey.shape c.in-Ok.survey.kept reading is (c.in-Ok.ensures.reads.changes.content told_mid) reads)) c.settle.ensures.guard
+
+pub returns-in-Ok-clause-idle : goal.returns-in-Ok-clause-idle
+returns-in-Ok-clause-idle g c = λ told reading reads alone.
+    let told_mid = c.settle.ensures.changes.told told in
+    let is = found g.B.Board c.survey.new.board c.in-Ok.survey.shape c.in-Ok.survey.kept c.survey.new.images c.in-Ok.ensures.fits told_mid in
+    let same = found_as (g.B.Board.words c.survey.new.board) (g.B.Board.words c.args.board.now) c.in-Ok.survey.shape c.in-Ok.survey.kept reading is (c.in-Ok.ensures.reads.changes.content told_mid) reads in
+    ap g.B.Board.moment (c.settle.ensures.idle (is.alone (ap is_alone same ∙ alone))) ∙ c.in-Ok.ensures.reads.moment
+
+pub returns-in-Ok-clause-worn : goal.returns-in-Ok-clause-worn
+returns-in-Ok-clause-worn g c = worn_through c.settle.result _ _ (λ count worn. (
+  worn.0,
+  λ told.
+      let told_mid = c.settle.ensures.changes.told told in
+      let is = found g.B.Board c.survey.new.board c.in-Ok.survey.shape c.in-Ok.survey.kept c.survey.new.images c.in-Ok.ensures.fits told_mid in
+      (is.reading, subst (λ (w : Words). Reads w is.reading) (c.in-Ok.ensures.reads.changes.content told_mid) is.reads, is.due ∙ worn.2, is.count ∙ worn.1),
+)) c.settle.ensures.worn
+
+pub returns-in-Ok-clause-used_up : goal.returns-in-Ok-clause-used_up
+returns-in-Ok-clause-used_up g c = λ told reading reads due count.
+    let told_mid = c.settle.ensures.changes.told told in
+    let is = found g.B.Board c.survey.new.board c.in-Ok.survey.shape c.in-Ok.survey.kept c.survey.new.images c.in-Ok.ensures.fits told_mid in
+    let same = found_as (g.B.Board.words c.survey.new.board) (g.B.Board.words c.args.board.now) c.in-Ok.survey.shape c.in-Ok.survey.kept reading is (c.in-Ok.ensures.reads.changes.content told_mid) reads in
+    c.settle.ensures.used_up (sym is.due ∙ ap is_due same ∙ due) (sym is.count ∙ ap count_in same ∙ count)

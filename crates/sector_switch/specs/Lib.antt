@@ -1,0 +1,10 @@
+pub mod Images
+pub mod Room
+pub mod Stands
+pub mod FirstBad
+pub mod Losses
+pub mod Fits
+pub mod Heads
+pub mod Surveys
+pub mod Answers
+pub mod Laws

@@ -1,0 +1,89 @@
+// The image in both sectors, with the other one whole.
+ghost use Rattle.std.specs.Prelude.{◌≡◌, ◌+◌, ◌<◌, ◌≤◌, IfOk, IfErr, IfSome};
+ghost use Rattle.flash_board.specs.declared.board.Fault.{Fault};
+ghost use Rattle.flash_board.specs.declared.board.Fault.TheVariants.{Flash};
+ghost use Rattle.flash_board.specs.Calls.{Changes, ErasesNothing};
+ghost use Rattle.flash_board.specs.Causes.{HasCause, Rose};
+ghost use Rattle.sector_log.specs.Appends.{raised_by};
+ghost use Rattle.sector_switch.specs.Images.{Bytes};
+ghost use Rattle.sector_switch.specs.Losses.{KeepsBytes};
+ghost use Rattle.sector_switch.specs.Fits.{FitsCopied, FitsVoided, voided_from};
+ghost use Rattle.sector_switch.specs.Answers.{OnVoidWorn, OnVoidFault};
+
+use crate::{Kept, Voided};
+use flash_board::{Board, Fault};
+use guard_row::step;
+use std::marker::Model;
+
+/// The other sector has all bytes: every chunk is covered, and no torn last entry is completable.
+#[derive(Debug, Drop)]
+pub struct Copied {
+    pub(crate) kept: Kept,
+}
+
+impl Model for Copied {
+    ghost use Rattle.sector_switch.specs.declared.kept.Kept.{Kept};
+
+    ghost Value = { Kept };
+
+    ghost view = { λ state. state.kept };
+}
+
+/// Why home wasn't voided.
+#[derive(Debug, Drop)]
+pub enum VoidError {
+    /// A program failed.
+    Fault(Fault),
+    /// The guard row is used up: its count is 8,192. Nothing has changed.
+    Worn(Copied),
+}
+
+impl Copied {
+    /// Makes home void. A loss inside leaves the bytes of before.
+    pub fn void<B: Board>(self, board: &mut B) -> Result<Voided, VoidError>
+        requires fits { (images : Bytes) × FitsCopied B.Board board.old self images }
+        ensures fits { IfOk result (λ voided. (images : Bytes) → FitsCopied B.Board board.old self images → FitsVoided B.Board board.new voided images) }
+        ensures kept { IfOk result (λ voided. IfSome self.other (λ log. voided ≡ voided_from self log)) }
+        ensures worn { IfErr result (λ e. OnVoidWorn e (λ copied. (copied ≡ self) × (self.guard ≡ 8192) × (board.new ≡ board.old))) }
+        ensures used_up { self.guard ≡ 8192 → IfOk result (λ _. ⊥) }
+        ensures changes { Changes B.Board board.old board.new (KeepsBytes 1) (KeepsBytes 1) }
+        ensures erases { ErasesNothing B.Board board.old board.new }
+        ensures programs { (B.moment board.new).programs ≤ raised_by 1 (B.moment board.old).programs }
+        ensures fault { IfErr result (λ e. OnVoidFault e (λ kind. (kind ≡ Flash) × Rose (B.faults board.old Flash) (B.faults board.new Flash))) }
+        ensures counts { (k : Fault) → B.faults board.old k ≤ B.faults board.new k }
+    {
+        let kept = self.kept;
+        if kept.guard == 8192 {
+            return Err(VoidError::Worn(self));
+        }
+        match void_home(board, kept) {
+            Ok(kept) => Ok(Voided { kept }),
+            Err(kind) => Err(VoidError::Fault(kind)),
+        }
+    }
+}
+
+/// Programs the next guard halfword, behind which home is void.
+fn void_home<B: Board>(board: &mut B, kept: Kept) -> Result<Kept, Fault>
+    requires fits { (images : Bytes) × FitsCopied B.Board board.old kept images }
+    requires left { kept.guard < 8192 }
+    ensures fits { IfOk result (λ new. (images : Bytes) → FitsCopied B.Board board.old kept images → FitsVoided B.Board board.new new images) }
+    ensures kept { IfOk result (λ new. IfSome kept.other (λ log. new ≡ voided_from kept log)) }
+    ensures changes { Changes B.Board board.old board.new (KeepsBytes 1) (KeepsBytes 1) }
+    ensures erases { ErasesNothing B.Board board.old board.new }
+    ensures programs { (B.moment board.new).programs ≤ raised_by 1 (B.moment board.old).programs }
+    ensures cause { HasCause Flash (B.faults board.old) (B.faults board.new) result }
+    ensures kind { IfErr result (λ kind. kind ≡ Flash) }
+{
+    let Some(log) = kept.other else {
+        unreachable!()
+    };
+    let guard = step(board, kept.guard)?;
+    Ok(Kept {
+        guard,
+        home: log,
+        other: None,
+        completable: false,
+        ..kept
+    })
+}

@@ -1,0 +1,61 @@
+// The image in one sector, with the other one erased.
+ghost use Rattle.std.specs.Prelude.{◌≡◌, IfOk, IfErr};
+ghost use Rattle.flash_board.specs.declared.board.Fault.TheVariants.{Flash};
+ghost use Rattle.flash_board.specs.Calls.{Changes, ErasesNothing};
+ghost use Rattle.flash_board.specs.Causes.{HasCause};
+ghost use Rattle.sector_switch.specs.Images.{Bytes};
+ghost use Rattle.sector_switch.specs.Losses.{KeepsBytes};
+ghost use Rattle.sector_switch.specs.Fits.{FitsErased, FitsAlone, alone_from};
+
+use crate::flash::second_sector;
+use crate::{Alone, Kept};
+use flash_board::{Board, Fault, program_pair};
+use guard_row::step;
+use std::marker::Model;
+
+/// One sector is in use and has all bytes, and every halfword of the void one is FFFF.
+#[derive(Debug, Drop)]
+pub struct Erased {
+    pub(crate) kept: Kept,
+}
+
+impl Model for Erased {
+    ghost use Rattle.sector_switch.specs.declared.kept.Kept.{Kept};
+
+    ghost Value = { Kept };
+
+    ghost view = { λ state. state.kept };
+}
+
+impl Erased {
+    /// Makes the erased sector available, and then the other one home. A loss inside leaves the bytes of before.
+    pub fn open<B: Board>(self, board: &mut B) -> Result<Alone, Fault>
+        requires fits { (images : Bytes) × FitsErased B.Board board.old self images }
+        ensures fits { IfOk result (λ alone. (images : Bytes) → FitsErased B.Board board.old self images → FitsAlone B.Board board.new alone images) }
+        ensures kept { IfOk result (λ alone. alone ≡ alone_from self) }
+        ensures changes { Changes B.Board board.old board.new (KeepsBytes 1) (KeepsBytes 1) }
+        ensures erases { ErasesNothing B.Board board.old board.new }
+        ensures cause { HasCause Flash (B.faults board.old) (B.faults board.new) result }
+        ensures kind { IfErr result (λ kind. kind ≡ Flash) }
+    {
+        let kept = open_erased(board, self.kept)?;
+        Ok(Alone { kept })
+    }
+}
+
+/// Makes the erased sector available, and the other one home.
+fn open_erased<B: Board>(board: &mut B, kept: Kept) -> Result<Kept, Fault>
+    requires fits { (images : Bytes) × FitsErased B.Board board.old kept images }
+    ensures fits { IfOk result (λ new. (images : Bytes) → FitsErased B.Board board.old kept images → FitsAlone B.Board board.new new images) }
+    ensures kept { IfOk result (λ new. new ≡ alone_from kept) }
+    ensures changes { Changes B.Board board.old board.new (KeepsBytes 1) (KeepsBytes 1) }
+    ensures erases { ErasesNothing B.Board board.old board.new }
+    ensures cause { HasCause Flash (B.faults board.old) (B.faults board.new) result }
+    ensures kind { IfErr result (λ kind. kind ≡ Flash) }
+{
+    let Ok(()) = program_pair(board, second_sector(kept.guard), 0, 0x5BFF, 0x5168) else {
+        return Err(Fault::Flash);
+    };
+    let guard = step(board, kept.guard)?;
+    Ok(Kept { guard, ..kept })
+}

@@ -1,0 +1,55 @@
+// Sectors by the guard count, and single programs.
+ghost use Rattle.std.specs.Prelude.{◌≡◌, ◌<◌, IfErr};
+ghost use Rattle.flash_board.specs.declared.board.Fault.TheVariants.{Flash};
+ghost use Rattle.flash_board.specs.Words.{IsSectorSize, ProgramMayLeave, Programs, region_length};
+ghost use Rattle.flash_board.specs.Losses.{ByResult};
+ghost use Rattle.flash_board.specs.Calls.{Changes, ErasesNothing};
+ghost use Rattle.flash_board.specs.Causes.{HasCause};
+ghost use Rattle.sector_log.specs.Appends.{raised_by};
+ghost use Rattle.sector_switch.specs.Stands.{first_of, second_of};
+
+use flash_board::{Board, Fault, Region};
+
+/// The home sector where the guard count is even, and the sector that isn't void where it is odd.
+pub(crate) fn first_sector(guard: u16) -> Region
+    ensures { result ≡ first_of guard }
+{
+    if guard % 4 == 0 || guard % 4 == 3 {
+        Region::S0
+    } else {
+        Region::S1
+    }
+}
+
+/// The sector beside home, or the void one.
+pub(crate) fn second_sector(guard: u16) -> Region
+    ensures { result ≡ second_of guard }
+{
+    if guard % 4 == 0 || guard % 4 == 3 {
+        Region::S1
+    } else {
+        Region::S0
+    }
+}
+
+/// Programs a halfword.
+pub(crate) fn program<B: Board>(
+    board: &mut B,
+    region: Region,
+    at: u32,
+    word: u16,
+) -> Result<(), Fault>
+    requires attached { IsSectorSize (B.sector_bytes board.old) }
+    requires inside { at < region_length (B.sector_bytes board.old) region }
+    ensures changes { Changes B.Board board.old board.new (ProgramMayLeave region at word)
+        (ByResult result (Programs region at word) (ProgramMayLeave region at word)) }
+    ensures erases { ErasesNothing B.Board board.old board.new }
+    ensures programs { (B.moment board.new).programs ≡ raised_by 1 (B.moment board.old).programs }
+    ensures cause { HasCause Flash (B.faults board.old) (B.faults board.new) result }
+    ensures kind { IfErr result (λ kind. kind ≡ Flash) }
+{
+    match board.program(region, at, word) {
+        Ok(()) => Ok(()),
+        Err(_) => Err(Fault::Flash),
+    }
+}

@@ -1,0 +1,91 @@
+// The image with home full, and the other sector available.
+ghost use Rattle.std.specs.Prelude.{◌≡◌, ◌≤◌, All, IfOk, IfErr};
+ghost use Rattle.flash_board.specs.declared.board.Fault.TheVariants.{Flash};
+ghost use Rattle.flash_board.specs.Calls.{Changes, ErasesNothing};
+ghost use Rattle.flash_board.specs.Causes.{HasCause};
+ghost use Rattle.sector_log.specs.Appends.{raised_by};
+ghost use Rattle.sector_switch.specs.Images.{Bytes, both_bytes};
+ghost use Rattle.sector_switch.specs.Room.{chunks};
+ghost use Rattle.sector_switch.specs.Losses.{KeepsBytes};
+ghost use Rattle.sector_switch.specs.Fits.{FitsMarked, FitsSpilled, left_chunks, spilled_from};
+
+use crate::flash::{program, second_sector};
+use crate::{Images, Kept, Spilled};
+use flash_board::{Board, Fault, Mark};
+use sector_log::Log;
+use std::marker::Model;
+
+/// Home is full and has all bytes, and the other sector is available.
+#[derive(Debug, Drop)]
+pub struct Marked {
+    pub(crate) kept: Kept,
+}
+
+impl Model for Marked {
+    ghost use Rattle.sector_switch.specs.declared.kept.Kept.{Kept};
+
+    ghost Value = { Kept };
+
+    ghost view = { λ state. state.kept };
+}
+
+impl Marked {
+    /// Marks the other sector in use. A loss inside leaves the bytes of before.
+    pub fn open<B: Board>(self, board: &mut B, images: &mut Images) -> Result<Spilled, Fault>
+        requires fits { FitsMarked B.Board board.old self images.old }
+        ensures whole { images.new.whole ≡ images.old.whole }
+        ensures fits { IfOk result (λ spilled. FitsSpilled B.Board board.new spilled images.new) }
+        ensures kept { IfOk result (λ spilled. spilled ≡ spilled_from self) }
+        ensures left { IfOk result (λ spilled. left_chunks spilled images.new ≤ chunks) }
+        ensures changes { Changes B.Board board.old board.new (KeepsBytes 0) (KeepsBytes 0) }
+        ensures erases { ErasesNothing B.Board board.old board.new }
+        ensures programs { (B.moment board.new).programs ≤ raised_by 1 (B.moment board.old).programs }
+        ensures cause { HasCause Flash (B.faults board.old) (B.faults board.new) result }
+        ensures kind { IfErr result (λ kind. kind ≡ Flash) }
+    {
+        let kept = begin_copy(board, self.kept, &images.whole, &mut images.upper)?;
+        Ok(Spilled { kept })
+    }
+}
+
+/// Makes every byte 0.
+pub(crate) fn clear(bytes: &mut [u8])
+    ensures { All (λ byte. byte ≡ 0) bytes.new }
+{
+    bytes.fill(0);
+}
+
+/// Marks the other sector in use, whose log is empty.
+fn begin_copy<B: Board>(
+    board: &mut B,
+    kept: Kept,
+    whole: &[u8],
+    upper: &mut [u8],
+) -> Result<Kept, Fault>
+    requires fits { FitsMarked B.Board board.old kept (both_bytes whole.now upper.old) }
+    ensures fits { IfOk result (λ new. FitsSpilled B.Board board.new new (both_bytes whole.now upper.new)) }
+    ensures kept { IfOk result (λ new. new ≡ spilled_from kept) }
+    ensures left { IfOk result (λ new. left_chunks new (both_bytes whole.now upper.new) ≤ chunks) }
+    ensures changes { Changes B.Board board.old board.new (KeepsBytes 0) (KeepsBytes 0) }
+    ensures erases { ErasesNothing B.Board board.old board.new }
+    ensures programs { (B.moment board.new).programs ≡ raised_by 1 (B.moment board.old).programs }
+    ensures cause { HasCause Flash (B.faults board.old) (B.faults board.new) result }
+    ensures kind { IfErr result (λ kind. kind ≡ Flash) }
+{
+    let region = second_sector(kept.guard);
+    clear(upper);
+    program(board, region, 0, 0x5BFE)?;
+    let log = Log {
+        region,
+        mark: Mark::InUse,
+        end: 2,
+        torn: None,
+        valid: 0,
+        gaps: 0,
+    };
+    Ok(Kept {
+        other: Some(log),
+        completable: false,
+        ..kept
+    })
+}

@@ -1,0 +1,182 @@
+// The way back to one sector alone.
+ghost use Rattle.std.specs.Prelude.{◌≡◌, ◌⊎◌, ◌≤◌, ◌+◌, IsTrue, IfOk, OnOk, IfErr};
+ghost use Rattle.flash_board.specs.declared.board.Fault.{Fault};
+ghost use Rattle.flash_board.specs.declared.board.Fault.TheVariants.{Read, Flash};
+ghost use Rattle.flash_board.specs.Words.{IsSectorSize};
+ghost use Rattle.flash_board.specs.Calls.{Changes};
+ghost use Rattle.flash_board.specs.Causes.{HasCause, Rose};
+ghost use Rattle.sector_switch.specs.declared.kept.Kept.{Kept};
+ghost use Rattle.sector_switch.specs.Images.{Bytes};
+ghost use Rattle.sector_switch.specs.Stands.{Reading, Reads, Stands, count_in, count_after, is_alone, is_due};
+ghost use Rattle.sector_switch.specs.FirstBad.{Place, FirstBad};
+ghost use Rattle.sector_switch.specs.Losses.{KeepsBytes};
+ghost use Rattle.sector_switch.specs.Fits.{FitsAlone, FitsMarked, FitsSpilled, FitsCopied, FitsVoided, FitsShape, guard_after, is_full};
+ghost use Rattle.sector_switch.specs.Answers.{OnRecoverForeign, OnRecoverFault, OnWorn};
+
+use crate::{Alone, Images, Kept, Marked, Shape, Spilled, SurveyError, VoidError, Voided, survey};
+use flash_board::{Board, Fault, Region};
+
+/// Why an image can't be recovered.
+#[derive(Clone, Copy, Debug, PartialEq, Eq)]
+pub enum RecoverError {
+    /// A call failed.
+    Fault(Fault),
+    /// The words are no image: this is the first foreign word, with its offset in halfwords.
+    Foreign {
+        region: Region,
+        offset: u32,
+        word: u16,
+    },
+    /// A sector is to be voided and the guard row is used up. The copy is whole, and the words still stand for the bytes.
+    Worn {
+        count: u16,
+    },
+}
+
+/// Brings the image into one sector alone, from each of its four states, and reads its bytes into `images`. A loss
+/// inside leaves the bytes of before.
+///
+/// Nothing is programmed where the image stands alone or the words are no image.
+pub fn recover<B: Board>(board: &mut B, images: &mut Images) -> Result<Alone, RecoverError>
+    requires attached { IsSectorSize (B.sector_bytes board.old) }
+
+    // the image stands alone, with the bytes that the words stood for
+    ensures fits { IfOk result (λ alone. FitsAlone B.Board board.new alone images.new) }
+    ensures stands { OnOk result (B.tells board.new → Stands (B.words board.old) images.new.whole) }
+    ensures changes { Changes B.Board board.old board.new (KeepsBytes 2) (KeepsBytes 2) }
+
+    // the guard count rises by two from marked and spilled, and by one from voided
+    ensures guard { IfOk result (λ alone. B.tells board.new → (reading : Reading) → Reads (B.words board.old) reading → alone.guard ≡ count_after reading) }
+    ensures idle { B.tells board.new → (reading : Reading) → Reads (B.words board.old) reading → IsTrue (is_alone reading) → B.moment board.new ≡ B.moment board.old }
+
+    // no image
+    ensures foreign { IfErr result (λ e. OnRecoverForeign e (λ place. B.tells board.new → FirstBad (B.words board.old) place)) }
+    ensures foreign_idle { IfErr result (λ e. OnRecoverForeign e (λ place. B.moment board.new ≡ B.moment board.old)) }
+
+    // the guard row is used up: exactly where home is full and the count is 8,192, once the copy is whole
+    ensures worn { IfErr result (λ e. OnWorn e (λ count. (count ≡ 8192) × (B.tells board.new → (reading : Reading) × Reads (B.words board.old) reading
+        × IsTrue (is_due reading) × (count_in reading ≡ 8192)))) }
+    ensures worn_copied { IfErr result (λ e. OnWorn e (λ count. (kept : Kept) × FitsCopied B.Board board.new kept images.new × (kept.guard ≡ 8192))) }
+    ensures used_up { B.tells board.new → (reading : Reading) → Reads (B.words board.old) reading → IsTrue (is_due reading) → count_in reading ≡ 8192 → IfOk result (λ _. ⊥) }
+
+    ensures fault { IfErr result (λ e. OnRecoverFault e (λ kind. (kind ≡ Read ⊎ kind ≡ Flash) × Rose (B.faults board.old kind) (B.faults board.new kind))) }
+    ensures counts { (k : Fault) → B.faults board.old k ≤ B.faults board.new k }
+{
+    match survey(board, images) {
+        Ok(survey) => settle(survey.shape, survey.kept, board, images),
+        Err(SurveyError::Fault(kind)) => Err(RecoverError::Fault(kind)),
+        Err(
+            SurveyError::Foreign {
+                region,
+                offset,
+                word,
+            },
+        ) => Err(RecoverError::Foreign {
+            region,
+            offset,
+            word,
+        }),
+    }
+}
+
+/// From any of the four states to one sector alone.
+fn settle<B: Board>(
+    shape: Shape,
+    kept: Kept,
+    board: &mut B,
+    images: &mut Images,
+) -> Result<Alone, RecoverError>
+    requires fits { FitsShape shape B.Board board.old kept images.old }
+    ensures whole { images.new.whole ≡ images.old.whole }
+    ensures fits { IfOk result (λ alone. FitsAlone B.Board board.new alone images.new) }
+    ensures changes { Changes B.Board board.old board.new (KeepsBytes 2) (KeepsBytes 2) }
+    ensures guard { IfOk result (λ alone. alone.guard ≡ guard_after shape kept.guard) }
+    ensures idle { shape ≡ Shape.Alone → board.new ≡ board.old }
+    ensures not_foreign { IfErr result (λ e. OnRecoverForeign e (λ place. ⊥)) }
+    ensures worn { IfErr result (λ e. OnWorn e (λ count. (count ≡ 8192) × (kept.guard ≡ 8192) × IsTrue (is_full shape))) }
+    ensures worn_copied { IfErr result (λ e. OnWorn e (λ count. (kept : Kept) × FitsCopied B.Board board.new kept images.new × (kept.guard ≡ 8192))) }
+    ensures used_up { IsTrue (is_full shape) → kept.guard ≡ 8192 → IfOk result (λ _. ⊥) }
+    ensures fault { IfErr result (λ e. OnRecoverFault e (λ kind. (kind ≡ Flash) × Rose (B.faults board.old Flash) (B.faults board.new Flash))) }
+    ensures counts { (k : Fault) → B.faults board.old k ≤ B.faults board.new k }
+{
+    match shape {
+        Shape::Alone => Ok(Alone { kept }),
+        Shape::Marked => finish_marked(Marked { kept }, board, images),
+        Shape::Spilled => finish_spilled(Spilled { kept }, board, images),
+        Shape::Voided => match finish_voided(Voided { kept }, board) {
+            Ok(alone) => Ok(alone),
+            Err(kind) => Err(RecoverError::Fault(kind)),
+        },
+    }
+}
+
+/// From home full beside an available sector to one sector alone.
+fn finish_marked<B: Board>(
+    marked: Marked,
+    board: &mut B,
+    images: &mut Images,
+) -> Result<Alone, RecoverError>
+    requires fits { FitsMarked B.Board board.old marked images.old }
+    ensures whole { images.new.whole ≡ images.old.whole }
+    ensures fits { IfOk result (λ alone. FitsAlone B.Board board.new alone images.new) }
+    ensures changes { Changes B.Board board.old board.new (KeepsBytes 2) (KeepsBytes 2) }
+    ensures guard { IfOk result (λ alone. alone.guard ≡ marked.guard + 2) }
+    ensures not_foreign { IfErr result (λ e. OnRecoverForeign e (λ place. ⊥)) }
+    ensures worn { IfErr result (λ e. OnWorn e (λ count. (count ≡ 8192) × (marked.guard ≡ 8192))) }
+    ensures worn_copied { IfErr result (λ e. OnWorn e (λ count. (kept : Kept) × FitsCopied B.Board board.new kept images.new × (kept.guard ≡ 8192))) }
+    ensures used_up { marked.guard ≡ 8192 → IfOk result (λ _. ⊥) }
+    ensures fault { IfErr result (λ e. OnRecoverFault e (λ kind. (kind ≡ Flash) × Rose (B.faults board.old Flash) (B.faults board.new Flash))) }
+    ensures counts { (k : Fault) → B.faults board.old k ≤ B.faults board.new k }
+{
+    match marked.open(board, images) {
+        Ok(spilled) => finish_spilled(spilled, board, images),
+        Err(kind) => Err(RecoverError::Fault(kind)),
+    }
+}
+
+/// From both sectors to one alone: the copy, the guard row's next halfword and the erase.
+fn finish_spilled<B: Board>(
+    spilled: Spilled,
+    board: &mut B,
+    images: &mut Images,
+) -> Result<Alone, RecoverError>
+    requires fits { FitsSpilled B.Board board.old spilled images.old }
+    ensures whole { images.new.whole ≡ images.old.whole }
+    ensures fits { IfOk result (λ alone. FitsAlone B.Board board.new alone images.new) }
+    ensures changes { Changes B.Board board.old board.new (KeepsBytes 2) (KeepsBytes 2) }
+    ensures guard { IfOk result (λ alone. alone.guard ≡ spilled.guard + 2) }
+    ensures not_foreign { IfErr result (λ e. OnRecoverForeign e (λ place. ⊥)) }
+    ensures worn { IfErr result (λ e. OnWorn e (λ count. (count ≡ 8192) × (spilled.guard ≡ 8192))) }
+    ensures worn_copied { IfErr result (λ e. OnWorn e (λ count. (kept : Kept) × FitsCopied B.Board board.new kept images.new × (kept.guard ≡ 8192))) }
+    ensures used_up { spilled.guard ≡ 8192 → IfOk result (λ _. ⊥) }
+    ensures fault { IfErr result (λ e. OnRecoverFault e (λ kind. (kind ≡ Flash) × Rose (B.faults board.old Flash) (B.faults board.new Flash))) }
+    ensures counts { (k : Fault) → B.faults board.old k ≤ B.faults board.new k }
+{
+    let copied = match spilled.copy(board, images) {
+        Ok(copied) => copied,
+        Err(kind) => return Err(RecoverError::Fault(kind)),
+    };
+    let voided = match copied.void(board) {
+        Ok(voided) => voided,
+        Err(VoidError::Fault(kind)) => return Err(RecoverError::Fault(kind)),
+        Err(VoidError::Worn(_)) => return Err(RecoverError::Worn { count: 8192 }),
+    };
+    match finish_voided(voided, board) {
+        Ok(alone) => Ok(alone),
+        Err(kind) => Err(RecoverError::Fault(kind)),
+    }
+}
+
+/// From a voided state to one sector alone.
+fn finish_voided<B: Board>(voided: Voided, board: &mut B) -> Result<Alone, Fault>
+    requires fits { (images : Bytes) × FitsVoided B.Board board.old voided images }
+    ensures fits { IfOk result (λ alone. (images : Bytes) → FitsVoided B.Board board.old voided images → FitsAlone B.Board board.new alone images) }
+    ensures guard { IfOk result (λ alone. alone.guard ≡ voided.guard + 1) }
+    ensures changes { Changes B.Board board.old board.new (KeepsBytes 1) (KeepsBytes 1) }
+    ensures cause { HasCause Flash (B.faults board.old) (B.faults board.new) result }
+    ensures kind { IfErr result (λ kind. kind ≡ Flash) }
+{
+    let erased = voided.erase(board)?;
+    let alone = erased.open(board)?;
+    Ok(alone)
+}

@@ -1,0 +1,60 @@
+// The image in one sector, with the other one void.
+ghost use Rattle.std.specs.Prelude.{◌≡◌, IfOk, IfErr};
+ghost use Rattle.flash_board.specs.declared.board.Fault.TheVariants.{Flash};
+ghost use Rattle.flash_board.specs.Losses.{after_erase};
+ghost use Rattle.flash_board.specs.Calls.{Changes};
+ghost use Rattle.flash_board.specs.Causes.{HasCause};
+ghost use Rattle.sector_switch.specs.Images.{Bytes};
+ghost use Rattle.sector_switch.specs.Losses.{KeepsBytes};
+ghost use Rattle.sector_switch.specs.Fits.{FitsVoided, FitsErased};
+
+use crate::flash::second_sector;
+use crate::{Erased, Kept};
+use flash_board::{Board, Fault};
+use std::marker::Model;
+
+/// One sector is in use and has all bytes, and the words of the other mean nothing.
+#[derive(Debug, Drop)]
+pub struct Voided {
+    pub(crate) kept: Kept,
+}
+
+impl Model for Voided {
+    ghost use Rattle.sector_switch.specs.declared.kept.Kept.{Kept};
+
+    ghost Value = { Kept };
+
+    ghost view = { λ state. state.kept };
+}
+
+impl Voided {
+    /// Erases the void sector. A loss inside leaves the bytes of before.
+    pub fn erase<B: Board>(self, board: &mut B) -> Result<Erased, Fault>
+        requires fits { (images : Bytes) × FitsVoided B.Board board.old self images }
+        ensures fits { IfOk result (λ erased. (images : Bytes) → FitsVoided B.Board board.old self images → FitsErased B.Board board.new erased images) }
+        ensures kept { IfOk result (λ erased. erased ≡ self) }
+        ensures changes { Changes B.Board board.old board.new (KeepsBytes 0) (KeepsBytes 0) }
+        ensures moment { B.moment board.new ≡ after_erase (B.moment board.old) }
+        ensures cause { HasCause Flash (B.faults board.old) (B.faults board.new) result }
+        ensures kind { IfErr result (λ kind. kind ≡ Flash) }
+    {
+        let kept = erase_void(board, self.kept)?;
+        Ok(Erased { kept })
+    }
+}
+
+/// Erases the void sector.
+fn erase_void<B: Board>(board: &mut B, kept: Kept) -> Result<Kept, Fault>
+    requires fits { (images : Bytes) × FitsVoided B.Board board.old kept images }
+    ensures fits { IfOk result (λ new. (images : Bytes) → FitsVoided B.Board board.old kept images → FitsErased B.Board board.new new images) }
+    ensures kept { IfOk result (λ new. new ≡ kept) }
+    ensures changes { Changes B.Board board.old board.new (KeepsBytes 0) (KeepsBytes 0) }
+    ensures moment { B.moment board.new ≡ after_erase (B.moment board.old) }
+    ensures cause { HasCause Flash (B.faults board.old) (B.faults board.new) result }
+    ensures kind { IfErr result (λ kind. kind ≡ Flash) }
+{
+    match board.erase(second_sector(kept.guard)) {
+        Ok(()) => Ok(kept),
+        Err(_) => Err(Fault::Flash),
+    }
+}
