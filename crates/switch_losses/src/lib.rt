@@ -1,0 +1,5 @@
+//! Losses of power in the switch, over boards in memory.
+#![tactic(auto)]
+
+#[cfg(test)]
+mod tests;

@@ -1,0 +1,269 @@
+ghost use Rattle.std.specs.Prelude.{◌≡◌, IfOk};
+
+use byteorder::{ByteOrder, LittleEndian};
+use flash_board::{Board, Fault, MemBoard, Region};
+use sector_switch::{CopyStep, Images, RecoverError, Shape, recover, survey};
+use std::alloc::Global;
+use std::test::Fail;
+
+// An image of 16,384-byte sectors that begin with these halfwords, and of a guard row with so many zeros.
+fn image(alloc: Global, guard: usize, s0: &[u16], s1: &[u16]) -> Result<Vec<u8>, Fail> {
+    if guard > 8192 || s0.len() > 8192 || s1.len() > 8192 {
+        return Err(Fail::from("image"));
+    }
+    let mut image = vec![in alloc; 0xFF; 49_152]?;
+    LittleEndian::write_u16_into(s0, &mut image[..2 * s0.len()]);
+    LittleEndian::write_u16_into(s1, &mut image[16_384..16_384 + 2 * s1.len()]);
+    image[32_768..32_768 + 2 * guard].fill(0);
+    Ok(image)
+}
+
+// A board with an image of 16,384-byte sectors, attached by the call with the number 0.
+fn attached(alloc: Global, image: &[u8], fails: &[u32]) -> Result<MemBoard, Fail>
+    ensures { IfOk result (λ board. ⟦<MemBoard as Board>⟧.sector_bytes board ≡ 16384) }
+{
+    let mut board = MemBoard::new(alloc, image, &[], fails)?;
+    match board.attach("image", 0, None) {
+        Ok(geometry) if geometry.sector_bytes == 16_384 => Ok(board),
+        _ => Err(Fail::from("attach")),
+    }
+}
+
+// A sector with this mark and an entry of line 3, and such an entry of line 4.
+const FULL: [u16; 7] = [0x5BFC, 0x5168, 0x000C, 0x0201, 0x0403, 0x0605, 0x0807];
+
+const IN_USE: [u16; 7] = [0x5BFE, 0x5168, 0x000C, 0x0201, 0x0403, 0x0605, 0x0807];
+
+const OTHER: [u16; 7] = [0x5BFE, 0x5168, 0x000C, 0x1111, 0x1111, 0x1111, 0x1111];
+
+const AVAILABLE: [u16; 2] = [0x5BFF, 0x5168];
+
+const LINE: [u8; 8] = [1, 2, 3, 4, 5, 6, 7, 8];
+
+// The guard count and line 3 of an image that was recovered.
+fn recovered(alloc: Global, guard: usize, s0: &[u16], s1: &[u16]) -> Result<(u16, Vec<u8>), Fail> {
+    let image = image(alloc, guard, s0, s1)?;
+    let mut board = attached(alloc, &image, &[])?;
+    let mut images = Images::new(alloc)?;
+    match recover(&mut board, &mut images) {
+        Ok(_) => {}
+        Err(_) => return Err(Fail::from("recover")),
+    }
+    match survey(&mut board, &mut images) {
+        Ok(survey) if survey.shape == Shape::Alone => {
+            let mut line = vec![in alloc; 0; 8]?;
+            line.copy_from_slice(&images.whole()[24..32]);
+            Ok((survey.kept.guard, line))
+        }
+        _ => Err(Fail::from("survey")),
+    }
+}
+
+#[test]
+fn each_state_is_recovered_to_one_sector_alone(rt: HostRuntime) -> Result<(), Fail> {
+    let alloc = rt.alloc();
+    let cases: [(usize, &[u16], &[u16], u16); 5] = [
+        (0, &IN_USE, &AVAILABLE, 0),
+        // a loss between home's mark full and the other's mark in use
+        (0, &FULL, &AVAILABLE, 2),
+        (2, &[0x5BFE, 0x5168], &FULL, 4),
+        // the void sector holds a whole log of other content
+        (1, &OTHER, &IN_USE, 2),
+        // the last guard halfword
+        (8191, &IN_USE, &[], 8192),
+    ];
+    for (guard, s0, s1, after) in cases {
+        let (count, line) = recovered(alloc, guard, s0, s1)?;
+        assert_eq!(rt; count, after, "from {guard}");
+        assert_eq!(rt; line.as_slice(), LINE.as_slice(), "from {guard}");
+    }
+    Ok(())
+}
+
+#[test]
+fn an_image_that_is_not_understood_is_named(rt: HostRuntime) -> Result<(), Fail> {
+    let alloc = rt.alloc();
+    let cases: [(usize, &[u16], &[u16], Region, u32, u16); 5] = [
+        (
+            0,
+            &[0x5BFE, 0x5168, 0x000E],
+            &AVAILABLE,
+            Region::S0,
+            2,
+            0x000E,
+        ),
+        // the other's head is tested before home's log
+        (0, &[0x5BFE, 0x5168, 0x000E], &IN_USE, Region::S1, 0, 0x5BFE),
+        (0, &FULL, &[0x5BFE, 0x5169], Region::S1, 1, 0x5169),
+        (0, &[0x5BFF, 0x5168], &AVAILABLE, Region::S0, 0, 0x5BFF),
+        (3, &FULL, &[], Region::S0, 0, 0x5BFC),
+    ];
+    for (guard, s0, s1, region, offset, word) in cases {
+        let image = image(alloc, guard, s0, s1)?;
+        let mut board = attached(alloc, &image, &[])?;
+        let mut images = Images::new(alloc)?;
+        let found = RecoverError::Foreign {
+            region,
+            offset,
+            word,
+        };
+        assert_eq!(rt; recover(&mut board, &mut images).err(), Some(found));
+        assert_eq!(rt; board.image(alloc)?.as_slice(), image.as_slice());
+    }
+    Ok(())
+}
+
+#[test]
+fn a_guard_row_that_is_used_up_is_met_once_the_copy_is_whole(rt: HostRuntime) -> Result<(), Fail> {
+    let alloc = rt.alloc();
+    let image = image(alloc, 8192, &FULL, &AVAILABLE)?;
+    let mut board = attached(alloc, &image, &[])?;
+    let mut images = Images::new(alloc)?;
+    let worn = Some(RecoverError::Worn { count: 8192 });
+    assert_eq!(rt; recover(&mut board, &mut images).err(), worn);
+    let Ok(found) = survey(&mut board, &mut images) else {
+        return Err(Fail::from("survey"));
+    };
+    let Some(other) = found.kept.other else {
+        return Err(Fail::from("other"));
+    };
+    assert_eq!(rt; (found.shape, found.kept.guard), (Shape::Spilled, 8192));
+    // one chunk was copied
+    assert_eq!(rt; (other.end, other.valid, other.gaps), (35, 1, 0));
+    assert_eq!(rt; &images.whole()[24..32], LINE.as_slice());
+    Ok(())
+}
+
+// What `recover` reads of an image of 16,384-byte sectors with no gap and guard count 0: the guard row and each sector
+// with the halfword that is met twice, the four halfwords of the heads, and the other sector once more where it is in use.
+const READS_BESIDE_AVAILABLE: u32 = 8193 + 4 + 8193 + 8192;
+
+const READS_SPILLED: u32 = 8193 + 4 + 8193 + 2 * 8193;
+
+// A full sector with an entry for each chunk, whose bytes are its number and 1.
+fn entry_for_each_chunk(alloc: Global) -> Result<Vec<u16>, Fail> {
+    let mut words = Vec::new(alloc);
+    words.push(0x5BFC)?;
+    words.push(0x5168)?;
+    for chunk in 0..240 {
+        words.push(0xE000 + 32 * chunk)?;
+        for _ in 0..32 {
+            words.push(0x0101 * (chunk + 1))?;
+        }
+    }
+    Ok(words)
+}
+
+#[test]
+fn forty_losses_in_one_copy_take_no_room(rt: HostRuntime) -> Result<(), Fail> {
+    let alloc = rt.alloc();
+    let home = entry_for_each_chunk(alloc)?;
+    let mut image = image(alloc, 0, &home, &[0x5BFE, 0x5168])?;
+    // The first loss falls inside the second entry. Behind it a torn last entry is there each time: both scans skip its
+    // 32 halfwords, and they are read once to see whether it can be completed.
+    let mut lost = READS_SPILLED + 51;
+    for _ in 0..40 {
+        let mut board = attached(alloc, &image, &[lost])?;
+        let mut images = Images::new(alloc)?;
+        let fault = Some(RecoverError::Fault(Fault::Flash));
+        assert_eq!(rt; recover(&mut board, &mut images).err(), fault);
+        image = board.image(alloc)?;
+        lost = READS_SPILLED - 32 + 51;
+    }
+    let mut board = attached(alloc, &image, &[])?;
+    let mut images = Images::new(alloc)?;
+    let Ok(alone) = recover(&mut board, &mut images) else {
+        return Err(Fail::from("recover"));
+    };
+    assert_eq!(rt; alone.free(), 540);
+    let Ok(found) = survey(&mut board, &mut images) else {
+        return Err(Fail::from("survey"));
+    };
+    assert_eq!(rt; (found.shape, found.kept.guard), (Shape::Alone, 2));
+    assert_eq!(rt; (found.kept.home.valid, found.kept.home.gaps), (240, 0));
+    for chunk in 0..240 {
+        let bytes = [1 + chunk as u8; 64];
+        assert_eq!(rt;
+            &images.whole()[64 * chunk..64 * chunk + 64],
+            bytes.as_slice()
+        );
+    }
+    Ok(())
+}
+
+#[test]
+fn each_loss_of_a_switch_is_recovered(rt: HostRuntime) -> Result<(), Fail> {
+    let alloc = rt.alloc();
+    let image = image(alloc, 0, &FULL, &AVAILABLE)?;
+    // the mark, the 34 programs of a chunk, the guard halfword, the erase, the header and the next guard halfword
+    for lost in 1..41 {
+        let mut board = attached(alloc, &image, &[READS_BESIDE_AVAILABLE + lost])?;
+        let mut images = Images::new(alloc)?;
+        let fault = Some(RecoverError::Fault(Fault::Flash));
+        assert_eq!(rt;
+            recover(&mut board, &mut images).err(),
+            fault,
+            "loss {lost}"
+        );
+        assert!(rt; recover(&mut board, &mut images).is_ok(), "loss {lost}");
+        let Ok(found) = survey(&mut board, &mut images) else {
+            return Err(Fail::from("survey"));
+        };
+        assert_eq!(rt;
+            (found.shape, found.kept.guard),
+            (Shape::Alone, 2),
+            "loss {lost}"
+        );
+        assert_eq!(rt; &images.whole()[24..32], LINE.as_slice(), "loss {lost}");
+    }
+    let mut board = attached(alloc, &image, &[READS_BESIDE_AVAILABLE + 41])?;
+    let mut images = Images::new(alloc)?;
+    assert!(rt; recover(&mut board, &mut images).is_ok());
+    Ok(())
+}
+
+#[test]
+fn a_switch_goes_through_all_states(rt: HostRuntime) -> Result<(), Fail> {
+    let alloc = rt.alloc();
+    let image = image(alloc, 0, &IN_USE, &AVAILABLE)?;
+    let mut board = attached(alloc, &image, &[])?;
+    let mut images = Images::new(alloc)?;
+    let Ok(alone) = recover(&mut board, &mut images) else {
+        return Err(Fail::from("recover"));
+    };
+    assert_eq!(rt; alone.free(), 16_370);
+    assert!(rt; alone.fits(8));
+    let Ok(alone) = alone.append(&mut board, &mut images, 8, &[7; 64]) else {
+        return Err(Fail::from("append"));
+    };
+    let Ok(marked) = alone.spill(&mut board) else {
+        return Err(Fail::from("spill"));
+    };
+    let Ok(spilled) = marked.open(&mut board, &mut images) else {
+        return Err(Fail::from("open"));
+    };
+    // two chunks are left
+    assert_eq!(rt; spilled.room(&images), 16_384 - 4 - 2 * 66 - 66);
+    let Ok(CopyStep::More(spilled)) = spilled.copy_chunk(&mut board, &mut images) else {
+        return Err(Fail::from("copy_chunk"));
+    };
+    let Ok(spilled) = spilled.append(&mut board, &mut images, 8, &[9; 64]) else {
+        return Err(Fail::from("append"));
+    };
+    let Ok(copied) = spilled.copy(&mut board, &mut images) else {
+        return Err(Fail::from("copy"));
+    };
+    let Ok(voided) = copied.void(&mut board) else {
+        return Err(Fail::from("void"));
+    };
+    let Ok(erased) = voided.erase(&mut board) else {
+        return Err(Fail::from("erase"));
+    };
+    let Ok(alone) = erased.open(&mut board) else {
+        return Err(Fail::from("open"));
+    };
+    assert_eq!(rt; alone.free(), 16_384 - 4 - 2 * 66);
+    assert_eq!(rt; &images.whole()[24..32], LINE.as_slice());
+    assert_eq!(rt; &images.whole()[64..128], [9; 64].as_slice());
+    Ok(())
+}
