@@ -1,7 +1,8 @@
 ghost use Rattle.std.specs.Prelude.{◌≡◌, IfOk};
 
 use byteorder::{ByteOrder, LittleEndian};
-use flash_board::{Board, Fault, MemBoard, Region};
+use flash_board::{Board, Fault, LogError, MemBoard, Region};
+use sector_log::{header_of, scan};
 use sector_switch::{CopyStep, Images, RecoverError, Shape, recover, survey};
 use std::alloc::Global;
 use std::test::Fail;
@@ -265,5 +266,67 @@ fn a_switch_goes_through_all_states(rt: HostRuntime) -> Result<(), Fail> {
     assert_eq!(rt; alone.free(), 16_384 - 4 - 2 * 66);
     assert_eq!(rt; &images.whole()[24..32], LINE.as_slice());
     assert_eq!(rt; &images.whole()[64..128], [9; 64].as_slice());
+    Ok(())
+}
+
+// The plain reading of a sector: the offset behind its last entry, and the first halfword from there on that isn't FFFF.
+fn read_slowly(words: &[u16]) -> (usize, Option<usize>) {
+    let mut end: usize = 2;
+    for _ in 0..words.len() {
+        let Some(word) = words.get(end).copied() else {
+            break;
+        };
+        let Some(header) = header_of(word) else {
+            break;
+        };
+        let next = end.saturating_add(1 + 4 * header.lines as usize);
+        if next > words.len() {
+            break;
+        }
+        end = next;
+    }
+    for place in end..words.len() {
+        if words[place] != 0xFFFF {
+            return (end, Some(place));
+        }
+    }
+    (end, None)
+}
+
+#[test]
+fn a_scan_agrees_with_a_plain_reading(rt: HostRuntime) -> Result<(), Fail> {
+    let alloc = rt.alloc();
+    let cases: [&[u16]; 8] = [
+        &[0x5BFE, 0x5168],
+        &[0x5BFE, 0x5168, 0x000C, 1, 2, 3, 4],
+        &[0x5BFE, 0x5168, 0x000D, 1, 2, 3, 4, 0x000C, 5, 6, 7, 8],
+        &[0x5BFE, 0x5168, 0x200C, 1, 2, 3, 4, 5, 6, 7, 8],
+        &[0x5BFE, 0x5168, 0x000C, 1, 2, 3, 4, 0x000E],
+        &[0x5BFE, 0x5168, 0x000C, 1, 2, 3, 4, 0xFFFF, 0xFFFF, 9],
+        &[0x5BFE, 0x5168, 0x1E00],
+        &[0x5BFE, 0x5168, 0xFFFF, 0x000C, 1, 2, 3, 4],
+    ];
+    for words in cases {
+        let mut sector = vec![in alloc; 0xFFFFu16; 8192]?;
+        if words.len() > 12 {
+            return Err(Fail::from("words"));
+        }
+        sector[..words.len()].copy_from_slice(words);
+        let image = image(alloc, 0, &sector, &AVAILABLE)?;
+        let mut board = attached(alloc, &image, &[])?;
+        let mut bytes = vec![in alloc; 0u8; 15_360]?;
+        let found = match scan(&mut board, Region::S0, &mut bytes) {
+            Ok(log) => (log.end as usize, None),
+            Err(LogError::Word { offset, word: _ }) => (0, Some(offset as usize)),
+            Err(LogError::Fault(_)) => return Err(Fail::from("scan")),
+        };
+        let (end, place) = read_slowly(&sector);
+        let told = if place.is_some() {
+            (0, place)
+        } else {
+            (end, place)
+        };
+        assert_eq!(rt; found, told);
+    }
     Ok(())
 }
