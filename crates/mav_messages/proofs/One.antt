@@ -10,21 +10,21 @@ use Rattle.std.specs.Prelude.{MatchOption, IfSome}
 use Rattle.mav_messages.specs.Descriptions.{described}
 use Rattle.mav_messages.specs.Messages.{values_of, description_of, plain, sent, FitsTypes, Says}
 
-number : Value → ℕ
+unfoldable pub number : Value → ℕ
 number (Number n) = n
 number (Bytes bs) = 0
 
-bytes : Value → List ℕ
+unfoldable pub bytes : Value → List ℕ
 bytes (Number n) = []
 bytes (Bytes bs) = bs
 
-at : List Value → ℕ → Value
+unfoldable pub at : List Value → ℕ → Value
 at [] k = Number 0
 at (v ∷ vs) zero = v
 at (v ∷ vs) (suc k) = at vs k
 
 -- the message of a number with these values
-remake : ℕ → List Value → Message
+unfoldable pub remake : ℕ → List Value → Message
 remake id vs =
     cond (id == 0) (Heartbeat (number (at vs 0)) (number (at vs 1)) (number (at vs 2)) (number (at vs 3)) (number (at vs 4)) (number (at vs 5))) (
     cond (id == 20) (ParamRequestRead (cast_signed w16 (number (at vs 0))) (number (at vs 1)) (number (at vs 2)) (bytes (at vs 3))) (
@@ -67,6 +67,15 @@ one_message id payload m n f g a b =
     let d : description_of m ≡ description_of n = same_description (description_of m) (description_of n) (sym a.listed ∙ b.listed) in
     let v : values_of m ≡ values_of n = a.fields ∙ ap (λ (e : Description). values_in (layout_of e) (filled payload)) d ∙ sym b.fields in
     sym (remade m f) ∙ ap (λ (e : Description). remake e.id (values_of m)) d ∙ ap (remake (description_of n).id) v ∙ remade n g
+
+-- a message that the bytes say under a description is made of the values there, and has them
+pub made_of : (d : Description) (s : List ℕ) (m : Message) → FitsTypes m → Some d ≡ Some (description_of m) → values_of m ≡ values_in (layout_of (description_of m)) s
+    → values_of (remake d.id (values_in (layout_of d) s)) ≡ values_in (layout_of d) s
+made_of d s m f listed fields =
+    let e : description_of m ≡ d = same_description (description_of m) d (sym listed) in
+    let v : values_of m ≡ values_in (layout_of d) s = fields ∙ ap (λ (d : Description). values_in (layout_of d) s) e in
+    let is : m ≡ remake d.id (values_in (layout_of d) s) = sym (remade m f) ∙ ap (λ (d : Description). remake d.id (values_of m)) e ∙ ap (remake d.id) v in
+    ap values_of (sym is) ∙ v
 
 pub plain_fits : (m : Message) → FitsTypes m → FitsTypes (plain m)
 plain_fits (Heartbeat custom_mode kind autopilot base_mode system_status mavlink_version) h = h

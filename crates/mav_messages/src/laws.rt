@@ -1,7 +1,7 @@
 //! What holds of the layouts, and of every payload.
 #![tactic(auto)]
 
-ghost use Rattle.std.specs.Prelude.{◌≡◌, ℕ, List};
+ghost use Rattle.std.specs.Prelude.{◌≡◌, ◌⊎◌, ℕ, List};
 ghost use Rattle.mav_messages.specs.declared.messages.Message.{Message};
 ghost use Rattle.mav_messages.specs.Fields.{IsLayout};
 ghost use Rattle.mav_messages.specs.Descriptions.{heartbeat, param_request_read, param_request_list, param_value, param_set, mission_request, mission_request_list, mission_count, mission_clear_all, mission_ack, mission_request_int, mission_item_int, command_long, command_ack};
@@ -12,6 +12,11 @@ use crate::layouts::*;
 /// A payload says one message under an id.
 pub fn one_message()
     ensures { (id : ℕ) (payload : List ℕ) (m n : Message) → FitsTypes m → FitsTypes n → Says id payload m → Says id payload n → m ≡ n }
+{}
+
+/// A payload says a message under an id, or none. Its bytes are any numbers.
+pub fn a_message_or_none()
+    ensures { (id : ℕ) (payload : List ℕ) → ((message : Message) × FitsTypes message × Says id payload message) ⊎ ((message : Message) → FitsTypes message → Says id payload message → ⊥) }
 {}
 
 /// The fields of each layout stand where its message's description has them, one behind another.

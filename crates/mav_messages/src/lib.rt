@@ -9,7 +9,7 @@ mod messages;
 
 pub use decoding::{decode, extra};
 pub use encoding::encode;
-pub use laws::{layouts_follow, one_message};
+pub use laws::{a_message_or_none, layouts_follow, one_message};
 pub use layouts::{FieldKind, Layout, Row};
 pub use messages::{Message, Replies, Reply, Sender, To};
 
