@@ -1,7 +1,7 @@
 //! What holds of every stream.
 #![tactic(auto)]
 
-ghost use Rattle.std.specs.Prelude.{◌≡◌, ℕ, List, [], ◌∷◌, ◌++◌, ◌↔◌, Option, option_to_list};
+ghost use Rattle.std.specs.Prelude.{◌≡◌, ◌⊎◌, ℕ, List, [], ◌∷◌, ◌++◌, ◌↔◌, Option, option_to_list};
 ghost use Rattle.mav_frames.specs.Cut.{Cut, IsFrame, Piece, Whole, Pushes, Runs, frames_in};
 ghost use Rattle.mav_frames.specs.Frames.{IsMessageOf};
 ghost use Rattle.mav_messages.specs.Messages.{FitsTypes};
@@ -48,4 +48,11 @@ pub fn one_message()
     ensures { (bytes : List ℕ) (m n : Message) → FitsTypes m → FitsTypes n → IsMessageOf bytes m → IsMessageOf bytes n → m ≡ n }
 {
     mav_messages::one_message();
+}
+
+/// Bytes have a message, or none. They are any numbers.
+pub fn a_message_or_none()
+    ensures { (bytes : List ℕ) → ((message : Message) × FitsTypes message × IsMessageOf bytes message) ⊎ ((message : Message) → FitsTypes message → IsMessageOf bytes message → ⊥) }
+{
+    mav_messages::a_message_or_none();
 }

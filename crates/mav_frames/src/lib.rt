@@ -9,7 +9,8 @@ mod writing;
 pub use cutting::{Cutter, whole_frame};
 pub use frames::Frame;
 pub use laws::{
-    a_cut, empty_stream, goes_on, one_by_one, one_byte_more, one_cut, one_message, one_piece,
+    a_cut, a_message_or_none, empty_stream, goes_on, one_by_one, one_byte_more, one_cut,
+    one_message, one_piece,
 };
 pub use writing::{message, read_back, write_frame};
 
