@@ -1,0 +1,66 @@
+-- What the refusals say.
+use Rattle.std.specs.Prelude.{◌≡◌, ℕ}
+use Rattle.flash_board.specs.declared.board.Board.{Ghosts}
+use Rattle.flash_board.specs.declared.board.Fault.{Fault}
+use Rattle.sector_switch.specs.declared.kept.Kept.{Kept}
+use Rattle.sector_switch.specs.FirstBad.{Place, place_of}
+use Rattle.sector_switch.specs.Images.{Bytes}
+use Rattle.sector_switch.specs.Fits.{FitsCopied}
+use Rattle.block_store.specs.declared.OpenError.{OpenError}
+use Rattle.block_store.specs.declared.OpenError.TheVariants as open_error
+use Rattle.block_store.specs.declared.PutError.{PutError}
+use Rattle.block_store.specs.declared.PutError.TheVariants as put_error
+
+-- what holds where memory is wanting
+abbrev pub OnMemory : OpenError → Type 0 → Type 0
+OnMemory open_error.Memory P = P
+OnMemory (open_error.Fault kind) P = Unit {0}
+OnMemory (open_error.Foreign region offset word) P = Unit {0}
+OnMemory (open_error.Worn count) P = Unit {0}
+
+-- what holds where an opening meets a fault, of its kind
+abbrev pub OnOpenFault : OpenError → (Fault → Type 0) → Type 0
+OnOpenFault open_error.Memory P = Unit {0}
+OnOpenFault (open_error.Fault kind) P = P kind
+OnOpenFault (open_error.Foreign region offset word) P = Unit {0}
+OnOpenFault (open_error.Worn count) P = Unit {0}
+
+-- what holds where the words are no image, of the first foreign word
+abbrev pub OnOpenForeign : OpenError → (Place → Type 0) → Type 0
+OnOpenForeign open_error.Memory P = Unit {0}
+OnOpenForeign (open_error.Fault kind) P = Unit {0}
+OnOpenForeign (open_error.Foreign region offset word) P = P (place_of region offset word)
+OnOpenForeign (open_error.Worn count) P = Unit {0}
+
+-- what holds where the guard row is used up, of its count
+abbrev pub OnOpenWorn : OpenError → (ℕ → Type 0) → Type 0
+OnOpenWorn open_error.Memory P = Unit {0}
+OnOpenWorn (open_error.Fault kind) P = Unit {0}
+OnOpenWorn (open_error.Foreign region offset word) P = Unit {0}
+OnOpenWorn (open_error.Worn count) P = P count
+
+-- the same of a put
+abbrev pub OnFault : PutError → (Fault → Type 0) → Type 0
+OnFault (put_error.Fault kind) P = P kind
+OnFault (put_error.NoRoom room) P = Unit {0}
+OnFault (put_error.Worn count) P = Unit {0}
+
+abbrev pub OnWorn : PutError → (ℕ → Type 0) → Type 0
+OnWorn (put_error.Fault kind) P = Unit {0}
+OnWorn (put_error.NoRoom room) P = Unit {0}
+OnWorn (put_error.Worn count) P = P count
+
+abbrev pub OnNoRoom : PutError → (ℕ → Type 0) → Type 0
+OnNoRoom (put_error.Fault kind) P = Unit {0}
+OnNoRoom (put_error.NoRoom room) P = P room
+OnNoRoom (put_error.Worn count) P = Unit {0}
+
+-- what holds where the store is spent by this answer
+abbrev pub OnSpending : PutError → Type 0 → Type 0
+OnSpending (put_error.Fault kind) P = P
+OnSpending (put_error.NoRoom room) P = Unit {0}
+OnSpending (put_error.Worn count) P = P
+
+-- The image is spilled with every chunk copied, and the guard row is used up.
+abbrev pub IsWorn : {B : Type 0} → Ghosts B → B → Bytes → Type 0
+IsWorn g b bytes = (kept : Kept) × FitsCopied g b kept bytes × (kept.guard ≡ 8192)

@@ -1,0 +1,131 @@
+-- What contracts see of a store.
+use Rattle.std.specs.Prelude.{◌≡◌, ◌≤◌, ℕ, ◌+◌, ◌-◌, ◌*◌, List, [], ◌∷◌, length, Bool, true, false, if◌then◌else◌, nat_lt}
+use Rattle.std.specs.Option.{option_map_or}
+use Rattle.flash_board.specs.Budget.{budget_of}
+use Rattle.flash_board.specs.declared.board.Board.{Ghosts}
+use Rattle.storage_lines.specs.declared.lines.LineWrite.{LineWrite}
+use Rattle.storage_lines.specs.declared.lines.TheConstants.{LINES}
+use Rattle.sector_switch.specs.declared.kept.Kept.{Kept}
+use Rattle.sector_switch.specs.Images.{Bytes}
+use Rattle.sector_switch.specs.Fits as fits
+use Rattle.sector_switch.specs.Fits.{FitsAlone, FitsSpilled}
+
+-- One sector has all bytes; or home is full and the other sector takes the entries; or a call has failed, and the
+-- board is to be opened again.
+pub data State : Type 0 where
+  Alone : (kept : Kept) → State
+  Spilled : (kept : Kept) → State
+  Spent : State
+
+-- the state, with the bytes of the image and those of the sector in use alone
+pub record Store : Type 0 where
+  pub state : State
+  pub bytes : Bytes
+
+-- the storage bytes that the words stand for
+abbrev pub durable_of : Store → List ℕ
+durable_of store = store.bytes.whole
+
+abbrev pub alone : State → Bool
+alone (Alone kept) = true
+alone (Spilled kept) = false
+alone Spent = false
+
+abbrev pub spilled : State → Bool
+spilled (Alone kept) = false
+spilled (Spilled kept) = true
+spilled Spent = false
+
+abbrev pub spent : State → Bool
+spent (Alone kept) = false
+spent (Spilled kept) = false
+spent Spent = true
+
+abbrev pub is_alone : Store → Bool
+is_alone store = alone store.state
+
+abbrev pub is_spilled : Store → Bool
+is_spilled store = spilled store.state
+
+abbrev pub is_spent : Store → Bool
+is_spent store = spent store.state
+
+-- The store's state fits the board, and so it isn't spent. No torn last entry waits to be completed.
+abbrev pub FitsState : {B : Type 0} → Ghosts B → B → State → Bytes → Type 0
+FitsState g b (Alone kept) bytes = FitsAlone g b kept bytes
+FitsState g b (Spilled kept) bytes = FitsSpilled g b kept bytes × (kept.completable ≡ false)
+FitsState g b Spent bytes = ⊥
+
+abbrev pub Fits : {B : Type 0} → Ghosts B → B → Store → Type 0
+Fits g b store = FitsState g b store.state store.bytes
+
+-- the guard count
+abbrev pub guard_in : State → ℕ
+guard_in (Alone kept) = kept.guard
+guard_in (Spilled kept) = kept.guard
+guard_in Spent = 0
+
+abbrev pub guard_of : Store → ℕ
+guard_of store = guard_in store.state
+
+-- the guard count, and two more where the store is spilled: the switch that is due raises it by two
+abbrev pub guard_ahead : Store → ℕ
+guard_ahead store = guard_of store + (if is_spilled store then 2 else 0)
+
+-- The bytes that an entry of one of the caller's lines may take: the free bytes of home, and where the store is spilled
+-- those of the other sector less what is kept for the copy.
+abbrev pub room_in : State → Bytes → ℕ
+room_in (Alone kept) bytes = fits.free_of kept
+room_in (Spilled kept) bytes = fits.room_of kept bytes
+room_in Spent bytes = 0
+
+abbrev pub room_of : Store → ℕ
+room_of store = room_in store.state store.bytes
+
+-- the free bytes of both sectors together
+abbrev pub free_in : State → ℕ
+free_in (Alone kept) = fits.free_of kept + (kept.sector_bytes - 4)
+free_in (Spilled kept) = fits.free_of kept + option_map_or (λ log. kept.sector_bytes - 2 * log.end) kept.other 0
+free_in Spent = 0
+
+abbrev pub free_of : Store → ℕ
+free_of store = free_in store.state
+
+-- What an armed vehicle may still write: ten bytes for each line of the budget, and the room of a spilled store.
+abbrev pub spare_in : State → Bytes → ℕ
+spare_in (Alone kept) bytes = 10 * budget_of kept.sector_bytes
+spare_in (Spilled kept) bytes = fits.room_of kept bytes
+spare_in Spent bytes = 0
+
+abbrev pub spare_of : Store → ℕ
+spare_of store = spare_in store.state store.bytes
+
+-- these lines have ascending numbers without a gap, from this one on
+abbrev pub Ascend : ℕ → List LineWrite → Type 0
+Ascend line [] = Unit {0}
+Ascend line (write ∷ writes) = (write.line ≡ line) × Ascend (line + 1) writes
+
+-- an entry is 1 to 8 such lines of the storage
+pub record IsEntry (writes : List LineWrite) : Type 0 where
+  pub first : ℕ
+  pub ascend : Ascend first writes
+  pub some : 1 ≤ length writes
+  pub most : length writes ≤ 8
+  pub inside : first + length writes ≤ LINES
+
+-- the bytes of flash that an entry takes: its header and eight for each line
+abbrev pub entry_bytes : List LineWrite → ℕ
+entry_bytes writes = 2 + 8 * length writes
+
+-- There is no room for an entry of so many bytes where the store is spilled, or home's free bytes are fewer.
+abbrev pub lacks_in : State → ℕ → Bool
+lacks_in (Alone kept) size = nat_lt (fits.free_of kept) size
+lacks_in (Spilled kept) size = true
+lacks_in Spent size = true
+
+abbrev pub lacks_room : Store → ℕ → Bool
+lacks_room store size = lacks_in store.state size
+
+-- a call that isn't armed switches sectors where there is no room, and the guard count rises by two
+abbrev pub raise : Bool → Store → ℕ → ℕ
+raise armed store size = if armed then 0 else (if lacks_room store size then 2 else 0)
