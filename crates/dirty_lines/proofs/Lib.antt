@@ -1,0 +1,3 @@
+pub mod RunLemmas
+pub mod Cuts
+pub mod Puts

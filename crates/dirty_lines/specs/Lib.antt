@@ -1,0 +1,5 @@
+pub mod Lines
+pub mod Entries
+pub mod Losses
+pub mod Inside
+pub mod Flushing
