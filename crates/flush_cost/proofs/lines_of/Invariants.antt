@@ -1,0 +1,6 @@
+use Rattle.std.proofs.Common.{◌≡◌, length}
+use Rattle.dirty_lines.specs.Lines.{AreInside}
+use Rattle.flush_cost.proofs.lines_of.Given as goal
+
+abbrev pub invariant-loop-at : goal.invariant-loop-at
+invariant-loop-at l = record { inside : AreInside l.batch.items; count : length l.batch.items ≡ l.at }
