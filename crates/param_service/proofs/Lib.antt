@@ -1,0 +1,5 @@
+pub mod Showing
+pub mod Asking
+pub mod Numbers
+pub mod Counting
+pub mod Changing

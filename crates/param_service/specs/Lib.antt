@@ -1,0 +1,5 @@
+pub mod Requests
+pub mod Service
+pub mod Replies
+pub mod Inside
+pub mod Setting

@@ -1,0 +1,39 @@
+-- The messages by which values are shown.
+use Rattle.std.specs.Prelude.{◌≡◌, ◌≢◌, ℕ, ◌^◌, List, IfSome, slice_get}
+use Rattle.std.specs.List.{AllZip}
+use Rattle.word_bits.specs.Pattern.{IsNearest}
+use Rattle.param_tree.specs.declared.Kind.{Kind}
+use Rattle.param_tree.specs.declared.Kind.TheVariants.{I8, I16, I32, F32, Vec3}
+use Rattle.param_tree.specs.Rows.{vehicle_rows}
+use Rattle.param_records.specs.declared.values.Value.{Value}
+use Rattle.param_records.specs.declared.values.Value.TheVariants.{Whole, Bits}
+use Rattle.mav_messages.specs.declared.messages.Message.{Message}
+use Rattle.mav_messages.specs.declared.messages.Message.TheVariants.{ParamValue}
+use Rattle.mav_messages.specs.declared.messages.Reply.{Reply}
+use Rattle.param_service.specs.Requests.{parameters}
+use Rattle.param_service.specs.Service.{Shown}
+
+-- the binary32 pattern of a value: the nearest to a whole number, and never minus zero; a float's is itself
+abbrev pub IsPatternOf : Value → ℕ → Type 0
+IsPatternOf (Whole z) bits = IsNearest bits z 1 × (bits ≢ 2 ^ 31)
+IsPatternOf (Bits pattern) bits = bits ≡ pattern
+
+-- MAV_PARAM_TYPE: INT8, INT16, INT32, REAL32
+abbrev pub type_of : Kind → ℕ
+type_of I8 = 2
+type_of I16 = 4
+type_of I32 = 6
+type_of F32 = 9
+type_of Vec3 = 9
+
+-- the PARAM_VALUE of a row with this value
+abbrev pub ShowsValue : ℕ → Value → Message → Type 0
+ShowsValue index value message = IfSome (slice_get vehicle_rows index) (λ row. (bits : ℕ) × IsPatternOf value bits × (message ≡ ParamValue bits parameters index row.name (type_of row.kind)))
+
+-- a reply to the same with the row's PARAM_VALUE
+abbrev pub IsReplyOf : Shown → Reply → Type 0
+IsReplyOf shown reply = (reply.to ≡ shown.to) × ShowsValue shown.index shown.value reply.message
+
+-- the replies show these values, in order
+abbrev pub AreRepliesOf : List Shown → List Reply → Type 0
+AreRepliesOf shown replies = AllZip IsReplyOf shown replies

@@ -1,0 +1,60 @@
+//! Which messages are for the vehicle, and which rows they name.
+ghost use Rattle.std.specs.Prelude.{◌≡◌, ◌<◌, ◌==◌, IfSome};
+ghost use Rattle.std.specs.List.{before_first};
+ghost use Rattle.param_tree.specs.Rows.{vehicle_rows};
+ghost use Rattle.param_service.specs.Requests.{is_for, parameters, row_named, row_of};
+
+use param_tree::Table;
+
+/// How many parameters the vehicle has.
+pub const PARAMETERS: u16 = 240;
+
+/// The vehicle's system, and its component.
+const VEHICLE: u8 = 1;
+
+/// The index of PARAM_REQUEST_READ with which the name counts.
+const BY_NAME: i16 = -1;
+
+/// Whether a message with this target is for the vehicle: 0 is everybody.
+pub fn is_vehicle(system: u8, component: u8) -> bool
+    ensures { result ≡ is_for system component }
+{
+    system <= VEHICLE && component <= VEHICLE
+}
+
+/// A name without the zeros behind it.
+pub fn name_in(bytes: &[u8; 16]) -> &[u8]
+    ensures { result.now ≡ before_first (λ b. b == 0) bytes.now }
+{
+    for (i, b) in bytes.iter().enumerate() {
+        if *b == 0 {
+            return &bytes[..i];
+        }
+    }
+    bytes
+}
+
+/// The row with a name.
+pub fn row_named(table: &Table<240>, name: &[u8; 16]) -> Option<u16>
+    requires { table.now ≡ vehicle_rows }
+    ensures row { result ≡ row_named name.now }
+    ensures inside { IfSome result (λ row. row < parameters) }
+{
+    table.rules();
+    table.find(name_in(name))
+}
+
+/// The row with an index, or with a name where the index is -1.
+pub fn row_of(table: &Table<240>, index: i16, name: &[u8; 16]) -> Option<u16>
+    requires { table.now ≡ vehicle_rows }
+    ensures row { result ≡ row_of index name.now }
+    ensures inside { IfSome result (λ row. row < parameters) }
+{
+    if index == BY_NAME {
+        row_named(table, name)
+    } else if index >= 0 && index < PARAMETERS as i16 {
+        Some(index as u16)
+    } else {
+        None
+    }
+}

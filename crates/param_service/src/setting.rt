@@ -1,0 +1,79 @@
+//! Setting a row as a station asks for it.
+ghost use Rattle.std.specs.Prelude.{◌≡◌, ◌<◌, ◌≤◌, ◌↔◌, [], ℕ, All, length, take, slice_get, IfSome, IsTrue};
+ghost use Rattle.storage_lines.specs.declared.lines.TheConstants.{STORAGE_BYTES, LINES};
+ghost use Rattle.storage_lines.specs.Lines.{after};
+ghost use Rattle.param_tree.specs.Rows.{vehicle_rows};
+ghost use Rattle.param_records.specs.declared.values.Value.{Value};
+ghost use Rattle.param_records.specs.Patterns.{IsNumberOf, IsValueOf};
+ghost use Rattle.param_records.specs.Steps.{HasMagic};
+ghost use Rattle.param_service.specs.Requests.{parameters};
+ghost use Rattle.param_service.specs.Service.{is_total};
+ghost use Rattle.param_service.specs.Setting.{IsSet};
+
+use crate::names::name_in;
+use crate::values::row_value;
+use param_records::{Value, set};
+use param_tree::{Kind, Table, Var};
+use storage_lines::{Area, Batch, read};
+use word_bits::whole_of;
+
+/// Whether the row counts mission commands or rally points, which no station sets.
+fn is_total(row: &Var) -> bool
+    ensures { result ≡ is_total row.now }
+{
+    let name = name_in(&row.name);
+    name == b"MIS_TOTAL".as_slice() || name == b"RALLY_TOTAL".as_slice()
+}
+
+/// Whether the parameter storage begins with the magic, `50 41 06 00`.
+fn has_magic(current: &[u8]) -> bool
+    requires { length current.now ≡ STORAGE_BYTES }
+    ensures { IsTrue result ↔ HasMagic current.now }
+{
+    let mut front = [0; 4];
+    read(Area::Param, 0, current, &mut front);
+    front == [80, 65, 6, 0]
+}
+
+/// The value that a pattern is for a kind.
+fn value_of(kind: Kind, bits: u32) -> Value
+    requires { (n : ℕ) × IsNumberOf kind bits n }
+    ensures { (value : Value) → IsValueOf kind bits value → value ≡ result }
+{
+    match kind {
+        Kind::I8 | Kind::I16 | Kind::I32 => match whole_of(bits) {
+            Some(number) => Value::Whole(number),
+            None => unreachable!(),
+        },
+        Kind::F32 | Kind::Vec3 => Value::Bits(bits),
+    }
+}
+
+/// Sets a row to the value of a pattern where it may be set and can be, and gives the value that it then has.
+pub fn set_row(
+    table: &Table<240>,
+    current: &[u8],
+    index: u16,
+    bits: u32,
+    batch: &mut Batch,
+) -> Value
+    requires rows { table.now ≡ vehicle_rows }
+    requires size { length current.now ≡ STORAGE_BYTES }
+    requires row { index < parameters }
+    requires batch { batch.old.items ≡ [] }
+    ensures value { IfSome (slice_get vehicle_rows index) (λ row. IsSet current.now row index bits batch.new.items result) }
+    ensures inside { All (λ write. write.line < LINES) batch.new.items }
+    ensures few { length batch.new.items ≤ 8 }
+    ensures magic { HasMagic current.now → (j : ℕ) → HasMagic (after current.now (take j batch.new.items)) }
+{
+    let row = table.row(index);
+    if is_total(&row) {
+        return row_value(table, current, index);
+    }
+    match set(current, table, index, bits, batch) {
+        Ok(()) if has_magic(current) => value_of(row.kind, bits),
+        // Without the magic the storage has no records: the row has its default still.
+        Ok(()) => row_value(table, current, index),
+        Err(_) => row_value(table, current, index),
+    }
+}

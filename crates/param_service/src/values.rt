@@ -1,0 +1,66 @@
+//! The values of rows, and the messages that show them.
+ghost use Rattle.std.specs.Prelude.{◌≡◌, ◌<◌, length, slice_get, Some};
+ghost use Rattle.storage_lines.specs.declared.lines.TheConstants.{STORAGE_BYTES};
+ghost use Rattle.param_tree.specs.Rows.{vehicle_rows};
+ghost use Rattle.param_tree.specs.declared.Var.{Var};
+ghost use Rattle.param_records.specs.Values.{params_of};
+ghost use Rattle.param_service.specs.Requests.{parameters};
+ghost use Rattle.param_service.specs.Replies.{IsPatternOf, IsReplyOf, type_of};
+
+use crate::names::PARAMETERS;
+use mav_messages::{Message, Reply, To};
+use param_records::{Value, value};
+use param_tree::{Kind, Table};
+use word_bits::bits_of;
+
+/// The value of a row.
+pub fn row_value(table: &Table<240>, current: &[u8], row: u16) -> Value
+    requires rows { table.now ≡ vehicle_rows }
+    requires size { length current.now ≡ STORAGE_BYTES }
+    requires row { row < parameters }
+    ensures { (r : Var) × (slice_get vehicle_rows row ≡ Some r) × (result ≡ params_of current.now r) }
+{
+    value(current, table, row)
+}
+
+/// The binary32 pattern of a value.
+fn pattern_of(value: Value) -> u32
+    ensures { IsPatternOf value result }
+{
+    match value {
+        Value::Whole(number) => bits_of(number),
+        Value::Bits(bits) => bits,
+    }
+}
+
+/// MAV_PARAM_TYPE of MAVLink's common message set: INT8, INT16, INT32, REAL32.
+fn type_of(kind: Kind) -> u8
+    ensures { result ≡ type_of kind }
+{
+    match kind {
+        Kind::I8 => 2,
+        Kind::I16 => 4,
+        Kind::I32 => 6,
+        Kind::F32 | Kind::Vec3 => 9,
+    }
+}
+
+/// The reply that shows a row with this value: its PARAM_VALUE.
+pub fn reply(table: &Table<240>, to: To, index: u16, value: Value) -> Reply
+    requires rows { table.now ≡ vehicle_rows }
+    requires row { index < parameters }
+    ensures { IsReplyOf (record { to = to; index = index; value = value }) result }
+{
+    let row = table.row(index);
+    let param_id = row.name;
+    Reply {
+        to,
+        message: Message::ParamValue {
+            param_value: pattern_of(value),
+            param_count: PARAMETERS,
+            param_index: index,
+            param_id,
+            param_type: type_of(row.kind),
+        },
+    }
+}
