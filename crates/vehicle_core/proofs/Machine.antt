@@ -1,0 +1,103 @@
+-- The parts of an event, as the crate's calls do them.
+use Rattle.std.proofs.Common.{◌≡◌, ℕ, ◌<◌, Bool, true, false, cond, List, [], ◌∷◌, length, get_or, refl, sym, ◌∙◌, ap, subst, Option, Some, None, option_map}
+use Rattle.std.specs.Prelude.{map, slice_get, slice_set}
+use Rattle.std.specs.Option.{option_map_or}
+use Rattle.std.proofs.lemmas.List.{map-set}
+use Rattle.std.proofs.lemmas.Option.{slice_get-map, slice_get-get_or}
+use Rattle.storage_lines.specs.declared.lines.LineWrite.{LineWrite}
+use Rattle.mav_messages.specs.declared.messages.Reply.{Reply}
+use Rattle.mav_messages.specs.declared.messages.To.TheVariants.{Station}
+use Rattle.param_service.specs.Requests.{Request}
+use Rattle.param_service.specs.Service.{Shown}
+use Rattle.param_service.specs.Service as parameters
+use Rattle.param_service.specs.Replies as showing
+use Rattle.vehicle_core.specs.declared.StationState.{StationState as Inner}
+use Rattle.vehicle_core.specs.Inside.{stations_of}
+use Rattle.vehicle_core.specs.Vehicle.{Vehicle, StationState, Asked, Parameters, Alive, Told, tells_value, is_heard, is_version_two, hears}
+use Rattle.vehicle_core.specs.Parts.{Did, Said, Beat, Stream, did, nothing, by_parameters, asked_of}
+use Rattle.vehicle_core.specs.Replies.{AreRepliesOf}
+
+-- a station inside, as it is seen
+abbrev seen : Inner → StationState
+seen s = record { heard = s.heard; version_two = s.version_two }
+
+pub stations-set : (inner : List Inner) (i : ℕ) (s : Inner) → stations_of (slice_set inner i s) ≡ slice_set (stations_of inner) i (seen s)
+stations-set inner i s = map-set seen inner i s
+
+seen_at : (inner : List Inner) (i : ℕ) (d : Inner) → i < length inner → slice_get (stations_of inner) i ≡ Some (seen (get_or inner i d))
+seen_at inner i d less = slice_get-map seen inner i ∙ ap (option_map seen) (slice_get-get_or inner i d less)
+
+module _ (inner : List Inner) (next_rows : List ℕ) (vehicle : Vehicle) (i : ℕ) (d : Inner) (view : record { stations = stations_of inner; next_rows = next_rows } ≡ vehicle) (less : i < length inner) where
+  pub heard_is : (get_or inner i d).heard ≡ is_heard vehicle i
+  heard_is = sym (ap (λ (v : Vehicle). is_heard v i) (sym view) ∙ ap (λ (o : Option StationState). option_map_or (λ s. s.heard) o false) (seen_at inner i d less))
+
+  pub version_two_is : (get_or inner i d).version_two ≡ is_version_two vehicle i
+  version_two_is = sym (ap (λ (v : Vehicle). is_version_two v i) (sym view) ∙ ap (λ (o : Option StationState). option_map_or (λ s. s.version_two) o false) (seen_at inner i d less))
+
+pub all_told : (shown : List Shown) (replies : List Reply) → showing.AreRepliesOf shown replies → AreRepliesOf (map tells_value shown) replies
+all_told [] [] h = h
+all_told [] (r ∷ replies) h = absurd h
+all_told (s ∷ shown) [] h = absurd h
+all_told (s ∷ shown) (r ∷ replies) h = (h.0, all_told shown replies h.1)
+
+asked_is : (bytes : List ℕ) (vehicle : Vehicle) (station : ℕ) (request : Option Request) → asked_of bytes vehicle station (option_map Parameters request) ≡ by_parameters vehicle (parameters.did bytes vehicle.next_rows station request)
+asked_is bytes vehicle station None = refl
+asked_is bytes vehicle station (Some request) = refl
+
+did-said : (bytes : List ℕ) (vehicle : Vehicle) (station : ℕ) (version_two : Bool) (asked : Option Asked) → did bytes vehicle (Said station version_two asked) ≡ asked_of bytes (hears vehicle station version_two) station asked
+unfolding did
+did-said bytes vehicle station version_two asked = refl
+
+did-stream : (bytes : List ℕ) (vehicle : Vehicle) (station : ℕ) → is_heard vehicle station ≡ true → did bytes vehicle (Stream station) ≡ by_parameters vehicle (parameters.streamed bytes vehicle.next_rows station)
+unfolding did
+did-stream bytes vehicle station h = ap (λ (b : Bool). cond b (by_parameters vehicle (parameters.streamed bytes vehicle.next_rows station)) (nothing vehicle)) h
+
+pub did-no_stream : (bytes : List ℕ) (vehicle : Vehicle) (station : ℕ) → is_heard vehicle station ≡ false → did bytes vehicle (Stream station) ≡ nothing vehicle
+unfolding did
+did-no_stream bytes vehicle station h = ap (λ (b : Bool). cond b (by_parameters vehicle (parameters.streamed bytes vehicle.next_rows station)) (nothing vehicle)) h
+
+-- what is told at a station's turn
+abbrev pub alive : ℕ → List Told
+alive station = record { to = Station station; content = Alive } ∷ []
+
+pub told-beat : (vehicle : Vehicle) (station : ℕ) → is_heard vehicle station ≡ true → (did [] vehicle (Beat station)).told ≡ alive station
+unfolding did
+told-beat vehicle station h = ap (λ (b : Bool). cond b (alive station) []) h
+
+pub told-no_beat : (vehicle : Vehicle) (station : ℕ) → is_heard vehicle station ≡ false → (did [] vehicle (Beat station)).told ≡ []
+unfolding did
+told-no_beat vehicle station h = ap (λ (b : Bool). cond b (alive station) []) h
+
+-- The parameter protocol did this, and so the vehicle did.
+pub record Follows (d : Did) (stations : List StationState) (next_rows : List ℕ) (writes : List LineWrite) (replies : List Reply) : Type 0 where
+  pub vehicle : record { stations = stations; next_rows = next_rows } ≡ d.vehicle
+  pub writes_are : writes ≡ d.writes
+  pub told : AreRepliesOf d.told replies
+
+pub follows : (d : Did) (vehicle : Vehicle) (p : parameters.Did) (next_rows : List ℕ) (writes : List LineWrite) (replies : List Reply) → d ≡ by_parameters vehicle p → next_rows ≡ p.next_rows → writes ≡ p.writes → showing.AreRepliesOf p.shown replies →
+    Follows d vehicle.stations next_rows writes replies
+follows d vehicle p next_rows writes replies e next written shown =
+    record {
+      vehicle = ap (λ (n : List ℕ). let v : Vehicle = record { stations = vehicle.stations; next_rows = n } in v) next ∙ sym (ap (λ (x : Did). x.vehicle) e);
+      writes_are = written ∙ sym (ap (λ (x : Did). x.writes) e);
+      told = subst (λ (x : Did). AreRepliesOf x.told replies) (sym e) (all_told p.shown replies shown);
+    }
+
+pub said : (bytes : List ℕ) (inner : List Inner) (old next_rows : List ℕ) (vehicle : Vehicle) (station : ℕ) (version_two : Bool) (request : Option Request) (writes : List LineWrite) (replies : List Reply) →
+    record { stations = stations_of inner; next_rows = old } ≡ vehicle → next_rows ≡ (parameters.did bytes old station request).next_rows → writes ≡ (parameters.did bytes old station request).writes → showing.AreRepliesOf (parameters.did bytes old station request).shown replies →
+    Follows (did bytes vehicle (Said station version_two (option_map Parameters request))) (stations_of (slice_set inner station (record { heard = true; version_two = version_two }))) next_rows writes replies
+said bytes inner old next_rows vehicle station version_two request writes replies view next written shown =
+    let marked : Inner = record { heard = true; version_two = version_two } in
+    let heard : Vehicle = record { stations = stations_of (slice_set inner station marked); next_rows = old } in
+    let hears_is : hears vehicle station version_two ≡ heard =
+    ap (λ (v : Vehicle). hears v station version_two) (sym view)
+    ∙ ap (λ (s : List StationState). let v : Vehicle = record { stations = s; next_rows = old } in v) (sym (stations-set inner station marked)) in
+    let e = did-said bytes vehicle station version_two (option_map Parameters request) ∙ ap (λ (v : Vehicle). asked_of bytes v station (option_map Parameters request)) hears_is ∙ asked_is bytes heard station request in
+    follows _ heard (parameters.did bytes old station request) next_rows writes replies e next written shown
+
+pub streams : (bytes : List ℕ) (inner : List Inner) (old next_rows : List ℕ) (vehicle : Vehicle) (station : ℕ) (replies : List Reply) → record { stations = stations_of inner; next_rows = old } ≡ vehicle → is_heard vehicle station ≡ true →
+    next_rows ≡ (parameters.streamed bytes old station).next_rows → showing.AreRepliesOf (parameters.streamed bytes old station).shown replies → Follows (did bytes vehicle (Stream station)) (stations_of inner) next_rows [] replies
+streams bytes inner old next_rows vehicle station replies view heard next shown =
+    let inside : Vehicle = record { stations = stations_of inner; next_rows = old } in
+    let e = ap (λ (v : Vehicle). did bytes v (Stream station)) (sym view) ∙ did-stream bytes inside station (ap (λ (v : Vehicle). is_heard v station) view ∙ heard) in
+    follows _ inside (parameters.streamed bytes old station) next_rows [] replies e next refl shown

@@ -1,0 +1,4 @@
+pub mod Vehicle
+pub mod Parts
+pub mod Replies
+pub mod Inside

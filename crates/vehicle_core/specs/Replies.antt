@@ -1,0 +1,22 @@
+-- The messages by which the vehicle tells something.
+use Rattle.std.specs.Prelude.{◌≡◌, ℕ, List}
+use Rattle.std.specs.List.{AllZip}
+use Rattle.param_service.specs.Replies.{ShowsValue}
+use Rattle.mav_messages.specs.declared.messages.Message.{Message}
+use Rattle.mav_messages.specs.declared.messages.Message.TheVariants.{Heartbeat}
+use Rattle.mav_messages.specs.declared.messages.Reply.{Reply}
+use Rattle.vehicle_core.specs.Vehicle.{Content, Parameter, Alive, Told}
+
+-- The message says this: a PARAM_VALUE; or the HEARTBEAT of a quadrotor (type 2) with ArduPilot (3), not armed (base mode
+-- 1, system status 3), in MAVLink version 3.
+abbrev pub Tells : Content → Message → Type 0
+Tells (Parameter index value) message = ShowsValue index value message
+Tells Alive message = message ≡ Heartbeat 0 2 3 1 3 3
+
+-- a reply to the same that says this
+abbrev pub IsReplyOf : Told → Reply → Type 0
+IsReplyOf told reply = (reply.to ≡ told.to) × Tells told.content reply.message
+
+-- the replies say this, in order
+abbrev pub AreRepliesOf : List Told → List Reply → Type 0
+AreRepliesOf told replies = AllZip IsReplyOf told replies
