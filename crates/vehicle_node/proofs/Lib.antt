@@ -1,0 +1,15 @@
+pub mod LawsBelow
+pub mod RunLaws
+pub mod Readings
+pub mod At
+pub mod Passing
+pub mod Parts
+pub mod Heard
+pub mod Events
+pub mod Turns
+pub mod Boot
+pub mod Putting
+pub mod FramesSent
+pub mod RepliesSent
+pub mod PartAnswers
+pub mod StationsTold

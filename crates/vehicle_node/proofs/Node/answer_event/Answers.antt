@@ -1,0 +1,11 @@
+use Rattle.std.proofs.Common.{sym, subst, Ok}
+use Rattle.flash_board.specs.declared.board.Event.{Event}
+use Rattle.flash_board.specs.Losses.{received}
+use Rattle.vehicle_node.specs.Hearing.{TakeDone}
+use Rattle.vehicle_node.proofs.Events.{take_end}
+use Rattle.vehicle_node.proofs.Node.answer_event.Goals as goal
+
+pub returns-in-End-clause-done : goal.returns-in-End-clause-done
+returns-in-End-clause-done g c =
+    subst (λ (e : Event). TakeDone g.B.Board (received e c.args.buffer.now) c.args.self.now c.args.board.now (Ok tt) c.args.self.now c.args.board.now) (sym c.in-End.is)
+    (take_end g.B.Board g.met.B.Board.reads c.args.self.now c.args.board.now c.requires.fits)

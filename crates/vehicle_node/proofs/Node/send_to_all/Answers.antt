@@ -1,0 +1,43 @@
+use Rattle.std.proofs.Common.{◌+◌, ◌-◌, [], ◌∷◌, Ok, ◌∙◌, arith, subst}
+use Rattle.std.specs.List.{range_with_len}
+use Rattle.vehicle_core.specs.Vehicle.{Vehicle}
+use Rattle.vehicle_node.specs.Frames.{stations}
+use Rattle.vehicle_node.specs.Sending.{SendDone, deliveries_to}
+use Rattle.vehicle_node.proofs.RepliesSent.{keeps_then, done_then, done_short, vehicle_stays, to-more, to-rest}
+use Rattle.vehicle_node.proofs.Node.send_to_all.Goals as goal
+
+pub loop-station-preserved : goal.loop-station-preserved
+loop-station-preserved g c =
+    let i = c.loop-station.invariant in
+    let e = c.in_ok-send_if_heard.ensures in
+    let b = g.B.Board in
+    let old = c.args.self.now in
+    let n = c.loop-station.station in
+    let v = old.machine.vehicle in
+    record {
+      done = λ content tells.
+          let before = i.done content tells in
+          let sent = subst (λ (v : Vehicle). SendDone b (deliveries_to v (n ∷ []) content) c.loop-station.self c.loop-station.board (Ok tt) c.send_if_heard.new.self c.send_if_heard.new.board)
+          (vehicle_stays b (deliveries_to v (range_with_len 0 n) content) old c.args.board.now c.loop-station.self c.loop-station.board before) (e.done content tells) in
+          done_then b (deliveries_to v (range_with_len 0 n) content) (deliveries_to v (n ∷ []) content) (deliveries_to v (range_with_len 0 (n + 1)) content) old c.args.board.now
+          c.loop-station.self c.loop-station.board (Ok tt) c.send_if_heard.new.self c.send_if_heard.new.board before sent (to-more v n content);
+      lines = e.lines ∙ i.lines;
+      words = keeps_then b c.args.board.now c.loop-station.board c.send_if_heard.new.board i.words e.words;
+      faults = λ k. omega (arith, i.faults k, e.counts k);
+    }
+
+pub returns-in_err-send_if_heard-clause-done : goal.returns-in_err-send_if_heard-clause-done
+returns-in_err-send_if_heard-clause-done g c = λ content tells.
+    let i = c.loop-station.invariant in
+    let b = g.B.Board in
+    let old = c.args.self.now in
+    let n = c.loop-station.station in
+    let v = old.machine.vehicle in
+    let r = c.send_if_heard.result in
+    let before = i.done content tells in
+    let sent = subst (λ (v : Vehicle). SendDone b (deliveries_to v (n ∷ []) content) c.loop-station.self c.loop-station.board r c.send_if_heard.new.self c.send_if_heard.new.board)
+    (vehicle_stays b (deliveries_to v (range_with_len 0 n) content) old c.args.board.now c.loop-station.self c.loop-station.board before) (c.send_if_heard.ensures.done content tells) in
+    let some = done_then b (deliveries_to v (range_with_len 0 n) content) (deliveries_to v (n ∷ []) content) (deliveries_to v (range_with_len 0 (n + 1)) content) old c.args.board.now
+    c.loop-station.self c.loop-station.board r c.send_if_heard.new.self c.send_if_heard.new.board before sent (to-more v n content) in
+    done_short b (deliveries_to v (range_with_len 0 (n + 1)) content) (deliveries_to v (range_with_len (n + 1) (8 - (n + 1))) content) (deliveries_to v stations content) old c.args.board.now
+    r c.from_residual.result c.send_if_heard.new.self c.send_if_heard.new.board some c.from_residual.ensures.0 (to-rest v (n + 1) content (omega (arith, c.loop-station-test.true)))

@@ -1,0 +1,77 @@
+-- Whom the vehicle answers: the station of the part, or all.
+use Rattle.std.proofs.Common.{◌≡◌, ℕ, zero, suc, ◌<◌, length, get_or, arith, refl, true, false, List, [], ◌∷◌, ◌++◌, map, Option, Some, None, sym, subst}
+use Rattle.std.specs.Prelude.{slice_get, if◌then◌else◌}
+use Rattle.std.specs.List.{flat_map}
+use Rattle.std.specs.Option.{option_map_or}
+use Rattle.std.proofs.lemmas.List.{map-append}
+use Rattle.storage_lines.specs.Lines.{after}
+use Rattle.param_tree.specs.declared.Var.{Var}
+use Rattle.param_tree.specs.Rows.{vehicle_rows}
+use Rattle.param_records.specs.Values.{params_of}
+use Rattle.param_service.specs.Requests.{Request, Show, ShowAll, Set}
+use Rattle.param_service.specs.Service.{Shown, show, set_writes, streamed_rows, answered, streamed}
+use Rattle.mav_messages.specs.declared.messages.To.{To}
+use Rattle.mav_messages.specs.declared.messages.To.TheVariants.{Station}
+use Rattle.mav_messages.specs.declared.messages.To.TheVariants as to
+use Rattle.mav_messages.specs.declared.messages.Reply.{Reply}
+use Rattle.vehicle_core.specs.Vehicle.{Vehicle, Parameters, Told, Alive, tells_value, is_heard}
+use Rattle.vehicle_core.specs.Parts.{Part, Said, Beat, Stream, did, nothing, by_parameters}
+use Rattle.vehicle_core.specs.Replies.{AreRepliesOf}
+use Rattle.vehicle_node.specs.Sending.{IsInside}
+
+abbrev pub AreTold : List Told → Type 0
+AreTold [] = Unit {0}
+AreTold (t ∷ told) = IsInside t.to × AreTold told
+
+are-append : (xs ys : List Told) → AreTold xs → AreTold ys → AreTold (xs ++ ys)
+are-append [] ys front back = back
+are-append (x ∷ xs) ys front back = (front.0, are-append xs ys front.1 back)
+
+abbrev pub station_of : Part → ℕ
+station_of (Said station version_two asked) = station
+station_of (Beat station) = station
+station_of (Stream station) = station
+
+row_told : (to : To) (bytes : List ℕ) (index : ℕ) (row : Option Var) → IsInside to
+    → AreTold (map tells_value (option_map_or (λ (row : Var). let s : Shown = record { to = to; index = index; value = params_of bytes row } in s ∷ []) row []))
+row_told to bytes index None inside = tt
+row_told to bytes index (Some row) inside = (inside, tt)
+
+told-append : (xs ys : List Shown) → AreTold (map tells_value xs) → AreTold (map tells_value ys) → AreTold (map tells_value (xs ++ ys))
+told-append xs ys front back = subst AreTold (sym (map-append tells_value xs ys)) (are-append (map tells_value xs) (map tells_value ys) front back)
+
+rows_told : (to : To) (bytes rows : List ℕ) → IsInside to → AreTold (map tells_value (flat_map (show to bytes) rows))
+rows_told to bytes [] inside = tt
+rows_told to bytes (row ∷ rows) inside =
+    told-append (show to bytes row) (flat_map (show to bytes) rows) (row_told to bytes row (slice_get vehicle_rows row) inside) (rows_told to bytes rows inside)
+
+answer_told : (bytes next_rows : List ℕ) (station : ℕ) (request : Request) → station < 8 → AreTold (map tells_value (answered bytes next_rows station request).shown)
+answer_told bytes next_rows station (Show index) lt = row_told (Station station) bytes index (slice_get vehicle_rows index) lt
+answer_told bytes next_rows station ShowAll lt = tt
+answer_told bytes next_rows station (Set index number) lt = row_told to.All (after bytes (set_writes bytes index number)) index (slice_get vehicle_rows index) tt
+
+pub part_told : (bytes : List ℕ) (vehicle : Vehicle) (p : Part) → station_of p < 8 → AreTold (did bytes vehicle p).told
+unfolding did
+part_told bytes vehicle (Said station version_two None) lt = tt
+part_told bytes vehicle (Said station version_two (Some (Parameters request))) lt = answer_told bytes vehicle.next_rows station request lt
+part_told bytes vehicle (Beat station) lt =
+    elim (is_heard vehicle station) as (λ b. AreTold (if b then (let t : Told = record { to = Station station; content = Alive } in t ∷ []) else [])) [ true ↦ (lt, tt) | false ↦ tt ]
+part_told bytes vehicle (Stream station) lt =
+    elim (is_heard vehicle station) as (λ b. AreTold (if b then by_parameters vehicle (streamed bytes vehicle.next_rows station) else nothing vehicle).told) [
+      | true ↦ rows_told (Station station) bytes (streamed_rows vehicle.next_rows station) lt
+      | false ↦ tt
+    ]
+
+-- so the replies go to stations that there are
+pub replies_inside : (told : List Told) (replies : List Reply) → AreRepliesOf told replies → AreTold told → (k : ℕ) (d : Reply) → k < length replies → IsInside (get_or replies k d).to
+replies_inside [] [] are inside k d lt = absurd (omega arith)
+replies_inside [] (r ∷ replies) are inside k d lt = absurd are
+replies_inside (t ∷ told) [] are inside k d lt = absurd are
+replies_inside (t ∷ told) (r ∷ replies) are inside zero d lt = subst IsInside (sym are.0.0) inside.0
+replies_inside (t ∷ told) (r ∷ replies) are inside (suc k) d lt = replies_inside told replies are.1 inside.1 k d (omega arith)
+
+-- a list that goes on writes nothing
+pub stream_writes : (bytes : List ℕ) (vehicle : Vehicle) (station : ℕ) → (did bytes vehicle (Stream station)).writes ≡ []
+unfolding did
+stream_writes bytes vehicle station =
+    elim (is_heard vehicle station) as (λ b. (if b then by_parameters vehicle (streamed bytes vehicle.next_rows station) else nothing vehicle).writes ≡ []) [ true ↦ refl | false ↦ refl ]

@@ -1,0 +1,34 @@
+-- What the refusals say.
+use Rattle.std.specs.Prelude.{ℕ}
+use Rattle.flash_board.specs.declared.board.Fault.{Fault}
+use Rattle.sector_switch.specs.FirstBad.{Place, place_of}
+use Rattle.vehicle_node.specs.declared.NodeError.{NodeError}
+use Rattle.vehicle_node.specs.declared.NodeError.TheVariants as node_error
+
+-- what holds where memory is wanting
+abbrev pub OnMemory : NodeError → Type 0 → Type 0
+OnMemory node_error.Memory P = P
+OnMemory (node_error.Fault kind) P = Unit {0}
+OnMemory (node_error.Foreign region offset word) P = Unit {0}
+OnMemory (node_error.Worn count) P = Unit {0}
+
+-- what holds where a call of the board failed, of its kind
+abbrev pub OnFault : NodeError → (Fault → Type 0) → Type 0
+OnFault node_error.Memory P = Unit {0}
+OnFault (node_error.Fault kind) P = P kind
+OnFault (node_error.Foreign region offset word) P = Unit {0}
+OnFault (node_error.Worn count) P = Unit {0}
+
+-- what holds where the words are no image, of the first foreign word
+abbrev pub OnForeign : NodeError → (Place → Type 0) → Type 0
+OnForeign node_error.Memory P = Unit {0}
+OnForeign (node_error.Fault kind) P = Unit {0}
+OnForeign (node_error.Foreign region offset word) P = P (place_of region offset word)
+OnForeign (node_error.Worn count) P = Unit {0}
+
+-- what holds where the guard row is used up, of its count
+abbrev pub OnWorn : NodeError → (ℕ → Type 0) → Type 0
+OnWorn node_error.Memory P = Unit {0}
+OnWorn (node_error.Fault kind) P = Unit {0}
+OnWorn (node_error.Foreign region offset word) P = Unit {0}
+OnWorn (node_error.Worn count) P = P count

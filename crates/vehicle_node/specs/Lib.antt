@@ -1,0 +1,12 @@
+pub mod Frames
+pub mod Reading
+pub mod Runs
+pub mod Safe
+pub mod Standing
+pub mod Answers
+pub mod Inside
+pub mod Answering
+pub mod Hearing
+pub mod Laws
+pub mod Opening
+pub mod Sending

@@ -1,0 +1,64 @@
+-- How events are read: the bytes of each station are one stream, whatever the borders of its datagrams, and each right
+-- frame in it has a message.
+use Rattle.std.specs.Prelude.{◌≡◌, ◌⊎◌, ℕ, List, [], ◌∷◌, ◌++◌, map, replicate, Option, Some, slice_get, slice_set}
+use Rattle.flash_board.specs.Losses.{Received, Datagram, Idle, End}
+use Rattle.mav_messages.specs.declared.messages.Message.{Message}
+use Rattle.mav_messages.specs.Messages.{FitsTypes}
+use Rattle.mav_frames.specs.Cut.{Piece, Cut, frames_in}
+use Rattle.mav_frames.specs.Frames.{IsMessageOf, is_v2}
+use Rattle.vehicle_core.specs.Vehicle.{Asked, Asks}
+use Rattle.vehicle_core.specs.Parts.{Part, Said, Beat, Stream}
+use Rattle.vehicle_node.specs.Frames.{stations}
+
+-- the bytes of each station that don't make a whole frame yet; none at the start
+abbrev pub no_rests : List (List ℕ)
+no_rests = replicate 8 []
+
+-- a frame that has no message says nothing: it isn't right
+abbrev pub IsSilent : List ℕ → Type 0
+IsSilent bytes = (message : Message) → FitsTypes message → IsMessageOf bytes message → ⊥
+
+-- The frame's message asks for this.
+pub record Says (bytes : List ℕ) (asked : Option Asked) : Type 0 where
+  pub message : Message
+  pub is : IsMessageOf bytes message
+  pub fits : FitsTypes message
+  pub asks : Asks message asked
+
+-- what a station says by these frames, in order
+abbrev pub AreSaid : ℕ → List (List ℕ) → List Part → Type 0
+AreSaid station [] parts = parts ≡ []
+AreSaid station (bytes ∷ frames) parts =
+    (IsSilent bytes × AreSaid station frames parts)
+    ⊎ ((asked : Option Asked) × (more : List Part) × Says bytes asked × AreSaid station frames more × (parts ≡ Said station (is_v2 bytes) asked ∷ more))
+
+-- behind the messages of an event each station's list goes on
+abbrev pub streams : List Part
+streams = map Stream stations
+
+-- at an idle turn each station is told that the vehicle is there
+abbrev pub beats : List Part
+beats = map Beat stations
+
+-- A datagram lengthens its station's stream.
+pub record IsDatagram (station : ℕ) (bytes : List ℕ) (old : List (List ℕ)) (parts : List Part) (new : List (List ℕ)) : Type 0 where
+  pub rest : List ℕ
+  pub rest_is : slice_get old station ≡ Some rest
+  pub pieces : List Piece
+  pub new_rest : List ℕ
+  pub cut : Cut (rest ++ bytes) pieces new_rest
+  pub said : List Part
+  pub are_said : AreSaid station (frames_in pieces) said
+  pub parts_are : parts ≡ said ++ streams
+  pub new_is : new ≡ slice_set old station new_rest
+
+-- the parts of an event, and each station's rest before and behind it
+abbrev pub IsEvent : List (List ℕ) → Received → List Part → List (List ℕ) → Type 0
+IsEvent old (Datagram station bytes) parts new = IsDatagram station bytes old parts new
+IsEvent old Idle parts new = (parts ≡ beats ++ streams) × (new ≡ old)
+IsEvent old End parts new = (parts ≡ []) × (new ≡ old)
+
+-- the parts of each of these events, one after another
+abbrev pub Reads : List (List ℕ) → List Received → List (List Part) → List (List ℕ) → Type 0
+Reads old [] events new = (events ≡ []) × (new ≡ old)
+Reads old (e ∷ es) events new = (parts : List Part) × (mid : List (List ℕ)) × (more : List (List Part)) × IsEvent old e parts mid × Reads mid es more new × (events ≡ parts ∷ more)

@@ -1,0 +1,149 @@
+// Replies sent as frames.
+ghost use Rattle.std.specs.Prelude.{◌≡◌, ◌<◌, ◌≤◌, [], ◌∷◌, List, All, IfErr};
+ghost use Rattle.flash_board.specs.Words.{IsSectorSize};
+ghost use Rattle.flash_board.specs.declared.board.Fault.{Fault};
+ghost use Rattle.flash_board.specs.declared.board.Fault.TheVariants.{Send};
+ghost use Rattle.flash_board.specs.Losses.{KeepsWords};
+ghost use Rattle.flash_board.specs.Causes.{Rose};
+ghost use Rattle.vehicle_core.specs.Vehicle.{Content, Told};
+ghost use Rattle.vehicle_core.specs.Replies.{Tells, IsReplyOf, AreRepliesOf};
+ghost use Rattle.vehicle_node.specs.Frames.{stations, deliveries_of, deliveries};
+ghost use Rattle.vehicle_node.specs.Sending.{IsInside, SendDone, delivery, deliveries_to, Counted};
+ghost use Rattle.vehicle_node.specs.Answers.{OnMemory, OnFault, OnForeign, OnWorn};
+
+use crate::{Node, NodeError};
+use flash_board::{Board, Fault};
+use mav_frames::write_frame;
+use mav_messages::{Message, Replies, Reply, To};
+
+/// The system and the component of the vehicle.
+const SYSTEM: u8 = 1;
+
+const COMPONENT: u8 = 1;
+
+impl Node {
+    /// A frame was sent to a station.
+    fn count_frame(&mut self, station: u8)
+        requires station { station < 8 }
+        ensures { Counted station self.old self.new }
+    {
+        let sequence = self.sequences[station as usize];
+        self.sequences[station as usize] = sequence.wrapping_add(1);
+        self.frames = self.frames.saturating_add(1);
+    }
+
+    /// Sends a message to a station, as a frame of the station's version.
+    fn send_message<B: Board>(
+        &mut self,
+        board: &mut B,
+        station: u8,
+        message: &Message,
+    ) -> Result<(), NodeError>
+        requires attached { IsSectorSize (B.sector_bytes board.old) }
+        requires station { station < 8 }
+        ensures done { (content : Content) → Tells content message.now → SendDone B.Board (delivery station content ∷ []) self.old board.old result self.new board.new }
+        ensures lines { self.new.lines ≡ self.old.lines }
+        ensures words { KeepsWords B.sector_bytes B.tells B.words board.old board.new }
+        ensures never_memory { IfErr result (λ e. OnMemory e ⊥) }
+        ensures never_foreign { IfErr result (λ e. OnForeign e (λ place. ⊥)) }
+        ensures never_worn { IfErr result (λ e. OnWorn e (λ count. ⊥)) }
+        ensures fault { IfErr result (λ e. OnFault e (λ kind. (kind ≡ Send) × Rose (B.faults board.old kind) (B.faults board.new kind))) }
+        ensures counts { (k : Fault) → B.faults board.old k ≤ B.faults board.new k }
+    {
+        let version_two = self.core.version_two(station);
+        let sequence = self.sequences[station as usize];
+        let frame = write_frame(message, version_two, SYSTEM, COMPONENT, sequence);
+        match board.send(station, frame.as_slice()) {
+            Ok(()) => {
+                self.count_frame(station);
+                Ok(())
+            }
+            Err(_) => Err(NodeError::Fault(Fault::Send)),
+        }
+    }
+
+    /// The same, where the station was heard.
+    fn send_if_heard<B: Board>(
+        &mut self,
+        board: &mut B,
+        station: u8,
+        message: &Message,
+    ) -> Result<(), NodeError>
+        requires attached { IsSectorSize (B.sector_bytes board.old) }
+        requires station { station < 8 }
+        ensures done { (content : Content) → Tells content message.now → SendDone B.Board (deliveries_to self.old.machine.vehicle (station ∷ []) content) self.old board.old result self.new board.new }
+        ensures lines { self.new.lines ≡ self.old.lines }
+        ensures words { KeepsWords B.sector_bytes B.tells B.words board.old board.new }
+        ensures never_memory { IfErr result (λ e. OnMemory e ⊥) }
+        ensures never_foreign { IfErr result (λ e. OnForeign e (λ place. ⊥)) }
+        ensures never_worn { IfErr result (λ e. OnWorn e (λ count. ⊥)) }
+        ensures fault { IfErr result (λ e. OnFault e (λ kind. (kind ≡ Send) × Rose (B.faults board.old kind) (B.faults board.new kind))) }
+        ensures counts { (k : Fault) → B.faults board.old k ≤ B.faults board.new k }
+    {
+        if self.core.heard(station) {
+            self.send_message(board, station, message)
+        } else {
+            Ok(())
+        }
+    }
+
+    /// Sends a message to all stations that were heard, ascending.
+    fn send_to_all<B: Board>(&mut self, board: &mut B, message: &Message) -> Result<(), NodeError>
+        requires attached { IsSectorSize (B.sector_bytes board.old) }
+        ensures done { (content : Content) → Tells content message.now → SendDone B.Board (deliveries_to self.old.machine.vehicle stations content) self.old board.old result self.new board.new }
+        ensures lines { self.new.lines ≡ self.old.lines }
+        ensures words { KeepsWords B.sector_bytes B.tells B.words board.old board.new }
+        ensures never_memory { IfErr result (λ e. OnMemory e ⊥) }
+        ensures never_foreign { IfErr result (λ e. OnForeign e (λ place. ⊥)) }
+        ensures never_worn { IfErr result (λ e. OnWorn e (λ count. ⊥)) }
+        ensures fault { IfErr result (λ e. OnFault e (λ kind. (kind ≡ Send) × Rose (B.faults board.old kind) (B.faults board.new kind))) }
+        ensures counts { (k : Fault) → B.faults board.old k ≤ B.faults board.new k }
+    {
+        for station in 0..8 {
+            self.send_if_heard(board, station, message)?;
+        }
+        Ok(())
+    }
+
+    /// Sends a reply to its station, or to all that were heard.
+    fn send_reply<B: Board>(&mut self, board: &mut B, reply: &Reply) -> Result<(), NodeError>
+        requires attached { IsSectorSize (B.sector_bytes board.old) }
+        requires inside { IsInside reply.now.to }
+        ensures done { (told : Told) → IsReplyOf told reply.now → SendDone B.Board (deliveries_of self.old.machine.vehicle told) self.old board.old result self.new board.new }
+        ensures lines { self.new.lines ≡ self.old.lines }
+        ensures words { KeepsWords B.sector_bytes B.tells B.words board.old board.new }
+        ensures never_memory { IfErr result (λ e. OnMemory e ⊥) }
+        ensures never_foreign { IfErr result (λ e. OnForeign e (λ place. ⊥)) }
+        ensures never_worn { IfErr result (λ e. OnWorn e (λ count. ⊥)) }
+        ensures fault { IfErr result (λ e. OnFault e (λ kind. (kind ≡ Send) × Rose (B.faults board.old kind) (B.faults board.new kind))) }
+        ensures counts { (k : Fault) → B.faults board.old k ≤ B.faults board.new k }
+    {
+        match reply.to {
+            To::Station(station) => self.send_message(board, station, &reply.message),
+            To::All => self.send_to_all(board, &reply.message),
+        }
+    }
+
+    /// Sends replies in their order.
+    pub(crate) fn send_replies<B: Board>(
+        &mut self,
+        board: &mut B,
+        replies: &Replies,
+    ) -> Result<(), NodeError>
+        requires attached { IsSectorSize (B.sector_bytes board.old) }
+        requires inside { All (λ reply. IsInside reply.to) replies.now.items }
+        ensures done { (told : List Told) → AreRepliesOf told replies.now.items → SendDone B.Board (deliveries self.old.machine.vehicle told) self.old board.old result self.new board.new }
+        ensures lines { self.new.lines ≡ self.old.lines }
+        ensures words { KeepsWords B.sector_bytes B.tells B.words board.old board.new }
+        ensures never_memory { IfErr result (λ e. OnMemory e ⊥) }
+        ensures never_foreign { IfErr result (λ e. OnForeign e (λ place. ⊥)) }
+        ensures never_worn { IfErr result (λ e. OnWorn e (λ count. ⊥)) }
+        ensures fault { IfErr result (λ e. OnFault e (λ kind. (kind ≡ Send) × Rose (B.faults board.old kind) (B.faults board.new kind))) }
+        ensures counts { (k : Fault) → B.faults board.old k ≤ B.faults board.new k }
+    {
+        for reply in replies.as_slice() {
+            self.send_reply(board, reply)?;
+        }
+        Ok(())
+    }
+}

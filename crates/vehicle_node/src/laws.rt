@@ -1,0 +1,28 @@
+//! What holds of every reading of events.
+ghost use Rattle.vehicle_node.specs.Laws.{FramesAreRead, EventsAreRead, EventsAreReadOnce};
+
+use mav_frames::{a_message_or_none, one_message};
+use vehicle_core::asks_one_thing;
+
+/// A frame is silent, or it has one message, which asks for one thing.
+pub fn frames_are_read()
+    ensures { FramesAreRead }
+{
+    a_message_or_none();
+    asks_one_thing();
+    one_message();
+}
+
+/// Every list of events of the eight stations can be read.
+pub fn events_are_read()
+    ensures { EventsAreRead }
+{
+    frames_are_read();
+}
+
+/// Events are read in one way.
+pub fn events_are_read_once()
+    ensures { EventsAreReadOnce }
+{
+    frames_are_read();
+}

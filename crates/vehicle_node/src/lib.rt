@@ -1,0 +1,206 @@
+//! A node: the vehicle machine over a board, with its lines pending until they are put.
+//!
+//! A loss of power at any moment leaves the storage bytes after a first part of the issued lines, which has every flushed
+//! one, and the frames that were sent are the first answers of the vehicle machine.
+#![tactic(auto)]
+
+ghost use Rattle.std.specs.Prelude.{◌≡◌, ◌⊎◌, ◌+◌, ◌≤◌, ◌↔◌, ◌++◌, [], List, ℕ, length, IfOk, IfErr, OnOk, IsTrue};
+ghost use Rattle.flash_board.specs.Words.{IsSectorSize};
+ghost use Rattle.flash_board.specs.declared.board.Fault.{Fault};
+ghost use Rattle.flash_board.specs.declared.board.Fault.TheVariants.{Read, Flash, Recv, Send};
+ghost use Rattle.flash_board.specs.Losses.{Received, received, End, Frame, Outcome, After, ByResult};
+ghost use Rattle.flash_board.specs.Calls.{Passes};
+ghost use Rattle.flash_board.specs.Causes.{Rose};
+ghost use Rattle.storage_lines.specs.Lines.{after};
+ghost use Rattle.sector_switch.specs.FirstBad.{FirstBad};
+ghost use Rattle.sector_switch.specs.Stands.{Stands, Reads, is_due, count_in};
+ghost use Rattle.block_store.specs.Answers.{IsWorn};
+ghost use Rattle.vehicle_node.specs.Runs.{Run};
+ghost use Rattle.vehicle_node.specs.Safe.{SafeSince, Adds};
+ghost use Rattle.vehicle_node.specs.Standing.{Fits, StandsAt, StandsForRun, Finished, Node};
+ghost use Rattle.vehicle_node.specs.Answering.{FlushDone};
+ghost use Rattle.vehicle_node.specs.Answers.{OnMemory, OnFault, OnForeign, OnWorn};
+
+mod answering;
+mod hearing;
+mod laws;
+mod opening;
+
+use crate::opening::{booted, error_of};
+use dirty_lines::DirtyLines;
+use flash_board::{Board, Event, Fault, Region};
+pub use laws::{events_are_read, events_are_read_once, frames_are_read};
+use mav_frames::Cutter;
+use std::alloc::Global;
+use std::marker::Model;
+use vehicle_core::Core;
+
+/// Why a node stopped. It is then dropped, and the board is to be opened again.
+#[derive(Clone, Copy, Debug, PartialEq, Eq)]
+pub enum NodeError {
+    /// There is no memory. Nothing was asked of the board.
+    Memory,
+    /// A call of the board failed.
+    Fault(Fault),
+    /// The words are no image: this is the first foreign word, with its offset in halfwords.
+    Foreign {
+        region: Region,
+        offset: u32,
+        word: u16,
+    },
+    /// A sector is to be voided and the guard row is used up.
+    Worn {
+        count: u16,
+    },
+}
+
+/// Whether the finished event was the end.
+#[derive(Clone, Copy, Debug, PartialEq, Eq)]
+pub enum Turn {
+    More,
+    End,
+}
+
+/// A vehicle over a board. Every call takes the board of the opening, which nobody else changes in between.
+#[derive(Drop)]
+pub struct Node {
+    pub(crate) lines: DirtyLines,
+    pub(crate) core: Core,
+    pub(crate) cutters: [Cutter; 8],
+    pub(crate) sequences: [u8; 8],
+    pub(crate) frames: u64,
+    pub(crate) issued: u64,
+}
+
+impl Model for Node {
+    ghost use Rattle.vehicle_node.specs.Standing.{Node};
+    ghost use Rattle.vehicle_node.specs.Inside.{view_of};
+
+    ghost Value = { Node };
+
+    ghost view = { view_of };
+}
+
+fn turn_of(event: Event) -> Turn
+    ensures { (buffer : List ℕ) → ((result ≡ Turn.End) ↔ (received event buffer ≡ End)) }
+{
+    match event {
+        Event::End => Turn::End,
+        _ => Turn::More,
+    }
+}
+
+impl Node {
+    /// Recovers the image, issues the lines of boot and flushes them. All memory is taken before the first call of the
+    /// board.
+    pub fn open<B: Board>(alloc: Global, board: &mut B) -> Result<Node, NodeError>
+        requires attached { IsSectorSize (B.sector_bytes board.old) }
+
+        ensures fits { IfOk result (λ node. Fits B.Board board.new node) }
+        ensures stands { IfOk result (λ node. B.tells board.new → (b : List ℕ) → Stands (B.words board.old) b → StandsForRun node b [] [] 0) }
+        ensures lists { (e : List Received) (f : List Frame) → B.stands board.old e f → B.stands board.new e f }
+        ensures losses { (b : List ℕ) → (B.tells board.old → Stands (B.words board.old) b) → Passes B.Board board.old board.new (SafeSince b [] [] 0) (SafeSince b [] [] 0) }
+        ensures here { OnOk result ((o : Outcome) → B.now board.new o → After (B.now board.old) (Adds [] []) o) }
+        ensures geometry { B.sector_bytes board.new ≡ B.sector_bytes board.old }
+        ensures told { B.tells board.new → B.tells board.old }
+
+        ensures foreign { IfErr result (λ e. OnForeign e (λ place. B.tells board.new → FirstBad (B.words board.old) place)) }
+        ensures foreign_idle { IfErr result (λ e. OnForeign e (λ place. B.moment board.new ≡ B.moment board.old)) }
+        ensures not_foreign { OnOk result (B.tells board.new → (b : List ℕ) × Stands (B.words board.old) b) }
+        ensures worn { IfErr result (λ e. OnWorn e (λ count. (count ≡ 8192) × (bytes : _) × IsWorn B.Board board.new bytes)) }
+        ensures worn_image { IfErr result (λ e. OnWorn e (λ count. B.tells board.new → (b : List ℕ) × Stands (B.words board.old) b)) }
+        ensures used_up { B.tells board.new → (reading : _) → Reads (B.words board.old) reading → IsTrue (is_due reading) → count_in reading ≡ 8192 → IfOk result (λ _. ⊥) }
+        ensures memory { IfErr result (λ e. OnMemory e (board.new ≡ board.old)) }
+        ensures fault { IfErr result (λ e. OnFault e (λ kind. (kind ≡ Read ⊎ kind ≡ Flash) × Rose (B.faults board.old kind) (B.faults board.new kind))) }
+        ensures counts { (k : Fault) → B.faults board.old k ≤ B.faults board.new k }
+    {
+        let lines = match DirtyLines::open(alloc, board) {
+            Ok(lines) => lines,
+            Err(error) => return Err(error_of(error)),
+        };
+        let mut node = booted(lines);
+        node.flush_all(board)?;
+        Ok(node)
+    }
+
+    /// Receives one event and finishes it: each right frame is answered at once, then the lists go on, and then at least
+    /// eight pending lines are put, or all.
+    pub fn event<B: Board>(&mut self, board: &mut B) -> Result<Turn, NodeError>
+        requires fits { Fits B.Board board.old self.old }
+
+        ensures fits { OnOk result (Fits B.Board board.new self.new) }
+        ensures finished { IfOk result (λ turn. Finished B.Board self.old board.old self.new board.new turn) }
+        ensures losses { (b : List ℕ) (events : List Received) (frames : List Frame) (m : ℕ) → (B.tells board.old → StandsForRun self.old b events frames m) →
+            Passes B.Board board.old board.new (SafeSince b events frames m) (ByResult result (SafeSince b events frames (m + 1)) (SafeSince b events frames m)) }
+        ensures geometry { B.sector_bytes board.new ≡ B.sector_bytes board.old }
+        ensures told { B.tells board.new → B.tells board.old }
+
+        ensures never_memory { IfErr result (λ e. OnMemory e ⊥) }
+        ensures never_foreign { IfErr result (λ e. OnForeign e (λ place. ⊥)) }
+        ensures worn { IfErr result (λ e. OnWorn e (λ count. (count ≡ 8192) × (bytes : _) × IsWorn B.Board board.new bytes)) }
+        ensures fault { IfErr result (λ e. OnFault e (λ kind. (kind ≡ Read ⊎ (kind ≡ Flash ⊎ (kind ≡ Recv ⊎ kind ≡ Send))) × Rose (B.faults board.old kind) (B.faults board.new kind))) }
+        ensures counts { (k : Fault) → B.faults board.old k ≤ B.faults board.new k }
+    {
+        frames_are_read();
+        let mut buffer = [0; 2048];
+        let event = match board.recv(&mut buffer) {
+            Ok(event) => event,
+            Err(_) => return Err(NodeError::Fault(Fault::Recv)),
+        };
+        self.answer_event(board, event, &buffer)?;
+        self.flush(board, 8)?;
+        Ok(turn_of(event))
+    }
+
+    /// Puts all pending lines.
+    pub fn close<B: Board>(mut self, board: &mut B) -> Result<(), NodeError>
+        requires fits { Fits B.Board board.old self }
+
+        ensures done { OnOk result (B.tells board.new → (b : List ℕ) (r : Run) (frames : List Frame) → StandsAt self b r frames → Stands (B.words board.new) (after b r.issued)) }
+        ensures lists { (e : List Received) (f : List Frame) → B.stands board.old e f → B.stands board.new e f }
+        ensures losses { (b : List ℕ) (events : List Received) (frames : List Frame) (m : ℕ) → (B.tells board.old → StandsForRun self b events frames m) →
+            Passes B.Board board.old board.new (SafeSince b events frames m) (SafeSince b events frames m) }
+        ensures geometry { B.sector_bytes board.new ≡ B.sector_bytes board.old }
+        ensures told { B.tells board.new → B.tells board.old }
+
+        ensures never_memory { IfErr result (λ e. OnMemory e ⊥) }
+        ensures never_foreign { IfErr result (λ e. OnForeign e (λ place. ⊥)) }
+        ensures worn { IfErr result (λ e. OnWorn e (λ count. (count ≡ 8192) × (bytes : _) × IsWorn B.Board board.new bytes)) }
+        ensures fault { IfErr result (λ e. OnFault e (λ kind. (kind ≡ Read ⊎ kind ≡ Flash) × Rose (B.faults board.old kind) (B.faults board.new kind))) }
+        ensures counts { (k : Fault) → B.faults board.old k ≤ B.faults board.new k }
+    {
+        self.flush_all(board)
+    }
+
+    // Puts all pending lines.
+    fn flush_all<B: Board>(&mut self, board: &mut B) -> Result<(), NodeError>
+        requires fits { Fits B.Board board.old self.old }
+        ensures done { FlushDone B.Board (length self.old.lines.pending) self.old board.old result self.new board.new }
+        ensures nothing { OnOk result (self.new.lines.pending ≡ []) }
+        ensures fits { OnOk result (Fits B.Board board.new self.new) }
+        ensures geometry { B.sector_bytes board.new ≡ B.sector_bytes board.old }
+        ensures told { B.tells board.new → B.tells board.old }
+        ensures never_memory { IfErr result (λ e. OnMemory e ⊥) }
+        ensures never_foreign { IfErr result (λ e. OnForeign e (λ place. ⊥)) }
+        ensures worn { IfErr result (λ e. OnWorn e (λ count. (count ≡ 8192) × (bytes : _) × IsWorn B.Board board.new bytes)) }
+        ensures fault { IfErr result (λ e. OnFault e (λ kind. (kind ≡ Read ⊎ kind ≡ Flash) × Rose (B.faults board.old kind) (B.faults board.new kind))) }
+        ensures counts { (k : Fault) → B.faults board.old k ≤ B.faults board.new k }
+    {
+        let pending = self.lines.pending();
+        self.flush(board, pending)
+    }
+
+    /// How many frames were sent since the opening.
+    pub fn frames(&self) -> u64
+        ensures { result ≡ self.now.frames }
+    {
+        self.frames
+    }
+
+    /// How many lines were issued since the opening, those of boot among them.
+    pub fn issued(&self) -> u64
+        ensures { result ≡ self.now.issued }
+    {
+        self.issued
+    }
+}
