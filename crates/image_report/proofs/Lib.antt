@@ -1,0 +1,7 @@
+pub mod Upper
+pub mod Writing
+pub mod Table
+pub mod Pieces
+pub mod Found
+pub mod TextLaws
+pub mod Answering

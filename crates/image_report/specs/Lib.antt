@@ -1,0 +1,6 @@
+pub mod Texts
+pub mod Dumps
+pub mod Reports
+pub mod Writes
+pub mod Answers
+pub mod Laws

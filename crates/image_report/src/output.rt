@@ -1,0 +1,11 @@
+// One piece of a text.
+ghost use Rattle.image_report.specs.Writes.{Writes};
+
+use flash_board::{Failed, Sink};
+
+/// Writes a piece.
+pub(crate) fn write<K: Sink>(out: &mut K, piece: &[u8]) -> Result<(), Failed>
+    ensures { Writes K.Sink out.old out.new result piece.now }
+{
+    out.write_all(piece)
+}
