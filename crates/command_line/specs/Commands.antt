@@ -1,12 +1,14 @@
 -- A command as the words say it, and the ranges that its numbers keep.
 use Rattle.std.specs.Prelude.{◌≡◌, ◌≤◌, ◌⊎◌, ℕ}
-use Rattle.command_line.specs.Lines.{CommandLine, serve, format}
+use Rattle.command_line.specs.Lines.{CommandLine, serve, format, dump, report}
 use Rattle.command_line.specs.declared.Command.{Command}
 use Rattle.command_line.specs.declared.Command.TheVariants as command
 
 abbrev pub line_of : Command → CommandLine
 line_of (command.Serve image port turns) = serve image.now port turns
 line_of (command.Format image sector) = format image.now sector
+line_of (command.Dump image) = dump image.now
+line_of (command.Report image) = report image.now
 
 -- one of the four sizes of a sector, in bytes
 abbrev pub IsSectorSize : ℕ → Type 0
@@ -16,3 +18,5 @@ IsSectorSize n = (n ≡ 16384) ⊎ ((n ≡ 32768) ⊎ ((n ≡ 65536) ⊎ (n ≡ 
 abbrev pub IsInRange : Command → Type 0
 IsInRange (command.Serve image port turns) = (1 ≤ port) × (1 ≤ turns)
 IsInRange (command.Format image sector) = IsSectorSize sector
+IsInRange (command.Dump image) = Unit {0}
+IsInRange (command.Report image) = Unit {0}

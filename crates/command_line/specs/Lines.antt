@@ -6,7 +6,7 @@
 -- `line_of_command`; its variant in Commands.antt. In src/ come the variant of `Command`, the names
 -- again, a function beside `serve_said` and `serve`, and the first word in `command_of`. The lemmas
 -- and the reading of the words by `clap` hold for options of any names.
-use Rattle.std.specs.Prelude.{◌==◌, ◌||◌, ℕ, List, [], ◌∷◌, Option, Some, None, codes, drop, if◌then◌else◌, option_and_then, slice_get}
+use Rattle.std.specs.Prelude.{◌==◌, ◌||◌, ℕ, List, [], ◌∷◌, Option, Some, None, codes, drop, if◌then◌else◌, option_and_then, option_map, slice_get}
 use Rattle.std.specs.Str.{bytes_eq}
 use Rattle.command_line.specs.Arguments.{Argument, Text, arguments, operands, values_of}
 use Rattle.command_line.specs.Numbers.{number_given, only}
@@ -16,6 +16,9 @@ pub data CommandLine : Type 0 where
   serve : Text → ℕ → ℕ → CommandLine
   -- IMAGE and the bytes of a sector
   format : Text → ℕ → CommandLine
+  -- IMAGE
+  dump : Text → CommandLine
+  report : Text → CommandLine
 
 -- `serve IMAGE [--port P] [--turns N]`
 abbrev pub serve_with : Option Text → Option ℕ → Option ℕ → Option CommandLine
@@ -58,12 +61,32 @@ abbrev pub format_from : Option (List Argument) → Option CommandLine
 format_from None = None
 format_from (Some args) = format_says (operands args) (values_of (codes "sector") args)
 
+-- `dump IMAGE` and `report IMAGE`
+abbrev pub no_options : List Text
+no_options = []
+
+abbrev pub dump_says : List Text → Option CommandLine
+dump_says images = option_map dump (only images)
+
+abbrev pub dump_from : Option (List Argument) → Option CommandLine
+dump_from None = None
+dump_from (Some args) = dump_says (operands args)
+
+abbrev pub report_says : List Text → Option CommandLine
+report_says images = option_map report (only images)
+
+abbrev pub report_from : Option (List Argument) → Option CommandLine
+report_from None = None
+report_from (Some args) = report_says (operands args)
+
 -- the command with this first word and these words behind it
 abbrev pub line_of_command : Text → List Text → Option CommandLine
 line_of_command first rest =
     if bytes_eq first (codes "serve") then serve_from (arguments serve_options None rest)
     else (if bytes_eq first (codes "format") then format_from (arguments format_options None rest)
-    else None)
+    else (if bytes_eq first (codes "dump") then dump_from (arguments no_options None rest)
+    else (if bytes_eq first (codes "report") then report_from (arguments no_options None rest)
+    else None)))
 
 abbrev pub line_from : Option Text → List Text → Option CommandLine
 line_from None rest = None

@@ -4,7 +4,7 @@
 ghost use Rattle.std.specs.Prelude.{◌≡◌, IfOk, IfSome, None, map, option_map, drop, codes};
 ghost use Rattle.command_line.specs.Arguments.{arguments};
 ghost use Rattle.command_line.specs.Commands.{IsInRange, IsSectorSize, line_of};
-ghost use Rattle.command_line.specs.Lines.{format_from, format_options, format_says, line_of_words, sector_size_in, serve_from, serve_options, serve_says};
+ghost use Rattle.command_line.specs.Lines.{dump_from, dump_says, format_from, format_options, format_says, line_of_words, no_options, report_from, report_says, sector_size_in, serve_from, serve_options, serve_says};
 ghost use Rattle.command_line.specs.Matches.{texts_of};
 
 mod number;
@@ -32,6 +32,16 @@ pub enum Command<'a> {
         image: &'a str,
         /// The bytes of a sector: 16384, 32768, 65536 or 131072; the last where none is given.
         sector: u32,
+    },
+    /// `dump IMAGE`: print what the image stands for.
+    Dump {
+        /// The image file's name.
+        image: &'a str,
+    },
+    /// `report IMAGE`: print how each part of the image is.
+    Report {
+        /// The image file's name.
+        image: &'a str,
     },
 }
 
@@ -117,6 +127,56 @@ fn format<'a>(alloc: Global, words: &'a [&'a str]) -> Result<Option<Command<'a>>
     }
 }
 
+static NO_OPTIONS: [&str; 0] = [];
+
+/// What the matches of `dump` say.
+fn dump_said<'a>(matches: &ArgMatches<'a>) -> Option<Command<'a>>
+    ensures value { option_map line_of result ≡ dump_says (texts_of matches.now (codes "IMAGE")) }
+    ensures ranges { IfSome result IsInRange }
+{
+    let Some(image) = only_image(matches) else {
+        return None;
+    };
+    Some(Command::Dump { image })
+}
+
+/// `dump IMAGE`, from all the words.
+fn dump<'a>(alloc: Global, words: &'a [&'a str]) -> Result<Option<Command<'a>>, AllocError>
+    ensures value { IfOk result (λ r. option_map line_of r
+        ≡ dump_from (arguments no_options None (drop 1 (map (λ s. s.now) words.entry.now)))) }
+    ensures ranges { IfOk result (λ r. IfSome r IsInRange) }
+{
+    match read(alloc, NO_OPTIONS.as_slice(), words) {
+        Err(error) => Err(error),
+        Ok(None) => Ok(None),
+        Ok(Some(matches)) => Ok(dump_said(&matches)),
+    }
+}
+
+/// What the matches of `report` say.
+fn report_said<'a>(matches: &ArgMatches<'a>) -> Option<Command<'a>>
+    ensures value { option_map line_of result ≡ report_says (texts_of matches.now (codes "IMAGE")) }
+    ensures ranges { IfSome result IsInRange }
+{
+    let Some(image) = only_image(matches) else {
+        return None;
+    };
+    Some(Command::Report { image })
+}
+
+/// `report IMAGE`, from all the words.
+fn report<'a>(alloc: Global, words: &'a [&'a str]) -> Result<Option<Command<'a>>, AllocError>
+    ensures value { IfOk result (λ r. option_map line_of r
+        ≡ report_from (arguments no_options None (drop 1 (map (λ s. s.now) words.entry.now)))) }
+    ensures ranges { IfOk result (λ r. IfSome r IsInRange) }
+{
+    match read(alloc, NO_OPTIONS.as_slice(), words) {
+        Err(error) => Err(error),
+        Ok(None) => Ok(None),
+        Ok(Some(matches)) => Ok(report_said(&matches)),
+    }
+}
+
 /// The command that the words are, without the program's name, or `None` where they are no command
 /// line. The first word picks the command. Options stand before or behind IMAGE, each at most once,
 /// as `--name value` or `--name=value`. A word that begins with `-` and is not the single `-` is
@@ -142,6 +202,12 @@ pub fn command_of<'a>(
     }
     if first == "format" {
         return format(alloc, words);
+    }
+    if first == "dump" {
+        return dump(alloc, words);
+    }
+    if first == "report" {
+        return report(alloc, words);
     }
     Ok(None)
 }

@@ -2,9 +2,12 @@
 use crate::{Command, command_of};
 use std::alloc::Global;
 
-static NO_COMMAND_LINES: [&[&str]; 11] = [
+static NO_COMMAND_LINES: [&[&str]; 14] = [
     &[],
-    &["dump", "a"],
+    &["print", "a"],
+    &["dump"],
+    &["dump", "a", "b"],
+    &["report", "a", "--port", "1"],
     &["serve", "-a"],
     &["serve", "a", "b"],
     &["serve", "a", "--help"],
@@ -42,6 +45,10 @@ fn reads_the_words_of_a_user(rt: HostRuntime) {
     );
     assert!(rt; is_format(alloc, &["format", "--sector", "16384", "x"], "x", 16384));
     assert!(rt; is_format(alloc, &["format", "x"], "x", 131072));
+    assert!(rt; command_of(alloc, &["dump", "a"]) == Ok(Some(Command::Dump { image: "a" })));
+    assert!(rt;
+        command_of(alloc, &["report", "--", "-a"]) == Ok(Some(Command::Report { image: "-a" }))
+    );
     for words in NO_COMMAND_LINES {
         assert!(rt; command_of(alloc, words) == Ok(None), "{words:?}");
     }
