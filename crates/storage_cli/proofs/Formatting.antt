@@ -1,6 +1,6 @@
 -- What the programs of a format make of blank words.
-use Rattle.std.proofs.Common.{◌≡◌, ◌≢◌, ℕ, ◌/◌, ◌<◌, ◌≤◌, List, length, get_or, replicate, bit_and, refl, ◌∙◌, ap, arith, Bool, true, false, cond, Result, Ok, Err, true≢false, eqb-true, get_or-set_other, get_or-set_same, length-set}
-use Rattle.std.specs.Prelude.{◌==◌, is_err, IfOk}
+use Rattle.std.proofs.Common.{inl, inr, ◌≡◌, ◌≢◌, ℕ, ◌/◌, ◌<◌, ◌≤◌, List, length, get_or, replicate, bit_and, refl, ◌∙◌, ap, arith, Bool, true, false, cond, Result, Ok, Err, true≢false, eqb-true, get_or-set_other, get_or-set_same, length-set}
+use Rattle.std.specs.Prelude.{◌==◌, is_err, IfOk, OnOk}
 use Rattle.flash_board.specs.declared.board.Geometry.{Geometry}
 use Rattle.std.proofs.Math.ListN.{set}
 use Rattle.std.proofs.lemmas.Bool.{eqb-false}
@@ -10,9 +10,17 @@ use Rattle.flash_board.specs.declared.board.Region.TheVariants.{S0, S1, Guard}
 use Rattle.flash_board.specs.Words.{Words, row, region_length, blank, programmed, HasShape, IsSectorSize}
 use Rattle.flash_board.specs.Losses.{ByResult}
 use Rattle.flash_board.specs.Pairs.{ProgramsPair}
-use Rattle.storage_cli.specs.Fresh.{header_only, fresh_word}
-use Rattle.storage_cli.specs.Serving.{IsFreshImage}
-use Rattle.storage_cli.proofs.Testing.{small_header}
+use Rattle.storage_cli.specs.Fresh.{header_only, fresh_word, IsFreshImage}
+
+small_header : (n : ℕ) → IsSectorSize n → 2 ≤ region_length n S0
+small_header n (inl is) = omega (arith, is)
+small_header n (inr (inl is)) = omega (arith, is)
+small_header n (inr (inr (inl is))) = omega (arith, is)
+small_header n (inr (inr (inr is))) = omega (arith, is)
+
+pub on_ok_part : {T E : Type 0} (r : Result T E) (P : Type 0) → is_err r ≡ false → OnOk r P → P
+on_ok_part (Ok x) P ok p = p
+on_ok_part (Err e) P ok p = absurd (true≢false ok)
 
 pub done_part : {T E X : Type 0} (r : Result T E) (done lost : X → X → Type 0) (u w : X) → is_err r ≡ false → ByResult r done lost u w → done u w
 done_part (Ok v) done lost u w ok is = is

@@ -7,9 +7,11 @@ use Rattle.storage_cli.specs.Ends.{line_of_stop}
 
 pub line_is : (why : Stop) → Line (line_of_stop why)
 line_is stop.Words = texts.Words
+line_is stop.Memory = texts.Memory
 line_is (stop.Foreign found) = texts.Foreign found.region found.offset found.word
 line_is stop.Read = texts.Read
 line_is stop.Flash = texts.Flash
 line_is stop.Link = texts.Link
+line_is stop.Worn = texts.Worn
 line_is (stop.Turns n) = texts.Turns n
 line_is stop.Attach = texts.Attach

@@ -1,19 +1,15 @@
 -- What a status says, by the ending that it comes from.
-use Rattle.std.proofs.Common.{◌≡◌, ◌≢◌, ◌⊎◌, inl, inr, ⊎_elim, ℕ, ◌-◌, ◌≤◌, List, [], length, sym, ◌∙◌, ap, subst, arith, Result, Ok, Err}
+use Rattle.std.proofs.Common.{◌≡◌, ◌≢◌, ◌⊎◌, inl, inr, ℕ, List, refl, sym, ◌∙◌, subst, arith, Result, Err}
 use Rattle.flash_board.specs.declared.board.Fault.{Fault}
-use Rattle.flash_board.specs.declared.board.Fault.TheVariants as fault
-use Rattle.flash_board.specs.Causes.{Rose}
 use Rattle.flash_board.specs.Words.{Words}
-use Rattle.flash_board.specs.Losses.{Received, Frame}
+use Rattle.sector_switch.specs.FirstBad.{place_of}
 use Rattle.storage_cli.specs.declared.endings.Served.{Served}
+use Rattle.storage_cli.specs.declared.endings.Foreign.{Foreign}
 use Rattle.storage_cli.specs.declared.endings.Stop.{Stop}
 use Rattle.storage_cli.specs.declared.endings.Stop.TheVariants as stop
-use Rattle.storage_cli.specs.Answers.{answers}
-use Rattle.storage_cli.specs.Texts.{words_line, read_line, flash_line, link_line, attach_line, served_line, turns_line}
 use Rattle.storage_cli.specs.Statuses.{IsServeStatus, IsFormatStatus, IsPastAttach, TellsFaults, PrintsStatus}
-use Rattle.storage_cli.specs.Serving.{IsPrefixOf, HasNoEnd, EndsOnce, Serves, NamesForeign}
-use Rattle.storage_cli.specs.Ends.{status_of_stop, line_of_stop, IsServeStop, IsFormatStop, IsCausedBy, IsFirst, IsAttached, StopsEarly, EndsBy, SentAll}
-use Rattle.storage_cli.proofs.AnswerLaws.{no_end_last}
+use Rattle.storage_cli.specs.Serving.{NamesForeign}
+use Rattle.storage_cli.specs.Ends.{status_of_stop, line_of_stop, IsServeStop, IsFormatStop, IsCausedBy, IsFirst, IsAttached, OnMemory, OnWorn, StopsEarly, StopsWorn}
 
 -- the status of an ending, or that of a failing output
 abbrev pub Gives : ℕ → ℕ → Type 0
@@ -23,245 +19,274 @@ pub other : (status own n : ℕ) → Gives status own → own ≢ n → 10 ≢ n
 other status own n (inl is) a b e = a (sym is ∙ e)
 other status own n (inr is) a b e = b (sym is ∙ e)
 
+-- where the output didn't fail it is that of the ending
+own_is : (status own n : ℕ) → Gives status own → 10 ≢ n → status ≡ n → own ≡ n
+own_is status own n (inl is) b e = sym is ∙ e
+own_is status own n (inr is) b e = absurd (b (sym is ∙ e))
+
+-- each status is that of one ending
+is_words : (why : Stop) → status_of_stop why ≡ 1 → why ≡ stop.Words
+is_words stop.Words e = refl
+is_words stop.Memory e = absurd (omega (arith, e))
+is_words (stop.Foreign found) e = absurd (omega (arith, e))
+is_words stop.Read e = absurd (omega (arith, e))
+is_words stop.Flash e = absurd (omega (arith, e))
+is_words stop.Link e = absurd (omega (arith, e))
+is_words stop.Worn e = absurd (omega (arith, e))
+is_words (stop.Turns n) e = absurd (omega (arith, e))
+is_words stop.Attach e = absurd (omega (arith, e))
+
+is_memory : (why : Stop) → status_of_stop why ≡ 2 → why ≡ stop.Memory
+is_memory stop.Words e = absurd (omega (arith, e))
+is_memory stop.Memory e = refl
+is_memory (stop.Foreign found) e = absurd (omega (arith, e))
+is_memory stop.Read e = absurd (omega (arith, e))
+is_memory stop.Flash e = absurd (omega (arith, e))
+is_memory stop.Link e = absurd (omega (arith, e))
+is_memory stop.Worn e = absurd (omega (arith, e))
+is_memory (stop.Turns n) e = absurd (omega (arith, e))
+is_memory stop.Attach e = absurd (omega (arith, e))
+
+is_foreign : (why : Stop) → status_of_stop why ≡ 3 → (found : Foreign) × (why ≡ stop.Foreign found)
+is_foreign stop.Words e = absurd (omega (arith, e))
+is_foreign stop.Memory e = absurd (omega (arith, e))
+is_foreign (stop.Foreign found) e = (found, refl)
+is_foreign stop.Read e = absurd (omega (arith, e))
+is_foreign stop.Flash e = absurd (omega (arith, e))
+is_foreign stop.Link e = absurd (omega (arith, e))
+is_foreign stop.Worn e = absurd (omega (arith, e))
+is_foreign (stop.Turns n) e = absurd (omega (arith, e))
+is_foreign stop.Attach e = absurd (omega (arith, e))
+
+is_read : (why : Stop) → status_of_stop why ≡ 4 → why ≡ stop.Read
+is_read stop.Words e = absurd (omega (arith, e))
+is_read stop.Memory e = absurd (omega (arith, e))
+is_read (stop.Foreign found) e = absurd (omega (arith, e))
+is_read stop.Read e = refl
+is_read stop.Flash e = absurd (omega (arith, e))
+is_read stop.Link e = absurd (omega (arith, e))
+is_read stop.Worn e = absurd (omega (arith, e))
+is_read (stop.Turns n) e = absurd (omega (arith, e))
+is_read stop.Attach e = absurd (omega (arith, e))
+
+is_flash : (why : Stop) → status_of_stop why ≡ 5 → why ≡ stop.Flash
+is_flash stop.Words e = absurd (omega (arith, e))
+is_flash stop.Memory e = absurd (omega (arith, e))
+is_flash (stop.Foreign found) e = absurd (omega (arith, e))
+is_flash stop.Read e = absurd (omega (arith, e))
+is_flash stop.Flash e = refl
+is_flash stop.Link e = absurd (omega (arith, e))
+is_flash stop.Worn e = absurd (omega (arith, e))
+is_flash (stop.Turns n) e = absurd (omega (arith, e))
+is_flash stop.Attach e = absurd (omega (arith, e))
+
+is_link : (why : Stop) → status_of_stop why ≡ 6 → why ≡ stop.Link
+is_link stop.Words e = absurd (omega (arith, e))
+is_link stop.Memory e = absurd (omega (arith, e))
+is_link (stop.Foreign found) e = absurd (omega (arith, e))
+is_link stop.Read e = absurd (omega (arith, e))
+is_link stop.Flash e = absurd (omega (arith, e))
+is_link stop.Link e = refl
+is_link stop.Worn e = absurd (omega (arith, e))
+is_link (stop.Turns n) e = absurd (omega (arith, e))
+is_link stop.Attach e = absurd (omega (arith, e))
+
+is_worn : (why : Stop) → status_of_stop why ≡ 7 → why ≡ stop.Worn
+is_worn stop.Words e = absurd (omega (arith, e))
+is_worn stop.Memory e = absurd (omega (arith, e))
+is_worn (stop.Foreign found) e = absurd (omega (arith, e))
+is_worn stop.Read e = absurd (omega (arith, e))
+is_worn stop.Flash e = absurd (omega (arith, e))
+is_worn stop.Link e = absurd (omega (arith, e))
+is_worn stop.Worn e = refl
+is_worn (stop.Turns n) e = absurd (omega (arith, e))
+is_worn stop.Attach e = absurd (omega (arith, e))
+
+is_turns : (why : Stop) → status_of_stop why ≡ 8 → (n : ℕ) × (why ≡ stop.Turns n)
+is_turns stop.Words e = absurd (omega (arith, e))
+is_turns stop.Memory e = absurd (omega (arith, e))
+is_turns (stop.Foreign found) e = absurd (omega (arith, e))
+is_turns stop.Read e = absurd (omega (arith, e))
+is_turns stop.Flash e = absurd (omega (arith, e))
+is_turns stop.Link e = absurd (omega (arith, e))
+is_turns stop.Worn e = absurd (omega (arith, e))
+is_turns (stop.Turns n) e = (n, refl)
+is_turns stop.Attach e = absurd (omega (arith, e))
+
+is_attach : (why : Stop) → status_of_stop why ≡ 13 → why ≡ stop.Attach
+is_attach stop.Words e = absurd (omega (arith, e))
+is_attach stop.Memory e = absurd (omega (arith, e))
+is_attach (stop.Foreign found) e = absurd (omega (arith, e))
+is_attach stop.Read e = absurd (omega (arith, e))
+is_attach stop.Flash e = absurd (omega (arith, e))
+is_attach stop.Link e = absurd (omega (arith, e))
+is_attach stop.Worn e = absurd (omega (arith, e))
+is_attach (stop.Turns n) e = absurd (omega (arith, e))
+is_attach stop.Attach e = refl
+
 -- the statuses of a serve and of a format
 pub serve_done : (status : ℕ) → Gives status 0 → IsServeStatus status
 serve_done status (inl is) = inl is
-serve_done status (inr is) = inr (inr (inr (inr (inr (inl is)))))
+serve_done status (inr is) = inr (inr (inr (inr (inr (inr (inr (inr (inl is))))))))
 
 pub serve_stopped : (status : ℕ) (why : Stop) → IsServeStop why → Gives status (status_of_stop why) → IsServeStatus status
-serve_stopped status why serves (inr is) = inr (inr (inr (inr (inr (inl is)))))
+serve_stopped status why serves (inr is) = inr (inr (inr (inr (inr (inr (inr (inr (inl is))))))))
 serve_stopped status stop.Words serves (inl is) = absurd serves
-serve_stopped status (stop.Foreign found) serves (inl is) = inr (inl is)
-serve_stopped status stop.Read serves (inl is) = inr (inr (inl is))
-serve_stopped status stop.Flash serves (inl is) = absurd serves
-serve_stopped status stop.Link serves (inl is) = inr (inr (inr (inl is)))
-serve_stopped status (stop.Turns n) serves (inl is) = inr (inr (inr (inr (inl is))))
-serve_stopped status stop.Attach serves (inl is) = inr (inr (inr (inr (inr (inr is)))))
+serve_stopped status stop.Memory serves (inl is) = inr (inl is)
+serve_stopped status (stop.Foreign found) serves (inl is) = inr (inr (inl is))
+serve_stopped status stop.Read serves (inl is) = inr (inr (inr (inl is)))
+serve_stopped status stop.Flash serves (inl is) = inr (inr (inr (inr (inl is))))
+serve_stopped status stop.Link serves (inl is) = inr (inr (inr (inr (inr (inl is)))))
+serve_stopped status stop.Worn serves (inl is) = inr (inr (inr (inr (inr (inr (inl is))))))
+serve_stopped status (stop.Turns n) serves (inl is) = inr (inr (inr (inr (inr (inr (inr (inl is)))))))
+serve_stopped status stop.Attach serves (inl is) = inr (inr (inr (inr (inr (inr (inr (inr (inr is))))))))
 
 pub format_stopped : (status : ℕ) (why : Stop) → IsFormatStop why → Gives status (status_of_stop why) → IsFormatStatus status
-format_stopped status why formats (inr is) = inr (inr (inl is))
+format_stopped status why formats (inr is) = inr (inr (inr (inl is)))
 format_stopped status stop.Words formats (inl is) = absurd formats
+format_stopped status stop.Memory formats (inl is) = absurd formats
 format_stopped status (stop.Foreign found) formats (inl is) = absurd formats
 format_stopped status stop.Read formats (inl is) = absurd formats
-format_stopped status stop.Flash formats (inl is) = inr (inl is)
+format_stopped status stop.Flash formats (inl is) = inr (inr (inl is))
 format_stopped status stop.Link formats (inl is) = absurd formats
+format_stopped status stop.Worn formats (inl is) = absurd formats
 format_stopped status (stop.Turns n) formats (inl is) = absurd formats
-format_stopped status stop.Attach formats (inl is) = inr (inr (inr is))
+format_stopped status stop.Attach formats (inl is) = inr (inr (inr (inr is)))
 
--- faults
+pub format_others : (status : ℕ) (why : Stop) → IsFormatStop why → Gives status (status_of_stop why) → (status ≢ 2) × (status ≢ 3) × (status ≢ 7)
+format_others status why formats (inr is) = (λ e. omega (arith, is, e), λ e. omega (arith, is, e), λ e. omega (arith, is, e))
+format_others status stop.Words formats (inl is) = absurd formats
+format_others status stop.Memory formats (inl is) = absurd formats
+format_others status (stop.Foreign found) formats (inl is) = absurd formats
+format_others status stop.Read formats (inl is) = absurd formats
+format_others status stop.Flash formats (inl is) = (λ e. omega (arith, is, e), λ e. omega (arith, is, e), λ e. omega (arith, is, e))
+format_others status stop.Link formats (inl is) = absurd formats
+format_others status stop.Worn formats (inl is) = absurd formats
+format_others status (stop.Turns n) formats (inl is) = absurd formats
+format_others status stop.Attach formats (inl is) = (λ e. omega (arith, is, e), λ e. omega (arith, is, e), λ e. omega (arith, is, e))
+
+-- where all was done, no other status comes
+pub not_done : (status n : ℕ) → Gives status 0 → 0 ≢ n → 10 ≢ n → {P : Type 0} → status ≡ n → P
+not_done status n gives a b e = absurd (other status 0 n gives a b e)
+
 pub faults_none : (status : ℕ) (before now : Fault → ℕ) → Gives status 0 → TellsFaults status before now
 faults_none status before now gives = record {
-  attach = λ e. absurd (other status 0 13 gives (λ z. omega (arith, z)) (λ z. omega (arith, z)) e);
-  read = λ e. absurd (other status 0 4 gives (λ z. omega (arith, z)) (λ z. omega (arith, z)) e);
-  flash = λ e. absurd (other status 0 5 gives (λ z. omega (arith, z)) (λ z. omega (arith, z)) e);
-  link = λ e. absurd (other status 0 6 gives (λ z. omega (arith, z)) (λ z. omega (arith, z)) e);
+  attach = not_done status 13 gives (λ z. omega (arith, z)) (λ z. omega (arith, z));
+  read = not_done status 4 gives (λ z. omega (arith, z)) (λ z. omega (arith, z));
+  flash = not_done status 5 gives (λ z. omega (arith, z)) (λ z. omega (arith, z));
+  link = not_done status 6 gives (λ z. omega (arith, z)) (λ z. omega (arith, z));
 }
 
-module _ (status : ℕ) (before now : Fault → ℕ) where
-  attach_fault : (why : Stop) → Gives status (status_of_stop why) → IsCausedBy why before now → status ≡ 13 → Rose (before fault.Attach) (now fault.Attach)
-  attach_fault stop.Words gives cause e = absurd (other status 1 13 gives (λ z. omega (arith, z)) (λ z. omega (arith, z)) e)
-  attach_fault (stop.Foreign found) gives cause e = absurd (other status 3 13 gives (λ z. omega (arith, z)) (λ z. omega (arith, z)) e)
-  attach_fault stop.Read gives cause e = absurd (other status 4 13 gives (λ z. omega (arith, z)) (λ z. omega (arith, z)) e)
-  attach_fault stop.Flash gives cause e = absurd (other status 5 13 gives (λ z. omega (arith, z)) (λ z. omega (arith, z)) e)
-  attach_fault stop.Link gives cause e = absurd (other status 6 13 gives (λ z. omega (arith, z)) (λ z. omega (arith, z)) e)
-  attach_fault (stop.Turns n) gives cause e = absurd (other status 8 13 gives (λ z. omega (arith, z)) (λ z. omega (arith, z)) e)
-  attach_fault stop.Attach gives cause e = cause
-
-  read_fault : (why : Stop) → Gives status (status_of_stop why) → IsCausedBy why before now → status ≡ 4 → Rose (before fault.Read) (now fault.Read)
-  read_fault stop.Words gives cause e = absurd (other status 1 4 gives (λ z. omega (arith, z)) (λ z. omega (arith, z)) e)
-  read_fault (stop.Foreign found) gives cause e = absurd (other status 3 4 gives (λ z. omega (arith, z)) (λ z. omega (arith, z)) e)
-  read_fault stop.Read gives cause e = cause
-  read_fault stop.Flash gives cause e = absurd (other status 5 4 gives (λ z. omega (arith, z)) (λ z. omega (arith, z)) e)
-  read_fault stop.Link gives cause e = absurd (other status 6 4 gives (λ z. omega (arith, z)) (λ z. omega (arith, z)) e)
-  read_fault (stop.Turns n) gives cause e = absurd (other status 8 4 gives (λ z. omega (arith, z)) (λ z. omega (arith, z)) e)
-  read_fault stop.Attach gives cause e = absurd (other status 13 4 gives (λ z. omega (arith, z)) (λ z. omega (arith, z)) e)
-
-  flash_fault : (why : Stop) → Gives status (status_of_stop why) → IsCausedBy why before now → status ≡ 5 → Rose (before fault.Flash) (now fault.Flash)
-  flash_fault stop.Words gives cause e = absurd (other status 1 5 gives (λ z. omega (arith, z)) (λ z. omega (arith, z)) e)
-  flash_fault (stop.Foreign found) gives cause e = absurd (other status 3 5 gives (λ z. omega (arith, z)) (λ z. omega (arith, z)) e)
-  flash_fault stop.Read gives cause e = absurd (other status 4 5 gives (λ z. omega (arith, z)) (λ z. omega (arith, z)) e)
-  flash_fault stop.Flash gives cause e = cause
-  flash_fault stop.Link gives cause e = absurd (other status 6 5 gives (λ z. omega (arith, z)) (λ z. omega (arith, z)) e)
-  flash_fault (stop.Turns n) gives cause e = absurd (other status 8 5 gives (λ z. omega (arith, z)) (λ z. omega (arith, z)) e)
-  flash_fault stop.Attach gives cause e = absurd (other status 13 5 gives (λ z. omega (arith, z)) (λ z. omega (arith, z)) e)
-
-  link_fault : (why : Stop) → Gives status (status_of_stop why) → IsCausedBy why before now → status ≡ 6 → Rose (before fault.Recv) (now fault.Recv) ⊎ Rose (before fault.Send) (now fault.Send)
-  link_fault stop.Words gives cause e = absurd (other status 1 6 gives (λ z. omega (arith, z)) (λ z. omega (arith, z)) e)
-  link_fault (stop.Foreign found) gives cause e = absurd (other status 3 6 gives (λ z. omega (arith, z)) (λ z. omega (arith, z)) e)
-  link_fault stop.Read gives cause e = absurd (other status 4 6 gives (λ z. omega (arith, z)) (λ z. omega (arith, z)) e)
-  link_fault stop.Flash gives cause e = absurd (other status 5 6 gives (λ z. omega (arith, z)) (λ z. omega (arith, z)) e)
-  link_fault stop.Link gives cause e = cause
-  link_fault (stop.Turns n) gives cause e = absurd (other status 8 6 gives (λ z. omega (arith, z)) (λ z. omega (arith, z)) e)
-  link_fault stop.Attach gives cause e = absurd (other status 13 6 gives (λ z. omega (arith, z)) (λ z. omega (arith, z)) e)
-
-  pub faults_stopped : (why : Stop) → Gives status (status_of_stop why) → IsCausedBy why before now → TellsFaults status before now
-  faults_stopped why gives cause = record { attach = attach_fault why gives cause; read = read_fault why gives cause; flash = flash_fault why gives cause; link = link_fault why gives cause }
-
-  -- where the attach didn't fail
-  pub attached : (why : Stop) → Gives status (status_of_stop why) → IsCausedBy why before now → IsPastAttach status before now → (let r : Result Served Stop = Err why in IsAttached r)
-  attached stop.Words gives cause past = tt
-  attached (stop.Foreign found) gives cause past = tt
-  attached stop.Read gives cause past = tt
-  attached stop.Flash gives cause past = tt
-  attached stop.Link gives cause past = tt
-  attached (stop.Turns n) gives cause past = tt
-  attached stop.Attach (inl is) cause past = past.attach is
-  attached stop.Attach (inr is) cause past = past.output is cause
-
-  pub format_attached : (why : Stop) → Gives status (status_of_stop why) → IsCausedBy why before now → IsPastAttach status before now → (let r : Result (Unit {0}) Stop = Err why in IsAttached r)
-  format_attached stop.Words gives cause past = tt
-  format_attached (stop.Foreign found) gives cause past = tt
-  format_attached stop.Read gives cause past = tt
-  format_attached stop.Flash gives cause past = tt
-  format_attached stop.Link gives cause past = tt
-  format_attached (stop.Turns n) gives cause past = tt
-  format_attached stop.Attach (inl is) cause past = past.attach is
-  format_attached stop.Attach (inr is) cause past = past.output is cause
-
--- lines
 pub prints_none : (status : ℕ) (printed : List ℕ → Type 0) → Gives status 0 → PrintsStatus status printed
 prints_none status printed gives = record {
-  words = λ e. absurd (other status 0 1 gives (λ z. omega (arith, z)) (λ z. omega (arith, z)) e);
-  read = λ e. absurd (other status 0 4 gives (λ z. omega (arith, z)) (λ z. omega (arith, z)) e);
-  flash = λ e. absurd (other status 0 5 gives (λ z. omega (arith, z)) (λ z. omega (arith, z)) e);
-  link = λ e. absurd (other status 0 6 gives (λ z. omega (arith, z)) (λ z. omega (arith, z)) e);
-  attach = λ e. absurd (other status 0 13 gives (λ z. omega (arith, z)) (λ z. omega (arith, z)) e);
+  words = not_done status 1 gives (λ z. omega (arith, z)) (λ z. omega (arith, z));
+  memory = not_done status 2 gives (λ z. omega (arith, z)) (λ z. omega (arith, z));
+  read = not_done status 4 gives (λ z. omega (arith, z)) (λ z. omega (arith, z));
+  flash = not_done status 5 gives (λ z. omega (arith, z)) (λ z. omega (arith, z));
+  link = not_done status 6 gives (λ z. omega (arith, z)) (λ z. omega (arith, z));
+  worn = not_done status 7 gives (λ z. omega (arith, z)) (λ z. omega (arith, z));
+  attach = not_done status 13 gives (λ z. omega (arith, z)) (λ z. omega (arith, z));
 }
 
-module _ (status : ℕ) (printed : List ℕ → Type 0) where
-  words_printed : (why : Stop) → Gives status (status_of_stop why) → (status ≢ 10 → printed (line_of_stop why)) → status ≡ 1 → printed words_line
-  words_printed stop.Words gives line e = line (λ z. omega (arith, z, e))
-  words_printed (stop.Foreign found) gives line e = absurd (other status 3 1 gives (λ z. omega (arith, z)) (λ z. omega (arith, z)) e)
-  words_printed stop.Read gives line e = absurd (other status 4 1 gives (λ z. omega (arith, z)) (λ z. omega (arith, z)) e)
-  words_printed stop.Flash gives line e = absurd (other status 5 1 gives (λ z. omega (arith, z)) (λ z. omega (arith, z)) e)
-  words_printed stop.Link gives line e = absurd (other status 6 1 gives (λ z. omega (arith, z)) (λ z. omega (arith, z)) e)
-  words_printed (stop.Turns n) gives line e = absurd (other status 8 1 gives (λ z. omega (arith, z)) (λ z. omega (arith, z)) e)
-  words_printed stop.Attach gives line e = absurd (other status 13 1 gives (λ z. omega (arith, z)) (λ z. omega (arith, z)) e)
+module _ (status : ℕ) (why : Stop) (gives : Gives status (status_of_stop why)) where
+  -- the ending that a status tells
+  pub ends_words : status ≡ 1 → why ≡ stop.Words
+  ends_words e = is_words why (own_is status (status_of_stop why) 1 gives (λ z. omega (arith, z)) e)
 
-  read_printed : (why : Stop) → Gives status (status_of_stop why) → (status ≢ 10 → printed (line_of_stop why)) → status ≡ 4 → printed read_line
-  read_printed stop.Words gives line e = absurd (other status 1 4 gives (λ z. omega (arith, z)) (λ z. omega (arith, z)) e)
-  read_printed (stop.Foreign found) gives line e = absurd (other status 3 4 gives (λ z. omega (arith, z)) (λ z. omega (arith, z)) e)
-  read_printed stop.Read gives line e = line (λ z. omega (arith, z, e))
-  read_printed stop.Flash gives line e = absurd (other status 5 4 gives (λ z. omega (arith, z)) (λ z. omega (arith, z)) e)
-  read_printed stop.Link gives line e = absurd (other status 6 4 gives (λ z. omega (arith, z)) (λ z. omega (arith, z)) e)
-  read_printed (stop.Turns n) gives line e = absurd (other status 8 4 gives (λ z. omega (arith, z)) (λ z. omega (arith, z)) e)
-  read_printed stop.Attach gives line e = absurd (other status 13 4 gives (λ z. omega (arith, z)) (λ z. omega (arith, z)) e)
+  pub ends_memory : status ≡ 2 → why ≡ stop.Memory
+  ends_memory e = is_memory why (own_is status (status_of_stop why) 2 gives (λ z. omega (arith, z)) e)
 
-  flash_printed : (why : Stop) → Gives status (status_of_stop why) → (status ≢ 10 → printed (line_of_stop why)) → status ≡ 5 → printed flash_line
-  flash_printed stop.Words gives line e = absurd (other status 1 5 gives (λ z. omega (arith, z)) (λ z. omega (arith, z)) e)
-  flash_printed (stop.Foreign found) gives line e = absurd (other status 3 5 gives (λ z. omega (arith, z)) (λ z. omega (arith, z)) e)
-  flash_printed stop.Read gives line e = absurd (other status 4 5 gives (λ z. omega (arith, z)) (λ z. omega (arith, z)) e)
-  flash_printed stop.Flash gives line e = line (λ z. omega (arith, z, e))
-  flash_printed stop.Link gives line e = absurd (other status 6 5 gives (λ z. omega (arith, z)) (λ z. omega (arith, z)) e)
-  flash_printed (stop.Turns n) gives line e = absurd (other status 8 5 gives (λ z. omega (arith, z)) (λ z. omega (arith, z)) e)
-  flash_printed stop.Attach gives line e = absurd (other status 13 5 gives (λ z. omega (arith, z)) (λ z. omega (arith, z)) e)
+  pub ends_foreign : status ≡ 3 → (found : Foreign) × (why ≡ stop.Foreign found)
+  ends_foreign e = is_foreign why (own_is status (status_of_stop why) 3 gives (λ z. omega (arith, z)) e)
 
-  link_printed : (why : Stop) → Gives status (status_of_stop why) → (status ≢ 10 → printed (line_of_stop why)) → status ≡ 6 → printed link_line
-  link_printed stop.Words gives line e = absurd (other status 1 6 gives (λ z. omega (arith, z)) (λ z. omega (arith, z)) e)
-  link_printed (stop.Foreign found) gives line e = absurd (other status 3 6 gives (λ z. omega (arith, z)) (λ z. omega (arith, z)) e)
-  link_printed stop.Read gives line e = absurd (other status 4 6 gives (λ z. omega (arith, z)) (λ z. omega (arith, z)) e)
-  link_printed stop.Flash gives line e = absurd (other status 5 6 gives (λ z. omega (arith, z)) (λ z. omega (arith, z)) e)
-  link_printed stop.Link gives line e = line (λ z. omega (arith, z, e))
-  link_printed (stop.Turns n) gives line e = absurd (other status 8 6 gives (λ z. omega (arith, z)) (λ z. omega (arith, z)) e)
-  link_printed stop.Attach gives line e = absurd (other status 13 6 gives (λ z. omega (arith, z)) (λ z. omega (arith, z)) e)
+  pub ends_read : status ≡ 4 → why ≡ stop.Read
+  ends_read e = is_read why (own_is status (status_of_stop why) 4 gives (λ z. omega (arith, z)) e)
 
-  attach_printed : (why : Stop) → Gives status (status_of_stop why) → (status ≢ 10 → printed (line_of_stop why)) → status ≡ 13 → printed attach_line
-  attach_printed stop.Words gives line e = absurd (other status 1 13 gives (λ z. omega (arith, z)) (λ z. omega (arith, z)) e)
-  attach_printed (stop.Foreign found) gives line e = absurd (other status 3 13 gives (λ z. omega (arith, z)) (λ z. omega (arith, z)) e)
-  attach_printed stop.Read gives line e = absurd (other status 4 13 gives (λ z. omega (arith, z)) (λ z. omega (arith, z)) e)
-  attach_printed stop.Flash gives line e = absurd (other status 5 13 gives (λ z. omega (arith, z)) (λ z. omega (arith, z)) e)
-  attach_printed stop.Link gives line e = absurd (other status 6 13 gives (λ z. omega (arith, z)) (λ z. omega (arith, z)) e)
-  attach_printed (stop.Turns n) gives line e = absurd (other status 8 13 gives (λ z. omega (arith, z)) (λ z. omega (arith, z)) e)
-  attach_printed stop.Attach gives line e = line (λ z. omega (arith, z, e))
+  pub ends_flash : status ≡ 5 → why ≡ stop.Flash
+  ends_flash e = is_flash why (own_is status (status_of_stop why) 5 gives (λ z. omega (arith, z)) e)
 
-  pub prints_stopped : (why : Stop) → Gives status (status_of_stop why) → (status ≢ 10 → printed (line_of_stop why)) → PrintsStatus status printed
-  prints_stopped why gives line = record {
-    words = words_printed why gives line;
-    read = read_printed why gives line;
-    flash = flash_printed why gives line;
-    link = link_printed why gives line;
-    attach = attach_printed why gives line;
+  pub ends_link : status ≡ 6 → why ≡ stop.Link
+  ends_link e = is_link why (own_is status (status_of_stop why) 6 gives (λ z. omega (arith, z)) e)
+
+  pub ends_worn : status ≡ 7 → why ≡ stop.Worn
+  ends_worn e = is_worn why (own_is status (status_of_stop why) 7 gives (λ z. omega (arith, z)) e)
+
+  pub ends_turns : status ≡ 8 → (n : ℕ) × (why ≡ stop.Turns n)
+  ends_turns e = is_turns why (own_is status (status_of_stop why) 8 gives (λ z. omega (arith, z)) e)
+
+  pub ends_attach : status ≡ 13 → why ≡ stop.Attach
+  ends_attach e = is_attach why (own_is status (status_of_stop why) 13 gives (λ z. omega (arith, z)) e)
+
+  pub faults_stopped : (before now : Fault → ℕ) → IsCausedBy why before now → TellsFaults status before now
+  faults_stopped before now cause = record {
+    attach = λ e. subst (λ (w : Stop). IsCausedBy w before now) (ends_attach e) cause;
+    read = λ e. subst (λ (w : Stop). IsCausedBy w before now) (ends_read e) cause;
+    flash = λ e. subst (λ (w : Stop). IsCausedBy w before now) (ends_flash e) cause;
+    link = λ e. subst (λ (w : Stop). IsCausedBy w before now) (ends_link e) cause;
   }
 
-  pub turns_printed : (why : Stop) (turns : ℕ) (events : List Received) → EndsBy (Err why) turns events → Gives status (status_of_stop why) → (status ≢ 10 → printed (line_of_stop why)) → status ≡ 8 → printed (turns_line turns)
-  turns_printed stop.Words turns events ends gives line e = absurd (other status 1 8 gives (λ z. omega (arith, z)) (λ z. omega (arith, z)) e)
-  turns_printed (stop.Foreign found) turns events ends gives line e = absurd (other status 3 8 gives (λ z. omega (arith, z)) (λ z. omega (arith, z)) e)
-  turns_printed stop.Read turns events ends gives line e = absurd (other status 4 8 gives (λ z. omega (arith, z)) (λ z. omega (arith, z)) e)
-  turns_printed stop.Flash turns events ends gives line e = absurd (other status 5 8 gives (λ z. omega (arith, z)) (λ z. omega (arith, z)) e)
-  turns_printed stop.Link turns events ends gives line e = absurd (other status 6 8 gives (λ z. omega (arith, z)) (λ z. omega (arith, z)) e)
-  turns_printed (stop.Turns n) turns events ends gives line e = subst (λ (m : ℕ). printed (turns_line m)) ends.2 (line (λ z. omega (arith, z, e)))
-  turns_printed stop.Attach turns events ends gives line e = absurd (other status 13 8 gives (λ z. omega (arith, z)) (λ z. omega (arith, z)) e)
-
--- a foreign halfword
-pub foreign_named : (status : ℕ) (printed : List ℕ → Type 0) (told : Type 0) (words : Words) (why : Stop) → Gives status (status_of_stop why) → (status ≢ 10 → printed (line_of_stop why)) → (told → IsFirst words why) → status ≡ 3 → NamesForeign told words printed
-foreign_named status printed told words stop.Words gives line first e = absurd (other status 1 3 gives (λ z. omega (arith, z)) (λ z. omega (arith, z)) e)
-foreign_named status printed told words (stop.Foreign found) gives line first e = record { region = found.region; offset = found.offset; word = found.word; first = first; line = line (λ z. omega (arith, z, e)) }
-foreign_named status printed told words stop.Read gives line first e = absurd (other status 4 3 gives (λ z. omega (arith, z)) (λ z. omega (arith, z)) e)
-foreign_named status printed told words stop.Flash gives line first e = absurd (other status 5 3 gives (λ z. omega (arith, z)) (λ z. omega (arith, z)) e)
-foreign_named status printed told words stop.Link gives line first e = absurd (other status 6 3 gives (λ z. omega (arith, z)) (λ z. omega (arith, z)) e)
-foreign_named status printed told words (stop.Turns n) gives line first e = absurd (other status 8 3 gives (λ z. omega (arith, z)) (λ z. omega (arith, z)) e)
-foreign_named status printed told words stop.Attach gives line first e = absurd (other status 13 3 gives (λ z. omega (arith, z)) (λ z. omega (arith, z)) e)
-
-pub stops_where : (status : ℕ) (before now : Fault → ℕ) (why : Stop) → Gives status (status_of_stop why) → (let r : Result Served Stop = Err why in StopsEarly r) → (let r : Result Served Stop = Err why in IsAttached r) → (status ≡ 3) ⊎ (status ≡ 4) ⊎ (status ≡ 10)
-stops_where status before now why (inr is) early attached = inr (inr is)
-stops_where status before now (stop.Foreign found) (inl is) early attached = inl is
-stops_where status before now stop.Read (inl is) early attached = inr (inl is)
-stops_where status before now stop.Attach (inl is) early attached = absurd attached
-stops_where status before now stop.Words (inl is) early attached = absurd early
-stops_where status before now stop.Flash (inl is) early attached = absurd early
-stops_where status before now stop.Link (inl is) early attached = absurd early
-stops_where status before now (stop.Turns n) (inl is) early attached = absurd early
-
--- the events and frames at the end
-never_once : (events : List Received) → HasNoEnd events → EndsOnce events → ⊥
-never_once events none once = no_end_last events once.0 none once.1
-
-module _ (stands : List Received → List Frame → Type 0) (turns status : ℕ) (printed : List ℕ → Type 0) (events : List Received) (frames : List Frame) (are_these : stands events frames) (first : IsPrefixOf frames (answers events)) where
-  pub serves_done : (served : Served) → Gives status 0 → EndsBy (Ok served) turns events → frames ≡ answers events → (status ≢ 10 → printed (served_line served.events served.frames)) → Serves stands turns status printed
-  serves_done served gives ends all line = record {
-    events = events;
-    frames = frames;
-    are_these = are_these;
-    first_frames = first;
-    all_at_end = λ e. all;
-    all_when_over = λ e. all;
-    ends = λ e. ends.0;
-    over = λ e. absurd (other status 0 8 gives (λ z. omega (arith, z)) (λ z. omega (arith, z)) e);
-    ends_where = λ once. gives;
-    over_where = λ none many. absurd (never_once events none ends.0);
-    counts = λ e. subst (λ (n : ℕ). printed (served_line (length events - 1) n)) (ends.2 ∙ ap length (sym all)) (subst (λ (n : ℕ). printed (served_line n served.frames)) ends.1 (line (λ z. omega (arith, z, e))));
+  pub prints_stopped : (printed : List ℕ → Type 0) → (status ≢ 10 → printed (line_of_stop why)) → PrintsStatus status printed
+  prints_stopped printed line = record {
+    words = λ e. subst (λ (w : Stop). printed (line_of_stop w)) (ends_words e) (line (λ z. omega (arith, z, e)));
+    memory = λ e. subst (λ (w : Stop). printed (line_of_stop w)) (ends_memory e) (line (λ z. omega (arith, z, e)));
+    read = λ e. subst (λ (w : Stop). printed (line_of_stop w)) (ends_read e) (line (λ z. omega (arith, z, e)));
+    flash = λ e. subst (λ (w : Stop). printed (line_of_stop w)) (ends_flash e) (line (λ z. omega (arith, z, e)));
+    link = λ e. subst (λ (w : Stop). printed (line_of_stop w)) (ends_link e) (line (λ z. omega (arith, z, e)));
+    worn = λ e. subst (λ (w : Stop). printed (line_of_stop w)) (ends_worn e) (line (λ z. omega (arith, z, e)));
+    attach = λ e. subst (λ (w : Stop). printed (line_of_stop w)) (ends_attach e) (line (λ z. omega (arith, z, e)));
   }
 
-  -- it was cut off, or the turns are over
-  serves_cut : status ≢ 0 → (status ≡ 8 → (frames ≡ answers events) × HasNoEnd events × (length events ≡ turns)) → (EndsOnce events → ⊥)
-      → (HasNoEnd events → length events ≡ turns → (status ≡ 6) ⊎ (status ≡ 8) ⊎ (status ≡ 10)) → Serves stands turns status printed
-  serves_cut not_end over never over_where = record {
-    events = events;
-    frames = frames;
-    are_these = are_these;
-    first_frames = first;
-    all_at_end = λ e. absurd (not_end e);
-    all_when_over = λ e. (over e).0;
-    ends = λ e. absurd (not_end e);
-    over = λ e. ((over e).1, (over e).2);
-    ends_where = λ once. absurd (never once);
-    over_where = over_where;
-    counts = λ e. absurd (not_end e);
-  }
+  -- a foreign halfword
+  pub foreign_named : (printed : List ℕ → Type 0) (told : Type 0) (words : Words) → (status ≢ 10 → printed (line_of_stop why)) → (told → IsFirst words why) → status ≡ 3 → NamesForeign told words printed
+  foreign_named printed told words line first e =
+      let found = ends_foreign e in
+      record {
+        place = place_of found.0.region found.0.offset found.0.word;
+        first = λ t. subst (λ (w : Stop). IsFirst words w) found.1 (first t);
+        line = subst (λ (w : Stop). printed (line_of_stop w)) found.1 (line (λ z. omega (arith, z, e)));
+      }
 
-  none_of : events ≡ [] → HasNoEnd events
-  none_of is = subst HasNoEnd (sym is) tt
+  -- want of memory, and a guard row that is used up
+  pub memory_told : (P : Type 0) → OnMemory why P → status ≡ 2 → P
+  memory_told P holds e = subst (λ (w : Stop). OnMemory w P) (ends_memory e) holds
 
-  pub serves_stopped : (why : Stop) → 1 ≤ turns → Gives status (status_of_stop why) → EndsBy (Err why) turns events → SentAll (Err why) events frames → Serves stands turns status printed
-  serves_stopped (stop.Turns n) some gives ends all =
-      serves_cut (other status 8 0 gives (λ z. omega (arith, z)) (λ z. omega (arith, z))) (λ e. (all, ends.0, ends.1)) (never_once events ends.0) (λ none many. inr gives)
-  serves_stopped stop.Link some gives ends all =
-      serves_cut (other status 6 0 gives (λ z. omega (arith, z)) (λ z. omega (arith, z))) (λ e. absurd (other status 6 8 gives (λ z. omega (arith, z)) (λ z. omega (arith, z)) e)) (never_once events ends)
-      (λ none many. ⊎_elim (λ (e : status ≡ 6). inl e) (λ e. inr (inr e)) gives)
-  serves_stopped stop.Read some gives ends all =
-      serves_cut (other status 4 0 gives (λ z. omega (arith, z)) (λ z. omega (arith, z))) (λ e. absurd (other status 4 8 gives (λ z. omega (arith, z)) (λ z. omega (arith, z)) e)) (never_once events (none_of ends)) (λ none many. absurd (omega (arith, ap length ends, many, some)))
-  serves_stopped (stop.Foreign found) some gives ends all =
-      serves_cut (other status 3 0 gives (λ z. omega (arith, z)) (λ z. omega (arith, z))) (λ e. absurd (other status 3 8 gives (λ z. omega (arith, z)) (λ z. omega (arith, z)) e)) (never_once events (none_of ends)) (λ none many. absurd (omega (arith, ap length ends, many, some)))
-  serves_stopped stop.Words some gives ends all = absurd ends
-  serves_stopped stop.Flash some gives ends all = absurd ends
-  serves_stopped stop.Attach some gives ends all = absurd ends
+  pub worn_told : (P : Type 0) → OnWorn why P → status ≡ 7 → P
+  worn_told P holds e = subst (λ (w : Stop). OnWorn w P) (ends_worn e) holds
+
+-- where the attach didn't fail
+pub attached : (T : Type 0) (status : ℕ) (before now : Fault → ℕ) (why : Stop) → Gives status (status_of_stop why) → IsCausedBy why before now → IsPastAttach status before now → (let r : Result T Stop = Err why in IsAttached r)
+attached T status before now stop.Words gives cause past = tt
+attached T status before now stop.Memory gives cause past = tt
+attached T status before now (stop.Foreign found) gives cause past = tt
+attached T status before now stop.Read gives cause past = tt
+attached T status before now stop.Flash gives cause past = tt
+attached T status before now stop.Link gives cause past = tt
+attached T status before now stop.Worn gives cause past = tt
+attached T status before now (stop.Turns n) gives cause past = tt
+attached T status before now stop.Attach (inl is) cause past = past.attach is
+attached T status before now stop.Attach (inr is) cause past = past.output is cause
+
+-- what an early stop and a used up guard row leave for the status
+pub stops_early : (status : ℕ) (why : Stop) → Gives status (status_of_stop why) → (let r : Result Served Stop = Err why in StopsEarly r) → status ≢ 13 → (status ≡ 2) ⊎ (status ≡ 3) ⊎ (status ≡ 4) ⊎ (status ≡ 5) ⊎ (status ≡ 10)
+stops_early status why (inr is) early past = inr (inr (inr (inr is)))
+stops_early status stop.Memory (inl is) early past = inl is
+stops_early status (stop.Foreign found) (inl is) early past = inr (inl is)
+stops_early status stop.Read (inl is) early past = inr (inr (inl is))
+stops_early status stop.Attach (inl is) early past = absurd (past is)
+stops_early status stop.Words (inl is) early past = absurd early
+stops_early status stop.Flash (inl is) early past = inr (inr (inr (inl is)))
+stops_early status stop.Link (inl is) early past = absurd early
+stops_early status stop.Worn (inl is) early past = absurd early
+stops_early status (stop.Turns n) (inl is) early past = absurd early
+
+pub stops_worn : (status : ℕ) (why : Stop) → Gives status (status_of_stop why) → (let r : Result Served Stop = Err why in StopsWorn r) → status ≢ 13 → (status ≡ 2) ⊎ (status ≡ 4) ⊎ (status ≡ 5) ⊎ (status ≡ 7) ⊎ (status ≡ 10)
+stops_worn status why (inr is) worn past = inr (inr (inr (inr is)))
+stops_worn status stop.Memory (inl is) worn past = inl is
+stops_worn status stop.Read (inl is) worn past = inr (inl is)
+stops_worn status stop.Flash (inl is) worn past = inr (inr (inl is))
+stops_worn status stop.Worn (inl is) worn past = inr (inr (inr (inl is)))
+stops_worn status stop.Attach (inl is) worn past = absurd (past is)
+stops_worn status stop.Words (inl is) worn past = absurd worn
+stops_worn status (stop.Foreign found) (inl is) worn past = absurd worn
+stops_worn status stop.Link (inl is) worn past = absurd worn
+stops_worn status (stop.Turns n) (inl is) worn past = absurd worn

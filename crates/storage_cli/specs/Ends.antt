@@ -1,46 +1,60 @@
--- How a command ends, as the program keeps it: its status, its line, and what it says of the events.
-use Rattle.std.specs.Prelude.{◌≡◌, ℕ, ◌-◌, ◌≤◌, List, [], length, Result, Ok, Err}
+-- How a command ends, as the program keeps it: its status, its line and its cause.
+use Rattle.std.specs.Prelude.{◌≡◌, ◌⊎◌, ◌≤◌, ℕ, List, Result, Ok, Err}
 use Rattle.flash_board.specs.Words.{Words}
-use Rattle.flash_board.specs.Losses.{Received, Frame}
 use Rattle.flash_board.specs.Causes.{Rose}
 use Rattle.flash_board.specs.declared.board.Fault.{Fault}
 use Rattle.flash_board.specs.declared.board.Fault.TheVariants as fault
+use Rattle.sector_switch.specs.FirstBad.{FirstBad, place_of}
+use Rattle.vehicle_node.specs.declared.NodeError.{NodeError}
+use Rattle.vehicle_node.specs.declared.NodeError.TheVariants as node_error
 use Rattle.storage_cli.specs.declared.endings.Served.{Served}
 use Rattle.storage_cli.specs.declared.endings.Stop.{Stop}
 use Rattle.storage_cli.specs.declared.endings.Stop.TheVariants as stop
-use Rattle.storage_cli.specs.Fresh.{FirstForeign}
-use Rattle.storage_cli.specs.Answers.{answers}
-use Rattle.storage_cli.specs.Serving.{HasNoEnd, EndsOnce}
-use Rattle.storage_cli.specs.Texts.{words_line, foreign_line, read_line, flash_line, link_line, turns_line, attach_line}
-use Rattle.std.specs.Prelude.{◌⊎◌}
+use Rattle.storage_cli.specs.Texts.{words_line, memory_line, foreign_line, read_line, flash_line, link_line, worn_line, turns_line, attach_line}
 
 abbrev pub status_of_stop : Stop → ℕ
 status_of_stop stop.Words = 1
+status_of_stop stop.Memory = 2
 status_of_stop (stop.Foreign foreign) = 3
 status_of_stop stop.Read = 4
 status_of_stop stop.Flash = 5
 status_of_stop stop.Link = 6
+status_of_stop stop.Worn = 7
 status_of_stop (stop.Turns turns) = 8
 status_of_stop stop.Attach = 13
 
 abbrev pub line_of_stop : Stop → List ℕ
 line_of_stop stop.Words = words_line
+line_of_stop stop.Memory = memory_line
 line_of_stop (stop.Foreign foreign) = foreign_line foreign.region foreign.offset foreign.word
 line_of_stop stop.Read = read_line
 line_of_stop stop.Flash = flash_line
 line_of_stop stop.Link = link_line
+line_of_stop stop.Worn = worn_line
 line_of_stop (stop.Turns turns) = turns_line turns
 line_of_stop stop.Attach = attach_line
 
+-- why a command stops where a call of the board failed, and where the node stopped
+abbrev pub stop_of_fault : Fault → Stop
+stop_of_fault fault.Attach = stop.Attach
+stop_of_fault fault.Read = stop.Read
+stop_of_fault fault.Flash = stop.Flash
+stop_of_fault fault.Recv = stop.Link
+stop_of_fault fault.Send = stop.Link
+
+abbrev pub stop_of : NodeError → Stop
+stop_of node_error.Memory = stop.Memory
+stop_of (node_error.Fault kind) = stop_of_fault kind
+stop_of (node_error.Foreign region offset word) = stop.Foreign (record { region = region; offset = offset; word = word })
+stop_of (node_error.Worn count) = stop.Worn
+
 -- the fault that a stop tells has its cause
 abbrev pub IsCausedBy : Stop → (Fault → ℕ) → (Fault → ℕ) → Type 0
-IsCausedBy stop.Words before now = Unit {0}
-IsCausedBy (stop.Foreign foreign) before now = Unit {0}
 IsCausedBy stop.Read before now = Rose (before fault.Read) (now fault.Read)
 IsCausedBy stop.Flash before now = Rose (before fault.Flash) (now fault.Flash)
 IsCausedBy stop.Link before now = Rose (before fault.Recv) (now fault.Recv) ⊎ Rose (before fault.Send) (now fault.Send)
-IsCausedBy (stop.Turns turns) before now = Unit {0}
 IsCausedBy stop.Attach before now = Rose (before fault.Attach) (now fault.Attach)
+IsCausedBy _ before now = Unit {0}
 
 -- no count falls, and a stop has its cause
 pub record StopsByCause {T : Type 0} (before now : Fault → ℕ) (result : Result T Stop) : Type 0 where
@@ -49,26 +63,31 @@ pub record StopsByCause {T : Type 0} (before now : Fault → ℕ) (result : Resu
 
 -- a foreign halfword is the first one
 abbrev pub IsFirst : Words → Stop → Type 0
-IsFirst words (stop.Foreign foreign) = FirstForeign words foreign.region foreign.offset foreign.word
+IsFirst words (stop.Foreign foreign) = FirstBad words (place_of foreign.region foreign.offset foreign.word)
 IsFirst words _ = Unit {0}
 
--- a foreign halfword, or a failed read
-abbrev pub IsReadStop : Stop → Type 0
-IsReadStop (stop.Foreign foreign) = Unit {0}
-IsReadStop stop.Read = Unit {0}
-IsReadStop _ = ⊥
+-- what holds where memory is wanting
+abbrev pub OnMemory : Stop → Type 0 → Type 0
+OnMemory stop.Memory P = P
+OnMemory _ P = Unit {0}
 
--- the turns are over, or a failed link
-abbrev pub IsEventStop : Stop → Type 0
-IsEventStop (stop.Turns turns) = Unit {0}
-IsEventStop stop.Link = Unit {0}
-IsEventStop _ = ⊥
+-- what holds where the guard row is used up
+abbrev pub OnWorn : Stop → Type 0 → Type 0
+OnWorn stop.Worn P = P
+OnWorn _ P = Unit {0}
 
 -- why a serve may stop
 abbrev pub IsServeStop : Stop → Type 0
 IsServeStop stop.Words = ⊥
-IsServeStop stop.Flash = ⊥
 IsServeStop _ = Unit {0}
+
+-- why an event may stop it: a failed call, or a guard row that is used up
+abbrev pub IsEventStop : Stop → Type 0
+IsEventStop stop.Words = ⊥
+IsEventStop stop.Memory = ⊥
+IsEventStop (stop.Foreign foreign) = ⊥
+IsEventStop (stop.Turns turns) = ⊥
+IsEventStop _ = Unit {0}
 
 -- a failed program, or a failed attach
 abbrev pub IsFormatStop : Stop → Type 0
@@ -82,25 +101,26 @@ IsAttached (Ok did) = Unit {0}
 IsAttached (Err stop.Attach) = ⊥
 IsAttached (Err _) = Unit {0}
 
--- a foreign halfword, a failed read, or a failed attach
+-- the end came, or the turns are over
+abbrev pub IsDone : Result Served Stop → Type 0
+IsDone (Ok served) = Unit {0}
+IsDone (Err (stop.Turns turns)) = Unit {0}
+IsDone (Err _) = ⊥
+
+-- want of memory, a foreign halfword, a failed read, or a failed attach
 abbrev pub StopsEarly : {T : Type 0} → Result T Stop → Type 0
+StopsEarly (Err stop.Memory) = Unit {0}
 StopsEarly (Err (stop.Foreign foreign)) = Unit {0}
 StopsEarly (Err stop.Read) = Unit {0}
+StopsEarly (Err stop.Flash) = Unit {0}
 StopsEarly (Err stop.Attach) = Unit {0}
 StopsEarly _ = ⊥
 
--- The events of a serve of so many turns that ended so: an end and none before it; that many and no end; no end, where the link
--- failed; none, where the image was not served.
-abbrev pub EndsBy : Result Served Stop → ℕ → List Received → Type 0
-EndsBy (Ok served) turns events = EndsOnce events × (served.events ≡ length events - 1) × (served.frames ≡ length (answers events))
-EndsBy (Err (stop.Turns n)) turns events = HasNoEnd events × (length events ≡ turns) × (n ≡ turns)
-EndsBy (Err stop.Link) turns events = HasNoEnd events
-EndsBy (Err stop.Read) turns events = events ≡ []
-EndsBy (Err (stop.Foreign foreign)) turns events = events ≡ []
-EndsBy (Err _) turns events = ⊥
-
--- all frames are sent, where the serve was not cut off
-abbrev pub SentAll : Result Served Stop → List Received → List Frame → Type 0
-SentAll (Ok served) events frames = frames ≡ answers events
-SentAll (Err (stop.Turns n)) events frames = frames ≡ answers events
-SentAll (Err _) events frames = Unit {0}
+-- want of memory, a failed read, program or erase, a guard row that is used up, or a failed attach
+abbrev pub StopsWorn : {T : Type 0} → Result T Stop → Type 0
+StopsWorn (Err stop.Memory) = Unit {0}
+StopsWorn (Err stop.Read) = Unit {0}
+StopsWorn (Err stop.Flash) = Unit {0}
+StopsWorn (Err stop.Worn) = Unit {0}
+StopsWorn (Err stop.Attach) = Unit {0}
+StopsWorn _ = ⊥

@@ -1,12 +1,7 @@
-pub mod Line
-pub mod Commands
-pub mod Fresh
-pub mod Requests
-pub mod Values
-pub mod Answers
 pub mod Texts
+pub mod Fresh
 pub mod Statuses
 pub mod Serving
 pub mod Ends
-pub mod Standing
-pub mod Parts
+pub mod Progress
+pub mod Printing

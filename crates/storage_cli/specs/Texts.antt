@@ -12,6 +12,9 @@ line_of text = text ++ 10 ∷ []
 abbrev pub words_line : List ℕ
 words_line = line_of (codes "error 1 words")
 
+abbrev pub memory_line : List ℕ
+memory_line = line_of (codes "error 2 memory")
+
 abbrev pub read_line : List ℕ
 read_line = line_of (codes "error 4 read")
 
@@ -20,6 +23,10 @@ flash_line = line_of (codes "error 5 flash")
 
 abbrev pub link_line : List ℕ
 link_line = line_of (codes "error 6 link")
+
+-- the guard row has 8,192 halfwords
+abbrev pub worn_line : List ℕ
+worn_line = line_of (codes "error 7 worn 8192")
 
 abbrev pub attach_line : List ℕ
 attach_line = line_of (codes "error 13 attach")
@@ -47,10 +54,12 @@ served_line events frames = line_of (codes "served " ++ decimal events ++ codes 
 -- the lines that a call may print
 pub data Line : List ℕ → Type 0 where
   Words : Line words_line
+  Memory : Line memory_line
   Foreign : (region : Region) (offset word : ℕ) → Line (foreign_line region offset word)
   Read : Line read_line
   Flash : Line flash_line
   Link : Line link_line
+  Worn : Line worn_line
   Turns : (turns : ℕ) → Line (turns_line turns)
   Attach : Line attach_line
   Served : (events frames : ℕ) → Line (served_line events frames)

@@ -1,5 +1,5 @@
 // How a command ends.
-use crate::image::Foreign;
+use flash_board::Region;
 
 /// What a `serve` has done by its end.
 #[derive(Clone, Copy, Debug, PartialEq, Eq)]
@@ -7,7 +7,16 @@ pub(crate) struct Served {
     /// The events before the end.
     pub(crate) events: u32,
     /// The frames sent.
-    pub(crate) frames: u32,
+    pub(crate) frames: u64,
+}
+
+/// A halfword that no image has at its place.
+#[derive(Clone, Copy, Debug, PartialEq, Eq)]
+pub(crate) struct Foreign {
+    pub(crate) region: Region,
+    /// In halfwords from the start of the region.
+    pub(crate) offset: u32,
+    pub(crate) word: u16,
 }
 
 /// Why a command stopped before its work was done.
@@ -15,11 +24,14 @@ pub(crate) struct Served {
 pub(crate) enum Stop {
     /// The words are no command.
     Words,
-    /// The image isn't fresh.
+    Memory,
+    /// The words of the flash are no image.
     Foreign(Foreign),
     Read,
     Flash,
     Link,
+    /// A sector is to be voided and the guard row is used up.
+    Worn,
     /// So many events were finished, and none was the end.
     Turns(u32),
     Attach,

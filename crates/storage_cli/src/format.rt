@@ -2,11 +2,20 @@
 ghost use Rattle.std.specs.Prelude.{◌≡◌, [], IfErr, IsOk};
 ghost use Rattle.flash_board.specs.Words.{IsSectorSize};
 ghost use Rattle.storage_cli.specs.Ends.{IsAttached, IsFormatStop, StopsByCause};
-ghost use Rattle.storage_cli.specs.Serving.{IsFreshImage, LeavesLink};
+ghost use Rattle.storage_cli.specs.Serving.{LeavesLink};
+ghost use Rattle.storage_cli.specs.Fresh.{IsFreshImage};
 
 use crate::endings::Stop;
-use crate::image::{AVAILABLE, IN_USE, SIGNATURE};
 use flash_board::{Board, Region, program_pair};
+
+/// The first halfword of a sector that is in use.
+const IN_USE: u16 = 0x5BFE;
+
+/// The first halfword of a sector that is available.
+const AVAILABLE: u16 = 0x5BFF;
+
+/// The second halfword of a sector's header.
+const SIGNATURE: u16 = 0x5168;
 
 /// Makes a fresh image with sectors of that size.
 pub(crate) fn format<B: Board>(board: &mut B, image: &str, sector_bytes: u32) -> Result<(), Stop>

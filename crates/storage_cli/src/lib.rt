@@ -1,17 +1,13 @@
-//! The commands of the storage: the words that ask for them, what they do over a board, and what they print.
+//! The commands of the storage: what the words ask for, done over a board, and what is printed of it.
 #![tactic(auto)]
 
 mod endings;
 mod format;
-mod image;
-mod laws;
-mod replies;
+mod printing;
 mod serving;
 mod texts;
 mod top;
-mod words;
 
-pub use laws::{fresh_or_foreign, shows_defaults};
 pub use top::{Status, run};
 
 #[cfg(test)]

@@ -1,120 +1,132 @@
 // Serves an image.
-ghost use Rattle.std.specs.Prelude.{◌≡◌, ◌<◌, ◌≤◌, ◌+◌, ◌-◌, ◌^◌, ◌++◌, List, length, IfErr, OnOk, MatchResult};
-ghost use Rattle.flash_board.specs.declared.board.Fault.{Fault};
-ghost use Rattle.flash_board.specs.Words.{Words, IsSectorSize};
-ghost use Rattle.flash_board.specs.Losses.{Received, Datagram, Frame, Moment};
-ghost use Rattle.flash_board.specs.Causes.{HasCause};
-ghost use Rattle.param_tree.specs.Rows.{vehicle_rows};
-ghost use Rattle.storage_cli.specs.Fresh.{HasForeign};
-ghost use Rattle.storage_cli.specs.Answers.{answer, answers};
-ghost use Rattle.storage_cli.specs.Serving.{ProgramsNothing};
-ghost use Rattle.storage_cli.specs.Standing.{CountsFrames, Halted, Standing, Ended, ServeEnded};
-ghost use Rattle.storage_cli.specs.Ends.{IsAttached, IsFirst, IsServeStop, IsEventStop, StopsEarly, StopsByCause};
+ghost use Rattle.std.specs.Prelude.{◌≡◌, List, ℕ, [], IfOk, IfErr, OnOk, OnErr, ⊤};
+ghost use Rattle.flash_board.specs.Words.{IsSectorSize};
+ghost use Rattle.flash_board.specs.Losses.{Received, Frame, Outcome};
+ghost use Rattle.flash_board.specs.Calls.{Passes};
+ghost use Rattle.sector_switch.specs.FirstBad.{Place, FirstBad};
+ghost use Rattle.sector_switch.specs.Stands.{Stands};
+ghost use Rattle.block_store.specs.Answers.{IsWorn};
+ghost use Rattle.vehicle_node.specs.Standing.{Fits, StandsForRun};
+ghost use Rattle.storage_cli.specs.Serving.{IsUsedUp};
+ghost use Rattle.storage_cli.specs.Ends.{stop_of_fault, stop_of, IsAttached, IsDone, IsServeStop, IsEventStop, IsFirst, OnMemory, OnWorn, StopsEarly, StopsWorn, StopsByCause};
+ghost use Rattle.storage_cli.specs.Progress.{IsSafe, Finishes, Completes, IsSafeRun};
 
-use crate::endings::{Served, Stop};
-use crate::image::test_fresh;
-use crate::replies::reply_to;
-use flash_board::{Board, Event, Failed};
-use param_tree::{Table, vehicle_table};
+use crate::endings::{Foreign, Served, Stop};
+use flash_board::{Board, Fault};
+use std::alloc::Global;
+use vehicle_node::{Node, NodeError, Turn};
 
-const DATAGRAM_BYTES: usize = 2_048;
-
-const PEERS: usize = 8;
-
-/// The frames sent so far.
-#[derive(Drop)]
-struct Sent {
-    /// Each peer's next sequence number.
-    sequences: [u8; PEERS],
-    frames: u32,
-}
-
-// Answers a datagram.
-fn answer<B: Board>(
-    board: &mut B,
-    table: &Table<240>,
-    sent: &mut Sent,
-    peer: u8,
-    datagram: &[u8],
-) -> Result<(), Failed>
-    requires attached { IsSectorSize (B.sector_bytes board.old) }
-    requires table { table.now ≡ vehicle_rows }
-    requires peer { peer < 8 }
-    requires few { sent.old.frames < 2 ^ 32 - 1 }
-    requires peers { length sent.old.sequences ≡ 8 }
-    ensures geometry { B.sector_bytes board.new ≡ B.sector_bytes board.old }
-    ensures told { B.tells board.new → B.tells board.old }
-    ensures flash { ProgramsNothing (B.moment board.old) (B.moment board.new) }
-    ensures counts { OnOk result ((F : List Frame) → CountsFrames sent.old F → CountsFrames sent.new (F ++ answer F (Datagram peer datagram.now))) }
-    ensures answered { (t : Moment) (w : Words) (E : List Received) (F : List Frame) → CountsFrames sent.old F → answers E ≡ F ++ answer F (Datagram peer datagram.now) →
-        Standing B.Board t w board.old E F → MatchResult result (λ _. Standing B.Board t w board.new E (answers E)) (λ _. (H : List Frame) × Halted B.Board t w board.new E H) }
-    ensures cause { HasCause Fault.Send (B.faults board.old) (B.faults board.new) result }
+/// Why a command stops where a call of the board failed.
+pub(crate) fn stop_of_fault(kind: Fault) -> Stop
+    ensures { result ≡ stop_of_fault kind }
 {
-    let sequence = sent.sequences[usize::from(peer)];
-    let Some(frame) = reply_to(table, sequence, datagram) else {
-        return Ok(());
-    };
-    board.send(peer, frame.as_slice())?;
-    sent.sequences[usize::from(peer)] = sequence.wrapping_add(1);
-    sent.frames += 1;
-    Ok(())
+    match kind {
+        Fault::Attach => Stop::Attach,
+        Fault::Read => Stop::Read,
+        Fault::Flash => Stop::Flash,
+        Fault::Recv | Fault::Send => Stop::Link,
+    }
 }
 
-// Finishes events until the end comes, at most so many.
-fn serve_events<B: Board>(board: &mut B, turns: u32) -> Result<Served, Stop>
-    requires { IsSectorSize (B.sector_bytes board.old) }
-    ensures ended { Ended B.Board board.old board.new turns result }
+// Why a command stops where its node did.
+fn stop_of(error: NodeError) -> Stop
+    ensures { result ≡ stop_of error }
+{
+    match error {
+        NodeError::Memory => Stop::Memory,
+        NodeError::Fault(kind) => stop_of_fault(kind),
+        NodeError::Foreign {
+            region,
+            offset,
+            word,
+        } => Stop::Foreign(Foreign {
+            region,
+            offset,
+            word,
+        }),
+        NodeError::Worn { .. } => Stop::Worn,
+    }
+}
+
+// Finishes events until the end comes, at most so many. The number is that of the events before the end.
+fn serve_events<B: Board>(node: &mut Node, board: &mut B, turns: u32) -> Result<Option<u32>, Stop>
+    requires fits { Fits B.Board board.old node.old }
+    ensures fits { OnOk result (Fits B.Board board.new node.new) }
+    ensures finished { IfOk result (λ end. Finishes B.Board node.old board.old node.new board.new turns end) }
+    ensures losses { OnErr result ((b : List ℕ) (e : List Received) (f : List Frame) (m : ℕ) → (B.tells board.old → StandsForRun node.old b e f m) →
+        Passes B.Board board.old board.new (IsSafe b e f) (IsSafe b e f)) }
     ensures told { B.tells board.new → B.tells board.old }
-    ensures flash { ProgramsNothing (B.moment board.old) (B.moment board.new) }
+    ensures worn { IfErr result (λ stop. OnWorn stop ((bytes : _) × IsWorn B.Board board.new bytes)) }
     ensures stops { IfErr result IsEventStop }
     ensures cause { StopsByCause (B.faults board.old) (B.faults board.new) result }
 {
-    let table = vehicle_table();
-    let mut buffer = [0u8; DATAGRAM_BYTES];
-    let mut sent = Sent {
-        sequences: [0; PEERS],
-        frames: 0,
-    };
     for events in 0..turns {
-        let Ok(event) = board.recv(&mut buffer) else {
-            return Err(Stop::Link);
+        let turn = match node.event(board) {
+            Ok(turn) => turn,
+            Err(error) => return Err(stop_of(error)),
         };
-        match event {
-            Event::Datagram { peer, len } => {
-                let datagram = &buffer[..usize::from(len)];
-                if answer(board, &table, &mut sent, peer, datagram).is_err() {
-                    return Err(Stop::Link);
-                }
-            }
-            Event::Idle => {}
-            Event::End => {
-                return Ok(Served {
-                    events,
-                    frames: sent.frames,
-                });
-            }
+        match turn {
+            Turn::End => return Ok(Some(events)),
+            Turn::More => {}
         }
     }
-    Err(Stop::Turns(turns))
+    Ok(None)
 }
 
-/// Attaches a fresh image and serves it.
+// Opens the image, serves it and closes it.
+fn serve_image<B: Board>(alloc: Global, board: &mut B, turns: u32) -> Result<Served, Stop>
+    requires attached { IsSectorSize (B.sector_bytes board.old) }
+    ensures losses { (b : List ℕ) → (B.tells board.old → Stands (B.words board.old) b) → Passes B.Board board.old board.new (IsSafe b [] []) (IsSafe b [] []) }
+    ensures completes { IsDone result → Completes B.Board (B.words board.old) (B.stands board.old [] []) board.new turns result }
+    ensures told { B.tells board.new → B.tells board.old }
+    ensures foreign { B.tells board.new → IfErr result (IsFirst (B.words board.old)) }
+    ensures foreign_where { B.tells board.new → (place : Place) → FirstBad (B.words board.old) place → StopsEarly result }
+    ensures worn { IfErr result (λ stop. OnWorn stop ((bytes : _) × IsWorn B.Board board.new bytes)) }
+    ensures worn_where { B.tells board.new → IsUsedUp (B.words board.old) → StopsWorn result }
+    ensures memory { IfErr result (λ stop. OnMemory stop (board.new ≡ board.old)) }
+    ensures stops { IfErr result IsServeStop }
+    ensures cause { StopsByCause (B.faults board.old) (B.faults board.new) result }
+{
+    let mut node = match Node::open(alloc, board) {
+        Ok(node) => node,
+        Err(error) => return Err(stop_of(error)),
+    };
+    let end = match serve_events(&mut node, board, turns) {
+        Ok(end) => end,
+        Err(stop) => return Err(stop),
+    };
+    let frames = node.frames();
+    match node.close(board) {
+        Ok(()) => {}
+        Err(error) => return Err(stop_of(error)),
+    }
+    match end {
+        Some(events) => Ok(Served { events, frames }),
+        None => Err(Stop::Turns(turns)),
+    }
+}
+
+/// Attaches an image and serves it until the end comes, or so many events are finished.
 pub(crate) fn serve<B: Board>(
+    alloc: Global,
     board: &mut B,
     image: &str,
     port: u16,
     turns: u32,
 ) -> Result<Served, Stop>
-    ensures ended { IsAttached result → ServeEnded B.Board board.old board.new turns result }
+    ensures losses { IsAttached result → (b : List ℕ) → (B.tells board.old → Stands (B.words board.old) b) →
+        (o : Outcome) → B.left board.new (B.moment board.old) o → IsSafeRun b o }
+    ensures completes { IsDone result → Completes B.Board (B.words board.old) ⊤ board.new turns result }
     ensures foreign { B.tells board.new → IfErr result (IsFirst (B.words board.old)) }
-    ensures foreign_where { B.tells board.new → HasForeign (B.words board.old) → StopsEarly result }
-    ensures flash { ProgramsNothing (B.moment board.old) (B.moment board.new) }
+    ensures foreign_where { B.tells board.new → (place : Place) → FirstBad (B.words board.old) place → StopsEarly result }
+    ensures worn { IfErr result (λ stop. OnWorn stop ((bytes : _) × IsWorn B.Board board.new bytes)) }
+    ensures worn_where { B.tells board.new → IsUsedUp (B.words board.old) → StopsWorn result }
+    ensures memory { IfErr result (λ stop. OnMemory stop (B.moment board.new ≡ B.moment board.old)) }
     ensures stops { IfErr result IsServeStop }
     ensures cause { StopsByCause (B.faults board.old) (B.faults board.new) result }
 {
     if board.attach(image, port, None).is_err() {
         return Err(Stop::Attach);
     }
-    test_fresh(board)?;
-    serve_events(board, turns)
+    serve_image(alloc, board, turns)
 }

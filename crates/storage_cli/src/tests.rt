@@ -1,5 +1,7 @@
 ghost use Rattle.std.specs.Prelude.{◌≡◌, IfOk, length};
 
+use crate::endings::Stop;
+use crate::texts::line_of_stop;
 use crate::{Status, run};
 use arrayvec::ArrayVec;
 use flash_board::{
@@ -37,7 +39,7 @@ fn call<B: Board>(
     board: &mut B,
 ) -> Result<(Status, Vec<u8>), AllocError> {
     let mut input = SureSource::new(alloc, &[])?;
-    let mut out = SureSink::new(alloc, 200)?;
+    let mut out = SureSink::new(alloc, 20_000)?;
     let status = run(alloc, words, board, &mut input, &mut out);
     Ok((status, Vec::from_slice(alloc, out.bytes())?))
 }
@@ -89,7 +91,7 @@ struct Case {
     line: &'static [u8],
 }
 
-const CASES: [Case; 5] = [
+const CASES: [Case; 13] = [
     Case {
         words: &[],
         fails: &[],
@@ -103,7 +105,31 @@ const CASES: [Case; 5] = [
         line: b"error 1 words\n",
     },
     Case {
+        words: &["serve", "a", "--turns", "2", "--turns", "2"],
+        fails: &[],
+        status: 1,
+        line: b"error 1 words\n",
+    },
+    Case {
+        words: &["serve", "-a"],
+        fails: &[],
+        status: 1,
+        line: b"error 1 words\n",
+    },
+    Case {
+        words: &["serve", "a", "--turns", "02147483648"],
+        fails: &[],
+        status: 1,
+        line: b"error 1 words\n",
+    },
+    Case {
         words: &["serve", "a", "--turns", "2"],
+        fails: &[],
+        status: 8,
+        line: b"error 8 turns 2\n",
+    },
+    Case {
+        words: &["serve", "--turns=2", "--", "-a"],
         fails: &[],
         status: 8,
         line: b"error 8 turns 2\n",
@@ -116,6 +142,30 @@ const CASES: [Case; 5] = [
     },
     Case {
         words: &["serve", "a"],
+        fails: &[1],
+        status: 4,
+        line: b"error 4 read\n",
+    },
+    Case {
+        words: &["dump", "a", "--port", "7"],
+        fails: &[],
+        status: 1,
+        line: b"error 1 words\n",
+    },
+    Case {
+        words: &["dump", "a"],
+        fails: &[0],
+        status: 13,
+        line: b"error 13 attach\n",
+    },
+    Case {
+        words: &["dump", "a"],
+        fails: &[1],
+        status: 4,
+        line: b"error 4 read\n",
+    },
+    Case {
+        words: &["report", "a"],
         fails: &[1],
         status: 4,
         line: b"error 4 read\n",
@@ -133,6 +183,37 @@ fn tells_why_it_stopped(rt: HostRuntime) -> Result<(), Fail> {
         assert_eq!(rt; status, Status(case.status));
         assert_eq!(rt; text.as_slice(), case.line);
     }
+    Ok(())
+}
+
+#[test]
+fn prints_want_of_memory_and_wear(rt: HostRuntime) {
+    let memory = line_of_stop(Stop::Memory);
+    assert_eq!(rt; memory.as_slice(), b"error 2 memory\n".as_slice());
+    let worn = line_of_stop(Stop::Worn);
+    assert_eq!(rt; worn.as_slice(), b"error 7 worn 8192\n".as_slice());
+}
+
+// Sector 0 is full, sector 1 is available, and the guard row is used up.
+fn worn_image(alloc: Global) -> Result<Vec<u8>, AllocError>
+    ensures { IfOk result (λ image. length image.items ≡ 278528) }
+{
+    let mut image = Vec::from_slice(alloc, &[0xFCu8, 0x5B, 0x68, 0x51])?;
+    image.resize(131_072, 0xFF)?;
+    image.extend_from_slice(&[0xFF, 0x5B, 0x68, 0x51])?;
+    image.resize(262_144, 0xFF)?;
+    image.resize(278_528, 0)?;
+    Ok(image)
+}
+
+#[test]
+fn tells_that_the_guard_row_is_used_up(rt: HostRuntime) -> Result<(), Fail> {
+    let alloc = rt.alloc();
+    let image = worn_image(alloc)?;
+    let mut board = SureBoard::new(alloc, &image, &[Feed::End])?;
+    let (status, text) = call(alloc, &["serve", "a"], &mut board)?;
+    assert_eq!(rt; status, Status(7));
+    assert_eq!(rt; text.as_slice(), b"error 7 worn 8192\n".as_slice());
     Ok(())
 }
 
@@ -208,15 +289,23 @@ impl Board for Refusing {
 #[test]
 fn hands_the_words_on_to_the_attach(rt: HostRuntime) -> Result<(), Fail> {
     let alloc = rt.alloc();
-    let cases: [(&[&str], u16, Option<u32>); 4] = [
-        (&["serve", "a.img"], 14_550, None),
-        (&["serve", "a.img", "--port", "7"], 7, None),
-        (&["format", "a.img"], 0, Some(131_072)),
-        (&["format", "a.img", "--sector", "16384"], 0, Some(16_384)),
+    let cases: [(&[&str], &'static str, u16, Option<u32>); 7] = [
+        (&["serve", "a.img"], "a.img", 14_550, None),
+        (&["serve", "a.img", "--port", "7"], "a.img", 7, None),
+        (&["serve", "--turns=2", "--", "-a"], "-a", 14_550, None),
+        (&["format", "a.img"], "a.img", 0, Some(131_072)),
+        (
+            &["format", "a.img", "--sector", "16384"],
+            "a.img",
+            0,
+            Some(16_384),
+        ),
+        (&["dump", "a.img"], "a.img", 0, None),
+        (&["report", "a.img"], "a.img", 0, None),
     ];
-    for (words, port, make) in cases {
+    for (words, name, port, make) in cases {
         let mut board = Refusing {
-            name: "a.img",
+            name,
             port,
             make,
             sector_bytes: 0,
@@ -226,5 +315,44 @@ fn hands_the_words_on_to_the_attach(rt: HostRuntime) -> Result<(), Fail> {
         assert_eq!(rt; status, Status(13));
         assert!(rt; board.is_asked);
     }
+    Ok(())
+}
+
+#[test]
+fn reports_and_dumps_an_image_that_format_made(rt: HostRuntime) -> Result<(), Fail> {
+    let alloc = rt.alloc();
+    let image = vec![in alloc; 0u8; 49_152]?;
+    let mut board = MemBoard::new(alloc, &image, &[], &[])?;
+    let words = ["format", "a", "--sector", "16384"];
+    let (status, _) = call(alloc, &words, &mut board)?;
+    assert_eq!(rt; status, Status(0));
+    let (status, text) = call(alloc, &["report", "a"], &mut board)?;
+    assert_eq!(rt; status, Status(0));
+    let expected =
+        b"image 16384\nguard 0\ns0 inuse entries 0 torn 0 free 16380\ns1 available entries 0 torn 0 free 16380\nstate alone\n";
+    assert_eq!(rt; text.as_slice(), expected.as_slice());
+    let (status, text) = call(alloc, &["dump", "a"], &mut board)?;
+    assert_eq!(rt; status, Status(0));
+    assert!(rt; text.starts_with(b"image 16384 guard 0 alone\n"));
+    Ok(())
+}
+
+#[test]
+fn dumps_no_foreign_image_and_reports_it(rt: HostRuntime) -> Result<(), Fail> {
+    let alloc = rt.alloc();
+    // the third halfword of sector 0, 000E, begins no entry
+    let mut image = Vec::from_slice(alloc, &[0xFEu8, 0x5B, 0x68, 0x51, 0x0E, 0x00])?;
+    image.resize(16_384, 0xFF)?;
+    image.extend_from_slice(&[0xFF, 0x5B, 0x68, 0x51])?;
+    image.resize(49_152, 0xFF)?;
+    let mut board = MemBoard::new(alloc, &image, &[], &[])?;
+    let (status, text) = call(alloc, &["dump", "a"], &mut board)?;
+    assert_eq!(rt; status, Status(3));
+    assert_eq!(rt; text.as_slice(), b"error 3 foreign s0 2 000E\n".as_slice());
+    let (status, text) = call(alloc, &["report", "a"], &mut board)?;
+    assert_eq!(rt; status, Status(0));
+    let expected =
+        b"image 16384\nguard 0\ns0 foreign 2 000E\ns1 available entries 0 torn 0 free 16380\nstate foreign\n";
+    assert_eq!(rt; text.as_slice(), expected.as_slice());
     Ok(())
 }

@@ -3,8 +3,7 @@ ghost use Rattle.std.specs.Prelude.{◌≡◌, ◌≤◌, ◌+◌, ◌++◌, dec
 ghost use Rattle.storage_cli.specs.Texts.{line_of, served_line, turns_line, region_name, word_text, foreign_line};
 ghost use Rattle.storage_cli.specs.Ends.{line_of_stop};
 
-use crate::endings::{Served, Stop};
-use crate::image::Foreign;
+use crate::endings::{Foreign, Served, Stop};
 use arrayvec::ArrayVec;
 use flash_board::Region;
 use itoa::Buffer;
@@ -22,10 +21,10 @@ fn push(line: &mut Line, bytes: &[u8])
     }
 }
 
-fn push_number(line: &mut Line, number: u32)
-    requires { length line.old.items ≤ 50 }
+fn push_number(line: &mut Line, number: u64)
+    requires { length line.old.items ≤ 40 }
     ensures bytes { line.new.items ≡ line.old.items ++ decimal number }
-    ensures len { length line.new.items ≤ length line.old.items + 10 }
+    ensures len { length line.new.items ≤ length line.old.items + 20 }
 {
     let mut buffer = Buffer::new();
     push(line, buffer.format(number).as_bytes());
@@ -63,7 +62,7 @@ pub(crate) fn served_line(served: Served) -> Line
 {
     let mut line = Line::new();
     push(&mut line, b"served ");
-    push_number(&mut line, served.events);
+    push_number(&mut line, u64::from(served.events));
     push(&mut line, b" events ");
     push_number(&mut line, served.frames);
     push(&mut line, b" frames\n");
@@ -75,7 +74,7 @@ fn turns_line(turns: u32) -> Line
 {
     let mut line = Line::new();
     push(&mut line, b"error 8 turns ");
-    push_number(&mut line, turns);
+    push_number(&mut line, u64::from(turns));
     push(&mut line, b"\n");
     line
 }
@@ -98,7 +97,7 @@ fn foreign_line(foreign: Foreign) -> Line
     push(&mut line, b"error 3 foreign ");
     push(&mut line, region_name(foreign.region));
     push(&mut line, b" ");
-    push_number(&mut line, foreign.offset);
+    push_number(&mut line, u64::from(foreign.offset));
     push(&mut line, b" ");
     push_word(&mut line, foreign.word);
     push(&mut line, b"\n");
@@ -111,10 +110,12 @@ pub(crate) fn line_of_stop(stop: Stop) -> Line
 {
     match stop {
         Stop::Words => line_of(b"error 1 words"),
+        Stop::Memory => line_of(b"error 2 memory"),
         Stop::Foreign(foreign) => foreign_line(foreign),
         Stop::Read => line_of(b"error 4 read"),
         Stop::Flash => line_of(b"error 5 flash"),
         Stop::Link => line_of(b"error 6 link"),
+        Stop::Worn => line_of(b"error 7 worn 8192"),
         Stop::Turns(turns) => turns_line(turns),
         Stop::Attach => line_of(b"error 13 attach"),
     }

@@ -1,50 +1,28 @@
-use Rattle.std.proofs.Common.{◌∙◌, sym, subst, refl}
+use Rattle.std.proofs.Common.{◌∙◌, sym, subst}
 use Rattle.flash_board.specs.Words.{Words}
-use Rattle.storage_cli.specs.Fresh.{IsFresh}
-use Rattle.storage_cli.specs.Ends.{IsFirst, IsEventStop, StopsEarly}
-use Rattle.storage_cli.specs.Standing.{ServeEnded}
-use Rattle.storage_cli.proofs.Sending.{on_ok_part}
-use Rattle.storage_cli.proofs.Standing.{standing_attached}
-use Rattle.storage_cli.proofs.Testing.{err_same, if_err}
-use Rattle.storage_cli.proofs.Serves.{err_is, not_both, stops_early, event_first, early_ended, events_ended}
+use Rattle.sector_switch.specs.FirstBad.{FirstBad}
+use Rattle.sector_switch.specs.Stands.{Stands}
+use Rattle.storage_cli.proofs.Formatting.{on_ok_part}
+use Rattle.storage_cli.proofs.Serves.{safe_run, completes_attached}
 use Rattle.storage_cli.proofs.serving.serve.Goals as goal
 
-pub returns-in_err-test_fresh-clause-ended : goal.returns-in_err-test_fresh-clause-ended
-returns-in_err-test_fresh-clause-ended g c = λ attached.
-    let b = g.B.Board in
+pub returns-clause-losses : goal.returns-clause-losses
+returns-clause-losses g c = λ attached b stands o left.
     let a = c.attach.ensures in
     let ok = sym c.is_err.ensures.value ∙ c.if-is_err.false in
-    let s = standing_attached b g.met.B.Board.reads g.met.B.Board.only_now c.args.board.now c.attach.new.self (on_ok_part c.attach.result _ ok a.words) (on_ok_part c.attach.result _ ok a.lists) (on_ok_part c.attach.result _ ok a.starts) a.moment in
-    let why = c.in_err-test_fresh.field-0.0 in
-    subst (λ r. ServeEnded b c.args.board.now c.test_fresh.new.board c.args.turns r) (sym (err_is c.from_residual.result why c.from_residual.ensures.1))
-    (early_ended b g.met.B.Board.reads c.args.board.now c.attach.new.self c.test_fresh.new.board c.args.turns why c.in_err-test_fresh.ensures.stops c.in_err-test_fresh.ensures.changes s)
+    let begins = λ (t : g.B.Board.tells c.attach.new.self). subst (λ (w : Words). Stands w b) (sym (on_ok_part c.attach.result _ ok a.words t)) (stands (a.told t)) in
+    safe_run g.B.Board g.met.B.Board.reads g.met.B.Board.only_now c.args.board.now c.attach.new.self c.serve_image.new.board b a.moment (on_ok_part c.attach.result _ ok a.starts) begins
+    (c.serve_image.ensures.losses b begins) o left
 
-pub returns-in_err-test_fresh-clause-foreign : goal.returns-in_err-test_fresh-clause-foreign
-returns-in_err-test_fresh-clause-foreign g c = λ told.
-    let ok = sym c.is_err.ensures.value ∙ c.if-is_err.false in
-    let why = c.in_err-test_fresh.field-0.0 in
-    let same = on_ok_part c.attach.result _ ok c.attach.ensures.words (c.in_err-test_fresh.ensures.changes.told told) in
-    err_same c.from_residual.result _ why c.from_residual.ensures.1 (subst (λ (w : Words). IsFirst w why) same (c.in_err-test_fresh.ensures.foreign told))
-
-pub returns-in_err-test_fresh-clause-foreign_where : goal.returns-in_err-test_fresh-clause-foreign_where
-returns-in_err-test_fresh-clause-foreign_where g c = λ told has.
-    let why = c.in_err-test_fresh.field-0.0 in
-    subst (λ r. StopsEarly r) (sym (err_is c.from_residual.result why c.from_residual.ensures.1)) (stops_early why c.in_err-test_fresh.ensures.stops)
-
-pub returns-clause-ended : goal.returns-clause-ended
-returns-clause-ended g c = λ attached.
-    let b = g.B.Board in
+pub returns-clause-completes : goal.returns-clause-completes
+returns-clause-completes g c = λ done.
     let a = c.attach.ensures in
     let ok = sym c.is_err.ensures.value ∙ c.if-is_err.false in
-    let s = standing_attached b g.met.B.Board.reads g.met.B.Board.only_now c.args.board.now c.attach.new.self (on_ok_part c.attach.result _ ok a.words) (on_ok_part c.attach.result _ ok a.lists) (on_ok_part c.attach.result _ ok a.starts) a.moment in
-    events_ended b g.met.B.Board.reads c.args.board.now c.attach.new.self c.test_fresh.new.board c.serve_events.new.board c.args.turns c.serve_events.result c.in_ok-test_fresh.ensures.changes s c.serve_events.ensures.ended
-
-pub returns-clause-foreign : goal.returns-clause-foreign
-returns-clause-foreign g c = λ told. if_err c.serve_events.result IsEventStop (IsFirst (g.B.Board.words c.args.board.now)) (event_first (g.B.Board.words c.args.board.now)) c.serve_events.ensures.stops
+    completes_attached g.B.Board c.attach.new.self c.serve_image.new.board (g.B.Board.words c.args.board.now) c.args.turns c.serve_image.result
+    (λ t. on_ok_part c.attach.result _ ok a.words (c.serve_image.ensures.told t)) (on_ok_part c.attach.result _ ok a.lists) (c.serve_image.ensures.completes done)
 
 pub returns-clause-foreign_where : goal.returns-clause-foreign_where
-returns-clause-foreign_where g c = λ told has.
+returns-clause-foreign_where g c = λ told place bad.
     let ok = sym c.is_err.ensures.value ∙ c.if-is_err.false in
-    let read = c.serve_events.ensures.told told in
-    let same = on_ok_part c.attach.result _ ok c.attach.ensures.words (c.in_ok-test_fresh.ensures.changes.told read) in
-    absurd (not_both (g.B.Board.words c.args.board.now) (subst IsFresh same (c.in_ok-test_fresh.ensures.fresh read refl)) has)
+    let same = on_ok_part c.attach.result _ ok c.attach.ensures.words (c.serve_image.ensures.told told) in
+    c.serve_image.ensures.foreign_where told place (subst (λ (w : Words). FirstBad w place) (sym same) bad)

@@ -1,14 +1,11 @@
-use Rattle.std.proofs.Common.{◌≤◌}
-use Rattle.flash_board.specs.Words.{IsSectorSize}
-use Rattle.storage_cli.specs.Serving.{ProgramsNothing}
-use Rattle.storage_cli.specs.Standing.{Finished}
+use Rattle.std.proofs.Common.{◌≤◌, None}
+use Rattle.vehicle_node.specs.Standing.{Fits}
+use Rattle.storage_cli.specs.Progress.{Finishes}
 use Rattle.storage_cli.proofs.serving.serve_events.Given as goal
 
 abbrev pub invariant-loop-events : goal.invariant-loop-events
 invariant-loop-events g l = record {
-  attached : IsSectorSize (g.B.Board.sector_bytes l.board);
-  finished : Finished g.B.Board l.fn.board l.board l.sent l.events;
-  flash : ProgramsNothing (g.B.Board.moment l.fn.board) (g.B.Board.moment l.board);
-  told : g.B.Board.tells l.board → g.B.Board.tells l.fn.board;
+  finishes : Finishes g.B.Board l.fn.node l.fn.board l.node l.board l.events None;
+  fits : Fits g.B.Board l.board l.node;
   faults : (k : _) → g.B.Board.faults l.fn.board k ≤ g.B.Board.faults l.board k;
 }

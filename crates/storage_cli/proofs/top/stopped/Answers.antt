@@ -6,8 +6,8 @@ use Rattle.storage_cli.proofs.top.stopped.Goals as goal
 pub returns-clause-cut : goal.returns-clause-cut
 returns-clause-cut g c = λ failed told.
     let part = c.print.ensures.cut failed told in record {
-      line = c.as_slice.result.now;
-      is_line = subst (λ (l : List ℕ). Line l) (sym (c.as_slice.ensures.value ∙ c.line_of_stop-line.ensures)) (line_is c.args.stop);
+      text = c.as_slice.result.now;
+      is_text = subst (λ (l : List ℕ). Line l) (sym (c.as_slice.ensures.value ∙ c.line_of_stop-line.ensures)) (line_is c.args.stop);
       count = part.0;
       written = part.1;
     }

@@ -1,0 +1,123 @@
+-- The calls of a node, one after another.
+use Rattle.std.proofs.Common.{◌≡◌, ◌≢◌, ℕ, ◌+◌, List, [], ◌∷◌, ◌++◌, length, refl, sym, ◌∙◌, ap, subst, arith, append_assoc, append-nil, length-append, Some, None}
+use Rattle.flash_board.specs.declared.board.Board.{Ghosts}
+use Rattle.flash_board.specs.Calls.{Passes}
+use Rattle.flash_board.specs.Losses.{Received, End, Frame, Outcome, After}
+use Rattle.flash_board.proofs.Moments.{started, chained}
+use Rattle.vehicle_node.specs.declared.Turn.{Turn}
+use Rattle.vehicle_node.specs.declared.Turn.TheVariants as turn
+use Rattle.vehicle_node.specs.Safe.{Safe, SafeSince, Adds}
+use Rattle.vehicle_node.specs.Standing.{Node, StandsForRun, Finished}
+use Rattle.storage_cli.specs.Serving.{HasNoEnd}
+use Rattle.storage_cli.specs.Progress.{IsSafe, Progress, Finishes}
+
+adds_none : (s : Outcome) → Adds [] [] s s
+adds_none s = record { events_are = sym (append-nil s.events); frames_are = sym (append-nil s.frames) }
+
+adds_then : (es more : List Received) (fs others : List Frame) (s m o : Outcome) → Adds es fs s m → Adds more others m o → Adds (es ++ more) (fs ++ others) s o
+adds_then es more fs others s m o first second = record {
+  events_are = second.events_are ∙ ap (λ (l : List Received). l ++ more) first.events_are ∙ append_assoc s.events es more;
+  frames_are = second.frames_are ∙ ap (λ (l : List Frame). l ++ others) first.frames_are ∙ append_assoc s.frames fs others;
+}
+
+pub some_safe : (b : List ℕ) (e : List Received) (f : List Frame) (n : ℕ) (s o : Outcome) → SafeSince b e f n s o → IsSafe b e f s o
+some_safe b e f n s o since = record { finished = n; since = since }
+
+-- what is safe behind an addition is safe with it
+pub safe_later : (b : List ℕ) (e es : List Received) (f fs : List Frame) (n : ℕ) (s m o : Outcome) → Adds es fs s m → SafeSince b (e ++ es) (f ++ fs) n m o → IsSafe b e f s o
+safe_later b e es f fs n s m o adds since = record {
+  finished = n;
+  since = record {
+    added_events = es ++ since.added_events;
+    events_are = since.events_are ∙ ap (λ (l : List Received). l ++ since.added_events) adds.events_are ∙ append_assoc s.events es since.added_events;
+    added_frames = fs ++ since.added_frames;
+    frames_are = since.frames_are ∙ ap (λ (l : List Frame). l ++ since.added_frames) adds.frames_are ∙ append_assoc s.frames fs since.added_frames;
+    safe = subst (λ (l : List Received). Safe b l (f ++ (fs ++ since.added_frames)) n o.words) (append_assoc e es since.added_events)
+        (subst (λ (l : List Frame). Safe b ((e ++ es) ++ since.added_events) l n o.words) (append_assoc f fs since.added_frames) since.safe);
+  };
+}
+
+-- nothing was added before
+pub safe_behind : (b : List ℕ) (s m o : Outcome) → Adds [] [] s m → IsSafe b [] [] m o → IsSafe b [] [] s o
+safe_behind b s m o adds safe = safe_later b [] [] [] [] safe.finished s m o adds safe.since
+
+no_end_push : (events : List Received) (e : Received) → HasNoEnd events → e ≢ End → HasNoEnd (events ++ e ∷ [])
+no_end_push [] e all this = (this, tt)
+no_end_push (x ∷ events) e all this = (all.0, no_end_push events e all.1 this)
+
+not_both : (t : Turn) → t ≡ turn.More → t ≡ turn.End → ⊥
+not_both t more end = cc
+
+module _ {B : Type 0} (g : Ghosts B) where
+  -- another step of the call itself
+  pub ending : {a b : B} {lost done : Outcome → Outcome → Type 0} (step : Outcome → Outcome → Type 0) → Passes g a b lost done → ((o : Outcome) → g.now b o → After (g.now a) step o) → Passes g a b lost step
+  ending step call here = record { later = call.later; inside = call.inside; here = here; keeps = call.keeps }
+
+  pub progress_none : (node : Node) (board : B) → Progress g node board node board [] []
+  progress_none node board = record {
+    told = λ told. told;
+    lists = λ e f stood. subst (λ (l : List Received). g.stands board l (f ++ [])) (sym (append-nil e)) (subst (λ (l : List Frame). g.stands board e l) (sym (append-nil f)) stood);
+    stands = λ b e f m run. subst (λ (n : ℕ). StandsForRun node b (e ++ []) (f ++ []) n) (omega arith)
+        (subst (λ (l : List Received). StandsForRun node b l (f ++ []) m) (sym (append-nil e)) (subst (λ (l : List Frame). StandsForRun node b e l m) (sym (append-nil f)) run));
+    losses = λ b e f m runs. started board (IsSafe b e f) (Adds [] []) adds_none;
+  }
+
+  -- one event more
+  module _ (node : Node) (board : B) (mid : Node) (mid_board : B) (new : Node) (new_board : B) (es : List Received) (fs : List Frame) (p : Progress g node board mid mid_board es fs) where
+    pub progress_more : (answer : Turn) (f : Finished g mid mid_board new new_board answer) → (g.tells new_board → g.tells mid_board)
+        → ((b : List ℕ) (e : List Received) (sent : List Frame) (m : ℕ) → (g.tells mid_board → StandsForRun mid b e sent m) → Passes g mid_board new_board (SafeSince b e sent m) (SafeSince b e sent (m + 1)))
+        → Progress g node board new new_board (es ++ f.event ∷ []) (fs ++ f.frames)
+    progress_more answer f told losses = record {
+      told = λ t. p.told (told t);
+      lists = λ e sent stood.
+          subst (λ (l : List Received). g.stands new_board l (sent ++ (fs ++ f.frames))) (append_assoc e es (f.event ∷ []))
+          (subst (λ (l : List Frame). g.stands new_board ((e ++ es) ++ f.event ∷ []) l) (append_assoc sent fs f.frames) (f.lists (e ++ es) (sent ++ fs) (p.lists e sent stood)));
+      stands = λ b e sent m run.
+          subst (λ (n : ℕ). StandsForRun new b (e ++ (es ++ f.event ∷ [])) (sent ++ (fs ++ f.frames)) n) (omega (arith, length-append es (f.event ∷ [])))
+          (subst (λ (l : List Received). StandsForRun new b l (sent ++ (fs ++ f.frames)) (m + length es + 1)) (append_assoc e es (f.event ∷ []))
+          (subst (λ (l : List Frame). StandsForRun new b ((e ++ es) ++ f.event ∷ []) l (m + length es + 1)) (append_assoc sent fs f.frames) (f.stands b (e ++ es) (sent ++ fs) (m + length es) (p.stands b e sent m run))));
+      losses = λ b e sent m runs.
+          let call = losses b (e ++ es) (sent ++ fs) (m + length es) (λ t. p.stands b e sent m (runs (p.told t))) in
+          chained (IsSafe b e sent) (Adds (es ++ f.event ∷ []) (fs ++ f.frames)) (p.losses b e sent m runs) (ending (Adds (f.event ∷ []) f.frames) call f.here)
+          (λ s o safe. safe)
+          (λ s n o now adds since. safe_later b e es sent fs (m + length es) s n o adds since)
+          (λ s n o now adds more. adds_then es (f.event ∷ []) fs f.frames s n o adds more);
+    }
+
+    -- a call that failed
+    pub progress_lost : (b : List ℕ) (e : List Received) (sent : List Frame) (m : ℕ) → (g.tells board → StandsForRun node b e sent m)
+        → ((b : List ℕ) (e : List Received) (sent : List Frame) (m : ℕ) → (g.tells mid_board → StandsForRun mid b e sent m) → Passes g mid_board new_board (SafeSince b e sent m) (SafeSince b e sent m))
+        → Passes g board new_board (IsSafe b e sent) (IsSafe b e sent)
+    progress_lost b e sent m runs losses =
+        let call = losses b (e ++ es) (sent ++ fs) (m + length es) (λ t. p.stands b e sent m (runs (p.told t))) in
+        chained (IsSafe b e sent) (IsSafe b e sent) (p.losses b e sent m runs) call
+        (λ s o safe. safe)
+        (λ s n o now adds since. safe_later b e es sent fs (m + length es) s n o adds since)
+        (λ s n o now adds since. safe_later b e es sent fs (m + length es) s n o adds since)
+
+  pub finishes_none : (node : Node) (board : B) → Finishes g node board node board 0 None
+  finishes_none node board = record { events = []; frames = []; progress = progress_none node board; ends = (tt, refl) }
+
+  module _ (node : Node) (board : B) (mid : Node) (mid_board : B) (new : Node) (new_board : B) (n : ℕ) (p : Finishes g node board mid mid_board n None) (answer : Turn) (f : Finished g mid mid_board new new_board answer)
+      (told : g.tells new_board → g.tells mid_board)
+      (losses : (b : List ℕ) (e : List Received) (sent : List Frame) (m : ℕ) → (g.tells mid_board → StandsForRun mid b e sent m) → Passes g mid_board new_board (SafeSince b e sent m) (SafeSince b e sent (m + 1))) where
+    -- one that is no end
+    pub finishes_more : answer ≡ turn.More → Finishes g node board new new_board (n + 1) None
+    finishes_more is = record {
+      events = p.events ++ f.event ∷ [];
+      frames = p.frames ++ f.frames;
+      progress = progress_more node board mid mid_board new new_board p.events p.frames p.progress answer f told losses;
+      ends = (no_end_push p.events f.event p.ends.0 (λ end. not_both answer is (f.last.1 end)), omega (arith, length-append p.events (f.event ∷ []), p.ends.1));
+    }
+
+    -- the end
+    pub finishes_end : (turns : ℕ) → answer ≡ turn.End → Finishes g node board new new_board turns (Some n)
+    finishes_end turns is = record {
+      events = p.events ++ f.event ∷ [];
+      frames = p.frames ++ f.frames;
+      progress = progress_more node board mid mid_board new new_board p.events p.frames p.progress answer f told losses;
+      ends = (
+        (p.events, ap (λ (e : Received). p.events ++ e ∷ []) (f.last.0 is), p.ends.0),
+        omega (arith, length-append p.events (f.event ∷ []), p.ends.1),
+      );
+    }

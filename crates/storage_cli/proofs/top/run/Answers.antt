@@ -1,0 +1,25 @@
+use Rattle.std.proofs.Common.{refl, Some}
+use Rattle.command_line.specs.Commands.{line_of}
+use Rattle.command_line.specs.Lines.{line_of_words}
+use Rattle.command_line.specs.declared.Command.TheVariants as command
+use Rattle.storage_cli.specs.Statuses.{texts}
+use Rattle.storage_cli.proofs.TextEndings.{cut_short_of, line_given}
+use Rattle.storage_cli.proofs.top.run.Goals as goal
+
+pub returns-in-Ok-Some-Dump-clause-cut_short : goal.returns-in-Ok-Some-Dump-clause-cut_short
+returns-in-Ok-Some-Dump-clause-cut_short g c = λ failed told_out.
+    let a = c.in-Ok-Some-Dump in
+    let line = line_of_words (texts c.args.words.now) in
+    cut_short_of line (Some (line_of (command.Dump a.image))) (g.B.Board.tells c.run_text.new.board) (g.B.Board.words c.args.board.now) (g.K.Sink.written c.args.out.now) (g.K.Sink.written c.run_text.new.out)
+    (line_given line a.field-0 a.field-0-0 (command.Dump a.image) a.ensures.value a.field-0-is a.field-0-0-is) (c.run_text.ensures.cut_short failed told_out)
+
+pub returns-in-Ok-Some-Dump-clause-dump_foreign_where : goal.returns-in-Ok-Some-Dump-clause-dump_foreign_where
+returns-in-Ok-Some-Dump-clause-dump_foreign_where g c = λ image is past told place bad. c.run_text.ensures.foreign_where refl past told place bad
+
+pub returns-in-Ok-Some-Report-clause-cut_short : goal.returns-in-Ok-Some-Report-clause-cut_short
+returns-in-Ok-Some-Report-clause-cut_short g c = λ failed told_out.
+    let a = c.in-Ok-Some-Report in
+    let line = line_of_words (texts c.args.words.now) in
+    let ran = c.run_text-in-Ok-Some-Report in
+    cut_short_of line (Some (line_of (command.Report a.image))) (g.B.Board.tells ran.new.board) (g.B.Board.words c.args.board.now) (g.K.Sink.written c.args.out.now) (g.K.Sink.written ran.new.out)
+    (line_given line a.field-0 a.field-0-0 (command.Report a.image) a.ensures.value a.field-0-is a.field-0-0-is) (ran.ensures.cut_short failed told_out)
