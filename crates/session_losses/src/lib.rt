@@ -1,0 +1,5 @@
+//! Sessions of a node, over boards in memory: each loss of power, and what two stations are sent.
+#![tactic(auto)]
+
+#[cfg(test)]
+mod tests;
