@@ -1,5 +1,5 @@
 pub mod Store
 pub mod Losses
-pub mod Answers
+pub mod Refusals
 pub mod Entries
 pub mod Inside

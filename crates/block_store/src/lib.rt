@@ -16,7 +16,7 @@ ghost use Rattle.sector_switch.specs.Losses.{KeepsBytes};
 ghost use Rattle.block_store.specs.declared.PutError.TheVariants.{NoRoom};
 ghost use Rattle.block_store.specs.Store.{Store, Fits, IsEntry, durable_of, is_alone, is_spilled, is_spent, guard_of, guard_ahead, room_of, free_of, spare_of, entry_bytes, lacks_room, raise};
 ghost use Rattle.block_store.specs.Losses.{PutsLines, MayPutLines};
-ghost use Rattle.block_store.specs.Answers.{OnMemory, OnOpenFault, OnOpenForeign, OnOpenWorn, OnFault, OnWorn, OnNoRoom, OnSpending, IsWorn};
+ghost use Rattle.block_store.specs.Refusals.{OnMemory, OnOpenFault, OnOpenForeign, OnOpenWorn, OnFault, OnWorn, OnNoRoom, OnSpending, IsWorn};
 
 mod entry;
 mod moves;

@@ -8,7 +8,7 @@ ghost use Rattle.sector_switch.specs.Images.{Bytes};
 ghost use Rattle.sector_switch.specs.Room.{chunks};
 ghost use Rattle.sector_switch.specs.Losses.{KeepsBytes};
 ghost use Rattle.sector_switch.specs.Fits.{FitsAlone, FitsSpilled, FitsVoided, free_of, left_chunks, taken_of, marked_from, spilled_from, alone_from};
-ghost use Rattle.block_store.specs.Answers.{OnFault, OnWorn, OnNoRoom, IsWorn};
+ghost use Rattle.block_store.specs.Refusals.{OnFault, OnWorn, OnNoRoom, IsWorn};
 
 use crate::PutError;
 use flash_board::{Board, Fault};

@@ -13,7 +13,7 @@ ghost use Rattle.sector_switch.specs.Fits.{FitsAlone};
 ghost use Rattle.block_store.specs.Store.{FitsState, alone, spilled, guard_in, room_in, free_in, spare_in, lacks_in};
 ghost use Rattle.block_store.specs.Inside.{state_of, IsInside, due_in};
 ghost use Rattle.block_store.specs.Entries.{PutsEntry, MayPutEntry};
-ghost use Rattle.block_store.specs.Answers.{OnFault, OnWorn, OnNoRoom, IsWorn};
+ghost use Rattle.block_store.specs.Refusals.{OnFault, OnWorn, OnNoRoom, IsWorn};
 
 use crate::moves::{spill, switch, turn};
 use crate::{PutError, State};

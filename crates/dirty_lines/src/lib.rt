@@ -15,7 +15,7 @@ ghost use Rattle.sector_switch.specs.Stands.{Stands, Reads, is_alone as reads_al
 ghost use Rattle.sector_switch.specs.Losses.{KeepsBytes};
 ghost use Rattle.block_store.specs.declared.PutError.TheVariants.{NoRoom};
 ghost use Rattle.block_store.specs.Store.{Fits, durable_of, is_alone, is_spilled, is_spent, guard_of, guard_ahead, room_of};
-ghost use Rattle.block_store.specs.Answers.{OnMemory, OnOpenFault, OnOpenForeign, OnOpenWorn, OnFault, OnWorn, OnNoRoom, OnSpending, IsWorn};
+ghost use Rattle.block_store.specs.Refusals.{OnMemory, OnOpenFault, OnOpenForeign, OnOpenWorn, OnFault, OnWorn, OnNoRoom, OnSpending, IsWorn};
 ghost use Rattle.dirty_lines.specs.Lines.{Lines, lines_of, current_of, AreInside};
 ghost use Rattle.dirty_lines.specs.Entries.{Wrote, IsFewest, joined};
 ghost use Rattle.dirty_lines.specs.Losses.{PutsFirst, MayPutFirst, NextExceeds, NextLacks};

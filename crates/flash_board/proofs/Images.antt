@@ -3,7 +3,7 @@ use Rattle.std.proofs.Common.{◌≡◌, ℕ, ◌+◌, ◌*◌, ◌/◌, ◌%◌
 use Rattle.std.specs.Prelude.{◌==◌, Bool, slice_range, if◌then◌else◌}
 use Rattle.std.proofs.lemmas.Bool.Decides.{nat_tests}
 use Rattle.std.proofs.lemmas.List.{length-take-le, take_more}
-use Rattle.flash_board.specs.Words.{Words, row, region_length, IsSectorSize, HasShape}
+use Rattle.flash_board.specs.Words.{Words, halfwords_in, region_length, IsSectorSize, HasShape}
 use Rattle.flash_board.specs.Image.{halfwords, halfword_bytes, image_size, image_words}
 use Rattle.flash_board.specs.declared.board.Region.{Region}
 use Rattle.flash_board.specs.declared.board.Region.TheVariants.{S0, S1, Guard}
@@ -26,7 +26,7 @@ split : (bytes : List ℕ) (n : ℕ) → (n == 0) ≡ false → image_words n by
 split bytes n nonzero = ap (λ (b : Bool). let w : Words = if b then record { s0 = []; s1 = []; guard = [] } else record { s0 = halfwords (take n bytes); s1 = halfwords (slice_range bytes n (2 * n)); guard = halfwords (drop (2 * n) bytes) } in w) nonzero
 
 module _ (bytes : List ℕ) (n : ℕ) (size : length bytes ≡ 2 * n + 16384) where
-  parts : (r : Region) → length (row (record { s0 = halfwords (take n bytes); s1 = halfwords (slice_range bytes n (2 * n)); guard = halfwords (drop (2 * n) bytes) }) r) ≡ region_length n r
+  parts : (r : Region) → length (halfwords_in (record { s0 = halfwords (take n bytes); s1 = halfwords (slice_range bytes n (2 * n)); guard = halfwords (drop (2 * n) bytes) }) r) ≡ region_length n r
   parts S0 = length-halfwords (take n bytes) ∙ ap (λ (k : ℕ). k / 2) (length-take-le n bytes (omega arith))
   parts S1 =
       let middle : length (slice_range bytes n (2 * n)) ≡ n = omega (arith, length-take-le (2 * n - n) (drop n bytes) (omega (arith, length-drop n bytes))) in

@@ -1,11 +1,11 @@
 -- One more recorded call of a board in memory.
 use Rattle.std.proofs.Common.{◌≡◌, ◌⊎◌, inl, inr, ⊎_elim, ℕ, zero, suc, List, [], ◌∷◌, ◌++◌, take, map, false, refl, sym, ◌∙◌, ap, subst}
 use Rattle.flash_board.specs.Words.{Words}
-use Rattle.flash_board.specs.Losses.{Frame, Moment, IsUpTo, Outcome, Elapses, OnWords, ChangesWords, Covers}
+use Rattle.flash_board.specs.Losses.{SentFrame, Moment, IsUpTo, Outcome, Elapses, OnWords, ChangesWords, Covers}
 use Rattle.flash_board.specs.Flash.{words_of}
 use Rattle.flash_board.specs.Record.{stepped, replayed, counted, moment_after, MayLeave, LeftBy}
 use Rattle.flash_board.specs.Kept.{start, moment_of, frame_of, IsKept}
-use Rattle.flash_board.specs.MemoryLaws.{Now, Left, Stands}
+use Rattle.flash_board.specs.MemoryLaws.{Now, Left, HasLists}
 use Rattle.flash_board.specs.declared.memory.Memory.{Memory}
 use Rattle.flash_board.specs.declared.flash.Flash.{Flash}
 use Rattle.flash_board.specs.declared.record.Feed.{Feed}
@@ -40,16 +40,16 @@ kept-push m image calls sent after c told is words moment frames =
     }
 
 -- one more frame among the first
-take-take : (n : ℕ) (xs ys : List Frame) → take n (take n xs ++ ys) ≡ take n (xs ++ ys)
+take-take : (n : ℕ) (xs ys : List SentFrame) → take n (take n xs ++ ys) ≡ take n (xs ++ ys)
 take-take zero xs ys = refl
 take-take (suc n) [] ys = refl
-take-take (suc n) (x ∷ xs) ys = ap (λ (l : List Frame). x ∷ l) (take-take n xs ys)
+take-take (suc n) (x ∷ xs) ys = ap (λ (l : List SentFrame). x ∷ l) (take-take n xs ys)
 
-pub frames-push : (m : Memory) (told : m.full ≡ false) (sent : List Sent) (f : Frame)
+pub frames-push : (m : Memory) (told : m.full ≡ false) (sent : List Sent) (f : SentFrame)
     → map frame_of sent ≡ take 4096 (map frame_of m.frames.items ++ f ∷ [])
     → map frame_of sent ≡ take 4096 ((before_of m).frames ++ f ∷ [])
 frames-push m told sent f is =
-    is ∙ ap (λ (l : List Frame). take 4096 (l ++ f ∷ [])) (m.kept told).frames ∙ take-take 4096 (before_of m).frames (f ∷ [])
+    is ∙ ap (λ (l : List SentFrame). take 4096 (l ++ f ∷ [])) (m.kept told).frames ∙ take-take 4096 (before_of m).frames (f ∷ [])
 
 -- what stays, and the call on the record
 pub record Notes (old new : Memory) (c : Call) : Type 0 where
@@ -119,7 +119,7 @@ module _ (old new : Memory) (c : Call) (notes : Notes old new c) where
       → ((o : Outcome) → MayLeave feed c before o → OnWords lost before o)
       → (new.full ≡ false → OnWords lost before (stepped feed c before))
       → (new.full ≡ false → OnWords done before (stepped feed c before))
-      → ChangesWords (λ (m : Memory). m.sector_bytes) (λ (m : Memory). m.full ≡ false) (λ (m : Memory). words_of m.image) Stands (λ (m : Memory). moment_of m.counts) Now Left old new lost done
+      → ChangesWords (λ (m : Memory). m.sector_bytes) (λ (m : Memory). m.full ≡ false) (λ (m : Memory). words_of m.image) HasLists (λ (m : Memory). moment_of m.counts) Now Left old new lost done
   changes lost done geometry receptions sendings later may_lose loses does =
       let time = elapses (OnWords lost) (OnWords done) later may_lose loses does in
       record {

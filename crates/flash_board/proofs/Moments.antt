@@ -1,7 +1,7 @@
 -- How calls on a board follow one another.
 use Rattle.std.proofs.Common.{◌≡◌, inl, inr, ⊎_elim, ℕ, List, refl, sym, ◌∙◌, ap, subst, arith, Result, Ok, Err}
 use Rattle.std.specs.Prelude.{IsErr, IsOk}
-use Rattle.flash_board.specs.Words.{Words, row, with_row}
+use Rattle.flash_board.specs.Words.{Words, halfwords_in, with_halfwords}
 use Rattle.flash_board.specs.declared.board.Region.{Region}
 use Rattle.flash_board.specs.declared.board.Region.TheVariants.{S0, S1, Guard}
 use Rattle.flash_board.specs.Losses.{Moment, IsUpTo, after_program, after_recv, after_send, Outcome, Elapses, OnWords, ByResult}
@@ -201,17 +201,17 @@ pub chained_erases_nothing : {B : Type 0} (g : Ghosts B) {a b c : B} → ErasesN
 chained_erases_nothing g first second = record { erases = second.erases ∙ first.erases }
 
 -- rows of words
-pub row-with_row : (w : Words) (r : Region) (xs : List ℕ) → row (with_row w r xs) r ≡ xs
+pub row-with_row : (w : Words) (r : Region) (xs : List ℕ) → halfwords_in (with_halfwords w r xs) r ≡ xs
 row-with_row w S0 xs = refl
 row-with_row w S1 xs = refl
 row-with_row w Guard xs = refl
 
-pub with_row-with_row : (w : Words) (r : Region) (xs ys : List ℕ) → with_row (with_row w r xs) r ys ≡ with_row w r ys
+pub with_row-with_row : (w : Words) (r : Region) (xs ys : List ℕ) → with_halfwords (with_halfwords w r xs) r ys ≡ with_halfwords w r ys
 with_row-with_row w S0 xs ys = refl
 with_row-with_row w S1 xs ys = refl
 with_row-with_row w Guard xs ys = refl
 
-pub with_row-row : (w : Words) (r : Region) → with_row w r (row w r) ≡ w
+pub with_row-row : (w : Words) (r : Region) → with_halfwords w r (halfwords_in w r) ≡ w
 with_row-row w S0 = refl
 with_row-row w S1 = refl
 with_row-row w Guard = refl

@@ -2,12 +2,12 @@
 use Rattle.std.specs.Prelude.{◌≡◌, ◌↔◌, List}
 use Rattle.flash_board.specs.declared.board.Board.{Ghosts}
 use Rattle.flash_board.specs.Words.{Words}
-use Rattle.flash_board.specs.Losses.{Received, Frame, Outcome, Elapses, ChangesWords, Covers}
+use Rattle.flash_board.specs.Losses.{Received, SentFrame, Outcome, Elapses, ChangesWords, Covers}
 
 -- A call that changes at most the words. A loss inside leaves them after a step of `lost`, and the call itself makes the
 -- step `done`.
 abbrev pub Changes : {B : Type 0} → Ghosts B → B → B → (Words → Words → Type 0) → (Words → Words → Type 0) → Type 0
-Changes g old new lost done = ChangesWords g.sector_bytes g.tells g.words g.stands g.moment g.now g.left old new lost done
+Changes g old new lost done = ChangesWords g.sector_bytes g.tells g.words g.has_lists g.moment g.now g.left old new lost done
 
 -- a call that takes time on the one clock, with the steps of a loss inside and of the call itself on whole outcomes
 abbrev pub Passes : {B : Type 0} → Ghosts B → B → B → (Outcome → Outcome → Type 0) → (Outcome → Outcome → Type 0) → Type 0
@@ -25,6 +25,6 @@ MayHaveLeft g old new lost = Covers g.moment g.now g.left old new lost
 pub record TellsAll {B : Type 0} (g : Ghosts B) (b : B) : Type 0 where
   pub words : g.tells b
   pub events : List Received
-  pub frames : List Frame
-  pub lists : (e : List Received) (f : List Frame) → g.stands b e f ↔ ((e ≡ events) × (f ≡ frames))
+  pub frames : List SentFrame
+  pub lists : (e : List Received) (f : List SentFrame) → g.has_lists b e f ↔ ((e ≡ events) × (f ≡ frames))
   pub losses : (o : Outcome) → g.now b o ↔ ((o.words ≡ g.words b) × (o.events ≡ events) × (o.frames ≡ frames))

@@ -1,7 +1,7 @@
 -- The words of a device in memory.
 use Rattle.std.specs.Prelude.{ℕ, replicate}
 use Rattle.flash_board.specs.Rows.{half_set}
-use Rattle.flash_board.specs.Words.{Words, row, with_row}
+use Rattle.flash_board.specs.Words.{Words, halfwords_in, with_halfwords}
 use Rattle.flash_board.specs.declared.flash.Flash.{Flash}
 use Rattle.flash_board.specs.declared.board.Region.{Region}
 
@@ -15,4 +15,4 @@ blank_halfwords n = record { s0 = replicate n 65535; s1 = replicate n 65535; gua
 
 -- the halfwords at odd offsets of one region are FFFF, and all others as they were: what a failed erase leaves
 abbrev pub half_erased : Words → Region → Words
-half_erased w r = with_row w r (half_set (row w r))
+half_erased w r = with_halfwords w r (half_set (halfwords_in w r))

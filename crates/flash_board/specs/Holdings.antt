@@ -1,6 +1,6 @@
 -- What a board in memory has beside its words, its moment and what it tells.
 use Rattle.std.specs.Prelude.{ℕ, ◌+◌, min, List, [], ◌∷◌, ◌++◌, take, drop, map, length, slice_get, Option, Some, None}
-use Rattle.flash_board.specs.Losses.{Received, Frame, frame}
+use Rattle.flash_board.specs.Losses.{Received, SentFrame, sent_frame}
 use Rattle.flash_board.specs.Record.{event_of}
 use Rattle.flash_board.specs.Kept.{frame_of}
 use Rattle.flash_board.specs.declared.record.Feed.{Feed}
@@ -14,7 +14,7 @@ pub record Holdings : Type 0 where
   -- what it is still to receive; behind that comes End
   pub upcoming : List Feed
   -- the first 4,096 frames sent since the last attach
-  pub first_frames : List Frame
+  pub first_frames : List SentFrame
   -- how many calls since the last attach are on the record
   pub recorded : ℕ
 
@@ -27,7 +27,7 @@ abbrev pub fed : Holdings → Holdings
 fed h = record { image_size = h.image_size; upcoming = drop 1 h.upcoming; first_frames = h.first_frames; recorded = h.recorded }
 
 -- one more frame is sent
-abbrev pub sent_on : Frame → Holdings → Holdings
+abbrev pub sent_on : SentFrame → Holdings → Holdings
 sent_on f h = record { image_size = h.image_size; upcoming = h.upcoming; first_frames = take 4096 (h.first_frames ++ f ∷ []); recorded = h.recorded }
 
 -- an image of this sector size is attached
@@ -48,6 +48,6 @@ holdings_of m = record {
 }
 
 -- a peer and bytes as a frame
-abbrev pub frame_in : Option (ℕ × ArrayVec ℕ) → Option Frame
-frame_in (Some pair) = Some (frame pair.0 pair.1.items)
+abbrev pub frame_in : Option (ℕ × ArrayVec ℕ) → Option SentFrame
+frame_in (Some pair) = Some (sent_frame pair.0 pair.1.items)
 frame_in None = None

@@ -2,7 +2,7 @@
 use Rattle.std.specs.Prelude.{◌≡◌, ℕ, ◌≤◌, Bool, true, ◌&&◌, nat_lt, List, [], ◌∷◌, length, map, take, Vec, vec_capacity}
 use Rattle.std.specs.declared.alloc.Global.{Global}
 use Rattle.flash_board.specs.Words.{IsSectorSize, HasShape}
-use Rattle.flash_board.specs.Losses.{Frame, frame, Moment, Outcome}
+use Rattle.flash_board.specs.Losses.{SentFrame, sent_frame, Moment, Outcome}
 use Rattle.flash_board.specs.Flash.{words_of}
 use Rattle.flash_board.specs.Record.{replayed, moment_after}
 use Rattle.flash_board.specs.declared.board.Fault.{Fault}
@@ -32,8 +32,8 @@ abbrev pub start : Flash → Outcome
 start base = record { words = words_of base; events = []; frames = [] }
 
 -- a kept frame with its peer
-abbrev pub frame_of : Sent → Frame
-frame_of s = frame s.peer s.bytes.items
+abbrev pub frame_of : Sent → SentFrame
+frame_of s = sent_frame s.peer s.bytes.items
 
 -- The record, replayed over the image of the last attach, gives the image, the moment and the first frames.
 pub record IsKept (image base : Flash) (feed : List Feed) (calls : List Call) (sent : List Sent) (now first : Counts) : Type 0 where

@@ -17,12 +17,12 @@ received event.Idle buffer = Idle
 received event.End buffer = End
 
 -- what was sent
-pub record Frame : Type 0 where
+pub record SentFrame : Type 0 where
   pub peer : ℕ
   pub bytes : List ℕ
 
-abbrev pub frame : ℕ → List ℕ → Frame
-frame peer bytes = record { peer = peer; bytes = bytes }
+abbrev pub sent_frame : ℕ → List ℕ → SentFrame
+sent_frame peer bytes = record { peer = peer; bytes = bytes }
 
 -- a peer below 8, and at most as many bytes as the buffer has
 abbrev pub IsEventInRange : Event → Type 0
@@ -63,7 +63,7 @@ after_send t = record { programs = t.programs; erases = t.erases; receptions = t
 pub record Outcome : Type 0 where
   pub words : Words
   pub events : List Received
-  pub frames : List Frame
+  pub frames : List SentFrame
 
 -- one of the outcomes at the start, after a step
 pub record After (start : Outcome → Type 0) (step : Outcome → Outcome → Type 0) (o : Outcome) : Type 0 where
@@ -92,7 +92,7 @@ abbrev pub Receives : Received → Outcome → Outcome → Type 0
 Receives e old new = new ≡ record { words = old.words; events = old.events ++ e ∷ []; frames = old.frames }
 
 -- one more frame
-abbrev pub Sends : Frame → Outcome → Outcome → Type 0
+abbrev pub Sends : SentFrame → Outcome → Outcome → Type 0
 Sends f old new = new ≡ record { words = old.words; events = old.events; frames = old.frames ++ f ∷ [] }
 
 abbrev pub Unchanged : Outcome → Outcome → Type 0
@@ -110,12 +110,12 @@ ByResult (Err e) done lost = lost
 -- more. Where the words are told at the end they have made the step `done`. A loss inside leaves what a loss before
 -- the call left, or what stood at its start after a step of `lost`; a loss at the end leaves it after a step of `done`.
 pub record ChangesWords {B : Type 0} (sector_bytes : B → ℕ) (tells : B → Type 0) (words : B → Words)
-    (stands : B → List Received → List Frame → Type 0) (moment : B → Moment) (now : B → Outcome → Type 0)
+    (has_lists : B → List Received → List SentFrame → Type 0) (moment : B → Moment) (now : B → Outcome → Type 0)
     (left : B → Moment → Outcome → Type 0) (old new : B) (lost done : Words → Words → Type 0) : Type 0 where
   pub geometry : sector_bytes new ≡ sector_bytes old
   pub told : tells new → tells old
   pub content : tells new → done (words old) (words new)
-  pub lists : (e : List Received) (f : List Frame) → stands old e f → stands new e f
+  pub lists : (e : List Received) (f : List SentFrame) → has_lists old e f → has_lists new e f
   pub receptions : (moment new).receptions ≡ (moment old).receptions
   pub sendings : (moment new).sendings ≡ (moment old).sendings
   pub later : IsUpTo (moment old) (moment new)

@@ -2,7 +2,7 @@
 use Rattle.std.specs.Prelude.{◌≡◌, ◌≢◌, ◌↔◌, ℕ, ◌<◌, ◌-◌, ◌^◌, Bool, true, false, List, [], ◌∷◌, ◌++◌, length}
 use Rattle.std.proofs.Common.{sym, ◌∙◌, ap, subst, inl, inr, arith}
 use Rattle.flash_board.specs.Words.{Words, IsSectorSize, HasShape}
-use Rattle.flash_board.specs.Losses.{Received, Idle, Frame, Moment, IsUpTo, Outcome, Elapses, ChangesWords, KeepsWords, Covers, Either, Unchanged, Receives, Sends}
+use Rattle.flash_board.specs.Losses.{Received, Idle, SentFrame, Moment, IsUpTo, Outcome, Elapses, ChangesWords, KeepsWords, Covers, Either, Unchanged, Receives, Sends}
 use Rattle.flash_board.specs.Flash.{words_of}
 use Rattle.flash_board.specs.Record.{replayed, LeftBy, only_last, counts_last}
 use Rattle.flash_board.specs.Kept.{start, moment_of}
@@ -40,16 +40,16 @@ only_left m o left = (
 abbrev pub events_of : Memory → List Received
 events_of m = (replayed m.feed.items m.calls.items (start m.base)).events
 
-abbrev pub frames_of : Memory → List Frame
+abbrev pub frames_of : Memory → List SentFrame
 frames_of m = (replayed m.feed.items m.calls.items (start m.base)).frames
 
 -- while there is room in the record, just these lists; afterwards any
-abbrev pub Stands : Memory → List Received → List Frame → Type 0
-Stands m e f = m.full ≡ false → (e ≡ events_of m) × (f ≡ frames_of m)
+abbrev pub HasLists : Memory → List Received → List SentFrame → Type 0
+HasLists m e f = m.full ≡ false → (e ≡ events_of m) × (f ≡ frames_of m)
 
 -- the clauses of a board's calls, of a device in memory
 abbrev pub MemoryChanges : Memory → Memory → (Words → Words → Type 0) → (Words → Words → Type 0) → Type 0
-MemoryChanges old new lost done = ChangesWords (λ (m : Memory). m.sector_bytes) (λ (m : Memory). m.full ≡ false) (λ (m : Memory). words_of m.image) Stands (λ (m : Memory). moment_of m.counts) Now Left old new lost done
+MemoryChanges old new lost done = ChangesWords (λ (m : Memory). m.sector_bytes) (λ (m : Memory). m.full ≡ false) (λ (m : Memory). words_of m.image) HasLists (λ (m : Memory). moment_of m.counts) Now Left old new lost done
 
 abbrev pub MemoryPasses : Memory → Memory → (Outcome → Outcome → Type 0) → (Outcome → Outcome → Type 0) → Type 0
 MemoryPasses old new lost done = Elapses (λ (m : Memory). moment_of m.counts) Now Left old new lost done
@@ -67,14 +67,14 @@ GoesOn old new count = old.full ≡ false → length old.calls.items < 65536 →
 -- one more event
 pub record MemoryReceives (old new : Memory) (r : Received) : Type 0 where
   pub words : MemoryKeeps old new
-  pub lists : (e : List Received) (f : List Frame) → Stands old e f → Stands new (e ++ r ∷ []) f
+  pub lists : (e : List Received) (f : List SentFrame) → HasLists old e f → HasLists new (e ++ r ∷ []) f
   pub passes : MemoryPasses old new (Either Unchanged (Receives r)) (Receives r)
   pub covers : MemoryCovers old new (Either Unchanged (Receives r))
 
 -- no event
 pub record MemoryReceivesNothing (old new : Memory) : Type 0 where
   pub words : MemoryKeeps old new
-  pub lists : (e : List Received) (f : List Frame) → Stands old e f → Stands new e f
+  pub lists : (e : List Received) (f : List SentFrame) → HasLists old e f → HasLists new e f
   pub passes : MemoryPasses old new Unchanged Unchanged
 
 -- one more frame, if it was sent
@@ -83,19 +83,19 @@ IfSent true done lost = done
 IfSent false done lost = lost
 
 -- the frames with one more, if it was sent
-abbrev pub frames_after : Bool → List Frame → Frame → List Frame
+abbrev pub frames_after : Bool → List SentFrame → SentFrame → List SentFrame
 frames_after true fs f = fs ++ f ∷ []
 frames_after false fs f = fs
 
 -- a sending, that was done or failed
-pub record MemorySends (old new : Memory) (frame : Frame) (done : Bool) : Type 0 where
+pub record MemorySends (old new : Memory) (frame : SentFrame) (done : Bool) : Type 0 where
   pub words : MemoryKeeps old new
-  pub lists : (e : List Received) (f : List Frame) → Stands old e f → Stands new e (frames_after done f frame)
+  pub lists : (e : List Received) (f : List SentFrame) → HasLists old e f → HasLists new e (frames_after done f frame)
   pub passes : MemoryPasses old new (Either Unchanged (Sends frame)) (IfSent done (Sends frame) (Either Unchanged (Sends frame)))
   pub covers : MemoryCovers old new (Either Unchanged (Sends frame))
 
 -- while it tells, it stands for one pair of lists, and a loss now leaves just these and what reads give
-pub one_pair : (m : Memory) (told : m.full ≡ false) (e : List Received) (f : List Frame) → Stands m e f ↔ ((e ≡ events_of m) × (f ≡ frames_of m))
+pub one_pair : (m : Memory) (told : m.full ≡ false) (e : List Received) (f : List SentFrame) → HasLists m e f ↔ ((e ≡ events_of m) × (f ≡ frames_of m))
 one_pair m told e f = (λ stood. stood told, λ same told. same)
 
 pub just_now : (m : Memory) (told : m.full ≡ false) (o : Outcome) → Now m o ↔ ((o.words ≡ words_of m.image) × (o.events ≡ events_of m) × (o.frames ≡ frames_of m))
@@ -105,7 +105,7 @@ just_now m told o = (
 )
 
 -- a board that doesn't tell its lists is one that tells nothing
-pub untold_is_full : (m : Memory) → ((e : List Received) (f : List Frame) → Stands m e f) → m.full ≡ false → ⊥
+pub untold_is_full : (m : Memory) → ((e : List Received) (f : List SentFrame) → HasLists m e f) → m.full ≡ false → ⊥
 untold_is_full m any told =
     let none : [] ≡ events_of m = (any [] [] told).0 in
     let one : Idle ∷ [] ≡ events_of m = (any (Idle ∷ []) [] told).0 in

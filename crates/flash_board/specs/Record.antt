@@ -2,7 +2,7 @@
 use Rattle.std.specs.Prelude.{◌≡◌, ◌⊎◌, ℕ, ◌+◌, ◌≤◌, List, [], ◌∷◌, ◌++◌, Option, Some, None, slice_get, true, false}
 use Rattle.std.proofs.Common.{refl, arith, inl, inr, length}
 use Rattle.flash_board.specs.Words.{programmed, erased, ProgramMayLeave, EraseMayLeave}
-use Rattle.flash_board.specs.Losses.{Received, Datagram, Idle, End, frame, Moment, IsUpTo, Outcome, OnWords, Receives, Sends, Unchanged, Either}
+use Rattle.flash_board.specs.Losses.{Received, Datagram, Idle, End, sent_frame, Moment, IsUpTo, Outcome, OnWords, Receives, Sends, Unchanged, Either}
 use Rattle.flash_board.specs.Flash.{half_erased}
 use Rattle.flash_board.specs.declared.record.Feed.{Feed}
 use Rattle.flash_board.specs.declared.record.Feed.TheVariants as fed
@@ -25,7 +25,7 @@ module _ (feed : List Feed) where
   stepped (call.Erase r false) s = record { words = half_erased s.words r; events = s.events; frames = s.frames }
   stepped (call.Recv next true) s = record { words = s.words; events = s.events ++ event_of (slice_get feed next) ∷ []; frames = s.frames }
   stepped (call.Recv next false) s = s
-  stepped (call.Send peer bytes true) s = record { words = s.words; events = s.events; frames = s.frames ++ frame peer bytes.items ∷ [] }
+  stepped (call.Send peer bytes true) s = record { words = s.words; events = s.events; frames = s.frames ++ sent_frame peer bytes.items ∷ [] }
   stepped (call.Send peer bytes false) s = s
 
   -- what a loss inside it may have left
@@ -34,7 +34,7 @@ module _ (feed : List Feed) where
   MayLeave (call.Erase r done) = OnWords (EraseMayLeave r)
   MayLeave (call.Recv next true) = Either Unchanged (Receives (event_of (slice_get feed next)))
   MayLeave (call.Recv next false) = Unchanged
-  MayLeave (call.Send peer bytes done) = Either Unchanged (Sends (frame peer bytes.items))
+  MayLeave (call.Send peer bytes done) = Either Unchanged (Sends (sent_frame peer bytes.items))
 
   -- the moment after it
   abbrev pub counted : Call → Moment → Moment

@@ -2,8 +2,8 @@
 ghost use Rattle.std.specs.Prelude.{◌≡◌, ◌⊎◌, ◌<◌, ◌≤◌, ◌++◌, [], ◌∷◌, List, ℕ, length, slice_index, IfOk, OnOk, OnErr, IfSome, MatchResult, MatchOption, Ok, Err, Some};
 ghost use Rattle.std.specs.Option.{ForSome};
 ghost use Rattle.flash_board.specs.declared.board.Fault.{Fault};
-ghost use Rattle.flash_board.specs.Words.{Words, row, region_length, IsSectorRegion, IsSectorSize, HasShape, blank, Programs, ProgramMayLeave, Erases, EraseMayLeave, Same};
-ghost use Rattle.flash_board.specs.Losses.{Received, received, Frame, frame, IsEventInRange, Moment, IsUpTo, after_program, after_erase, after_recv, after_send, Outcome, Elapses, Receives, Sends, Unchanged, Either, ByResult, OnWords, ChangesWords, KeepsWords, Covers};
+ghost use Rattle.flash_board.specs.Words.{Words, halfwords_in, region_length, IsSectorRegion, IsSectorSize, HasShape, blank, Programs, ProgramMayLeave, Erases, EraseMayLeave, Same};
+ghost use Rattle.flash_board.specs.Losses.{Received, received, SentFrame, sent_frame, IsEventInRange, Moment, IsUpTo, after_program, after_erase, after_recv, after_send, Outcome, Elapses, Receives, Sends, Unchanged, Either, ByResult, OnWords, ChangesWords, KeepsWords, Covers};
 ghost use Rattle.flash_board.specs.Causes.{HasCause};
 
 /// A part of the image: one of the two sectors, or the guard row.
@@ -87,7 +87,7 @@ pub trait Board {
     ghost words: { Self → Words };
 
     /// The board stands for these events received so far and these frames sent so far. Where it doesn't tell them, it stands for any.
-    ghost stands: { Self → List Received → List Frame → Type 0 };
+    ghost has_lists: { Self → List Received → List SentFrame → Type 0 };
 
     /// How many calls of each kind there were.
     ghost moment: { Self → Moment };
@@ -109,9 +109,9 @@ pub trait Board {
             × IfSome make (λ size. geometry.sector_bytes ≡ size)) }
         ensures told { tells self.new → tells self.old }
         ensures words { OnOk result (tells self.new → MatchOption make (words self.new ≡ words self.old) (λ size. words self.new ≡ blank size)) }
-        ensures lists { OnOk result (stands self.new [] []) }
+        ensures lists { OnOk result (has_lists self.new [] []) }
         ensures starts { OnOk result ((o : Outcome) → now self.new o → (o.events ≡ []) × (o.frames ≡ [])) }
-        ensures untold { ((e : List Received) (f : List Frame) → stands self.old e f) → (e : List Received) (f : List Frame) → stands self.new e f }
+        ensures untold { ((e : List Received) (f : List SentFrame) → has_lists self.old e f) → (e : List Received) (f : List SentFrame) → has_lists self.new e f }
         ensures moment { moment self.new ≡ moment self.old }
         ensures cause { HasCause Fault.Attach (faults self.old) (faults self.new) result };
 
@@ -124,8 +124,8 @@ pub trait Board {
     fn read(&mut self, region: Region, at: u32) -> Result<u16, Failed>
         requires attached { IsSectorSize (sector_bytes self.old) }
         requires inside { at < region_length (sector_bytes self.old) region }
-        ensures value { tells self.new → IfOk result (λ word. word ≡ slice_index (row (words self.old) region) at) }
-        ensures changes { ChangesWords sector_bytes tells words stands moment now left self.old self.new Same Same }
+        ensures value { tells self.new → IfOk result (λ word. word ≡ slice_index (halfwords_in (words self.old) region) at) }
+        ensures changes { ChangesWords sector_bytes tells words has_lists moment now left self.old self.new Same Same }
         ensures keeps_told { tells self.old → tells self.new }
         ensures moment { moment self.new ≡ moment self.old }
         ensures cause { HasCause Fault.Read (faults self.old) (faults self.new) result };
@@ -134,7 +134,7 @@ pub trait Board {
     fn program(&mut self, region: Region, at: u32, word: u16) -> Result<(), Failed>
         requires attached { IsSectorSize (sector_bytes self.old) }
         requires inside { at < region_length (sector_bytes self.old) region }
-        ensures changes { ChangesWords sector_bytes tells words stands moment now left self.old self.new (ProgramMayLeave region at word)
+        ensures changes { ChangesWords sector_bytes tells words has_lists moment now left self.old self.new (ProgramMayLeave region at word)
             (ByResult result (Programs region at word) (ProgramMayLeave region at word)) }
         ensures covers { Covers moment now left self.old self.new (OnWords (ProgramMayLeave region at word)) }
         ensures moment { moment self.new ≡ after_program (moment self.old) }
@@ -144,7 +144,7 @@ pub trait Board {
     fn erase(&mut self, region: Region) -> Result<(), Failed>
         requires attached { IsSectorSize (sector_bytes self.old) }
         requires sector { IsSectorRegion region }
-        ensures changes { ChangesWords sector_bytes tells words stands moment now left self.old self.new (EraseMayLeave region)
+        ensures changes { ChangesWords sector_bytes tells words has_lists moment now left self.old self.new (EraseMayLeave region)
             (ByResult result (Erases region) (EraseMayLeave region)) }
         ensures covers { Covers moment now left self.old self.new (OnWords (EraseMayLeave region)) }
         ensures moment { moment self.new ≡ after_erase (moment self.old) }
@@ -156,8 +156,8 @@ pub trait Board {
         requires room { length into.old ≡ 2048 }
         ensures bounds { IfOk result (λ event. IsEventInRange event) }
         ensures words { KeepsWords sector_bytes tells words self.old self.new }
-        ensures lists { (e : List Received) (f : List Frame) → stands self.old e f →
-            MatchResult result (λ event. stands self.new (e ++ received event into.new ∷ []) f) (λ _. stands self.new e f) }
+        ensures lists { (e : List Received) (f : List SentFrame) → has_lists self.old e f →
+            MatchResult result (λ event. has_lists self.new (e ++ received event into.new ∷ []) f) (λ _. has_lists self.new e f) }
         ensures time { MatchResult result
             (λ event. Elapses moment now left self.old self.new (Either Unchanged (Receives (received event into.new))) (Receives (received event into.new)))
             (λ _. Elapses moment now left self.old self.new Unchanged Unchanged) }
@@ -171,12 +171,12 @@ pub trait Board {
         requires some { 1 ≤ length bytes.now }
         requires room { length bytes.now ≤ 280 }
         ensures words { KeepsWords sector_bytes tells words self.old self.new }
-        ensures lists { (e : List Received) (f : List Frame) → stands self.old e f →
-            MatchResult result (λ _. stands self.new e (f ++ frame peer bytes.now ∷ []))
-            (λ _. stands self.new e f ⊎ stands self.new e (f ++ frame peer bytes.now ∷ [])) }
-        ensures time { Elapses moment now left self.old self.new (Either Unchanged (Sends (frame peer bytes.now)))
-            (ByResult result (Sends (frame peer bytes.now)) (Either Unchanged (Sends (frame peer bytes.now)))) }
-        ensures covers { Covers moment now left self.old self.new (Either Unchanged (Sends (frame peer bytes.now))) }
+        ensures lists { (e : List Received) (f : List SentFrame) → has_lists self.old e f →
+            MatchResult result (λ _. has_lists self.new e (f ++ sent_frame peer bytes.now ∷ []))
+            (λ _. has_lists self.new e f ⊎ has_lists self.new e (f ++ sent_frame peer bytes.now ∷ [])) }
+        ensures time { Elapses moment now left self.old self.new (Either Unchanged (Sends (sent_frame peer bytes.now)))
+            (ByResult result (Sends (sent_frame peer bytes.now)) (Either Unchanged (Sends (sent_frame peer bytes.now)))) }
+        ensures covers { Covers moment now left self.old self.new (Either Unchanged (Sends (sent_frame peer bytes.now))) }
         ensures moment { moment self.new ≡ after_send (moment self.old) }
         ensures cause { HasCause Fault.Send (faults self.old) (faults self.new) result };
 

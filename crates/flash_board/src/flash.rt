@@ -1,6 +1,6 @@
 // The words of a device, in memory.
 ghost use Rattle.std.specs.Prelude.{◌≡◌, ◌<◌, ◌≤◌, ◌^◌, ◌++◌, ℕ, length, IfOk, slice_index, slice_set, replicate, bit_and, vec_capacity};
-ghost use Rattle.flash_board.specs.Words.{Words, row, programmed, erased, IsSectorRegion};
+ghost use Rattle.flash_board.specs.Words.{Words, halfwords_in, programmed, erased, IsSectorRegion};
 ghost use Rattle.flash_board.specs.Rows.{half_set};
 ghost use Rattle.flash_board.specs.Rows.{HasRoom};
 ghost use Rattle.flash_board.specs.Image.{halfword_bytes, image_bytes};
@@ -113,8 +113,8 @@ impl Flash {
     }
 
     pub(crate) fn halfword(&self, region: Region, at: usize) -> u16
-        requires { at < length (row (words_of self.now) region) }
-        ensures { result ≡ slice_index (row (words_of self.now) region) at }
+        requires { at < length (halfwords_in (words_of self.now) region) }
+        ensures { result ≡ slice_index (halfwords_in (words_of self.now) region) at }
     {
         match region {
             Region::S0 => self.s0[at],
@@ -124,7 +124,7 @@ impl Flash {
     }
 
     pub(crate) fn program(&mut self, region: Region, at: usize, word: u16)
-        requires { at < length (row (words_of self.old) region) }
+        requires { at < length (halfwords_in (words_of self.old) region) }
         ensures { words_of self.new ≡ programmed (words_of self.old) region at word }
     {
         match region {
@@ -146,7 +146,7 @@ impl Flash {
 
     pub(crate) fn half_erase(&mut self, region: Region)
         ensures after { words_of self.new ≡ half_erased (words_of self.old) region }
-        ensures fits { (k : ℕ) → slice_index (row (words_of self.new) region) k < 2 ^ 16 }
+        ensures fits { (k : ℕ) → slice_index (halfwords_in (words_of self.new) region) k < 2 ^ 16 }
     {
         match region {
             Region::S0 => set_odd(&mut self.s0),

@@ -27,7 +27,7 @@ impl MemBoard {
     ghost use Rattle.flash_board.specs.declared.board.Fault.{Fault};
     ghost use Rattle.flash_board.specs.Image.{image_words, image_size, image_bytes};
     ghost use Rattle.flash_board.specs.Kept.{peers_fit};
-    ghost use Rattle.flash_board.specs.Losses.{Received, Frame};
+    ghost use Rattle.flash_board.specs.Losses.{Received, SentFrame};
     ghost use Rattle.flash_board.specs.Calls.{TellsAll};
     ghost use Rattle.flash_board.specs.Holdings.{frame_in};
     ghost use Rattle.flash_board.specs.OfMemBoard.{holdings, failing_calls, next_call};
@@ -46,7 +46,7 @@ impl MemBoard {
         ensures told { IfOk result (λ board. ⟦<MemBoard as Board>⟧.tells board) }
         ensures words { IfOk result (λ board. ⟦<MemBoard as Board>⟧.words board ≡ image_words (image_size (length image.now)) image.now) }
         ensures unattached { IfOk result (λ board. ⟦<MemBoard as Board>⟧.sector_bytes board ≡ 0) }
-        ensures lists { IfOk result (λ board. ⟦<MemBoard as Board>⟧.stands board [] []) }
+        ensures lists { IfOk result (λ board. ⟦<MemBoard as Board>⟧.has_lists board [] []) }
         ensures moment { IfOk result (λ board. ⟦<MemBoard as Board>⟧.moment board ≡ record { programs = 0; erases = 0; receptions = 0; sendings = 0 }) }
         ensures faults { IfOk result (λ board. (kind : Fault) → ⟦<MemBoard as Board>⟧.faults board kind ≡ 0) }
         ensures holdings { IfOk result (λ board. holdings board ≡ record { image_size = image_size (length image.now); upcoming = feed.now; first_frames = []; recorded = 0 }) }
@@ -75,8 +75,8 @@ impl MemBoard {
     /// The n-th frame sent since the last attach, counted from 0, with its peer. None where fewer were sent, and for n of
     /// 4,096 and more.
     pub fn sent(&self, n: u32) -> Option<(u8, ArrayVec<u8, 280>)>
-        ensures frame { frame_in result ≡ slice_get (holdings self.now).first_frames n }
-        ensures told { ⟦<MemBoard as Board>⟧.tells self.now → (e : List Received) (f : List Frame) → ⟦<MemBoard as Board>⟧.stands self.now e f → (holdings self.now).first_frames ≡ take 4096 f }
+        ensures sent_frame { frame_in result ≡ slice_get (holdings self.now).first_frames n }
+        ensures told { ⟦<MemBoard as Board>⟧.tells self.now → (e : List Received) (f : List SentFrame) → ⟦<MemBoard as Board>⟧.has_lists self.now e f → (holdings self.now).first_frames ≡ take 4096 f }
     {
         self.memory.sent(n)
     }
@@ -93,13 +93,13 @@ impl Board for MemBoard {
     ghost use Rattle.std.specs.Prelude.{◌≡◌, ◌⊎◌, ◌↔◌, ◌<◌, ◌≤◌, ◌-◌, ◌^◌, ◌++◌, [], ◌∷◌, if◌then◌else◌, List, ℕ, false, length, slice_index, is_ok, IsOk, IsErr, IfOk, OnOk, OnErr, IfSome, IsTrue, MatchResult, MatchOption, Ok, Err, Some, None};
     ghost use Rattle.std.specs.Option.{ForSome};
     ghost use Rattle.flash_board.specs.declared.board.Fault.{Fault};
-    ghost use Rattle.flash_board.specs.Words.{row, region_length, IsSectorRegion, IsSectorSize, is_size, blank, programmed, erased, Programs, ProgramMayLeave, Erases, EraseMayLeave, Same};
-    ghost use Rattle.flash_board.specs.Losses.{Received, received, Frame, frame, IsEventInRange, Moment, raised, after_program, after_erase, after_recv, after_send, Outcome, Receives, Sends, Unchanged, Either, ByResult, OnWords, KeepsWords};
+    ghost use Rattle.flash_board.specs.Words.{halfwords_in, region_length, IsSectorRegion, IsSectorSize, is_size, blank, programmed, erased, Programs, ProgramMayLeave, Erases, EraseMayLeave, Same};
+    ghost use Rattle.flash_board.specs.Losses.{Received, received, SentFrame, sent_frame, IsEventInRange, Moment, raised, after_program, after_erase, after_recv, after_send, Outcome, Receives, Sends, Unchanged, Either, ByResult, OnWords, KeepsWords};
     ghost use Rattle.flash_board.specs.Calls.{Changes, Passes, MayHaveLeft};
     ghost use Rattle.flash_board.specs.Causes.{HasCause};
     ghost use Rattle.flash_board.specs.Flash.{words_of, half_erased};
     ghost use Rattle.flash_board.specs.Kept.{moment_of, fault_count};
-    ghost use Rattle.flash_board.specs.MemoryLaws.{Now, Left, Stands, reads_now, counts_left, only_left, shape_now};
+    ghost use Rattle.flash_board.specs.MemoryLaws.{Now, Left, HasLists, reads_now, counts_left, only_left, shape_now};
     ghost use Rattle.flash_board.specs.Holdings.{noted, fed, sent_on, begun, next_event};
     ghost use Rattle.flash_board.specs.Causes.{is_among};
     ghost use Rattle.flash_board.specs.OfMemBoard.{device, holdings, failing_calls, next_call};
@@ -110,7 +110,7 @@ impl Board for MemBoard {
 
     ghost words = { λ m. words_of m.memory.image };
 
-    ghost stands = { λ m. Stands m.memory };
+    ghost has_lists = { λ m. HasLists m.memory };
 
     ghost moment = { λ m. moment_of m.memory.counts };
 
@@ -134,9 +134,9 @@ impl Board for MemBoard {
             × IfSome make (λ size. geometry.sector_bytes ≡ size)) }
         ensures told { ⟦<MemBoard as Board>⟧.tells self.new → ⟦<MemBoard as Board>⟧.tells self.old }
         ensures words { OnOk result (⟦<MemBoard as Board>⟧.tells self.new → MatchOption make (⟦<MemBoard as Board>⟧.words self.new ≡ ⟦<MemBoard as Board>⟧.words self.old) (λ size. ⟦<MemBoard as Board>⟧.words self.new ≡ blank size)) }
-        ensures lists { OnOk result (⟦<MemBoard as Board>⟧.stands self.new [] []) }
+        ensures lists { OnOk result (⟦<MemBoard as Board>⟧.has_lists self.new [] []) }
         ensures starts { OnOk result ((o : Outcome) → ⟦<MemBoard as Board>⟧.now self.new o → (o.events ≡ []) × (o.frames ≡ [])) }
-        ensures untold { ((e : List Received) (f : List Frame) → ⟦<MemBoard as Board>⟧.stands self.old e f) → (e : List Received) (f : List Frame) → ⟦<MemBoard as Board>⟧.stands self.new e f }
+        ensures untold { ((e : List Received) (f : List SentFrame) → ⟦<MemBoard as Board>⟧.has_lists self.old e f) → (e : List Received) (f : List SentFrame) → ⟦<MemBoard as Board>⟧.has_lists self.new e f }
         ensures moment { ⟦<MemBoard as Board>⟧.moment self.new ≡ ⟦<MemBoard as Board>⟧.moment self.old }
         ensures cause { HasCause Fault.Attach (⟦<MemBoard as Board>⟧.faults self.old) (⟦<MemBoard as Board>⟧.faults self.new) result }
         ensures fails { IsErr result ↔ IsTrue (is_among (failing_calls self.old) (next_call self.old)) ⊎ ((make ≡ None) × (is_size (holdings self.old).image_size ≡ false)) }
@@ -162,14 +162,14 @@ impl Board for MemBoard {
     fn read(&mut self, region: Region, at: u32) -> Result<u16, Failed>
         requires attached { IsSectorSize (⟦<MemBoard as Board>⟧.sector_bytes self.old) }
         requires inside { at < region_length (⟦<MemBoard as Board>⟧.sector_bytes self.old) region }
-        ensures value { ⟦<MemBoard as Board>⟧.tells self.new → IfOk result (λ word. word ≡ slice_index (row (⟦<MemBoard as Board>⟧.words self.old) region) at) }
+        ensures value { ⟦<MemBoard as Board>⟧.tells self.new → IfOk result (λ word. word ≡ slice_index (halfwords_in (⟦<MemBoard as Board>⟧.words self.old) region) at) }
         ensures changes { Changes ⟦<MemBoard as Board>⟧ self.old self.new Same Same }
         ensures keeps_told { ⟦<MemBoard as Board>⟧.tells self.old → ⟦<MemBoard as Board>⟧.tells self.new }
         ensures moment { ⟦<MemBoard as Board>⟧.moment self.new ≡ ⟦<MemBoard as Board>⟧.moment self.old }
         ensures cause { HasCause Fault.Read (⟦<MemBoard as Board>⟧.faults self.old) (⟦<MemBoard as Board>⟧.faults self.new) result }
         ensures fails { IsErr result ↔ IsTrue (is_among (failing_calls self.old) (next_call self.old)) }
         ensures numbers { (failing_calls self.new ≡ failing_calls self.old) × (next_call self.new ≡ raised (next_call self.old)) }
-        ensures as_before { IfOk result (λ word. word ≡ slice_index (row (⟦<MemBoard as Board>⟧.words self.old) region) at) }
+        ensures as_before { IfOk result (λ word. word ≡ slice_index (halfwords_in (⟦<MemBoard as Board>⟧.words self.old) region) at) }
         ensures still { device self.new ≡ device self.old }
     {
         if fails_now(&self.fails, &mut self.number) {
@@ -231,8 +231,8 @@ impl Board for MemBoard {
         requires room { length into.old ≡ 2048 }
         ensures bounds { IfOk result (λ event. IsEventInRange event) }
         ensures words { KeepsWords ⟦<MemBoard as Board>⟧.sector_bytes ⟦<MemBoard as Board>⟧.tells ⟦<MemBoard as Board>⟧.words self.old self.new }
-        ensures lists { (e : List Received) (f : List Frame) → ⟦<MemBoard as Board>⟧.stands self.old e f →
-            MatchResult result (λ event. ⟦<MemBoard as Board>⟧.stands self.new (e ++ received event into.new ∷ []) f) (λ _. ⟦<MemBoard as Board>⟧.stands self.new e f) }
+        ensures lists { (e : List Received) (f : List SentFrame) → ⟦<MemBoard as Board>⟧.has_lists self.old e f →
+            MatchResult result (λ event. ⟦<MemBoard as Board>⟧.has_lists self.new (e ++ received event into.new ∷ []) f) (λ _. ⟦<MemBoard as Board>⟧.has_lists self.new e f) }
         ensures time { MatchResult result
             (λ event. Passes ⟦<MemBoard as Board>⟧ self.old self.new (Either Unchanged (Receives (received event into.new))) (Receives (received event into.new)))
             (λ _. Passes ⟦<MemBoard as Board>⟧ self.old self.new Unchanged Unchanged) }
@@ -259,20 +259,20 @@ impl Board for MemBoard {
         requires some { 1 ≤ length bytes.now }
         requires room { length bytes.now ≤ 280 }
         ensures words { KeepsWords ⟦<MemBoard as Board>⟧.sector_bytes ⟦<MemBoard as Board>⟧.tells ⟦<MemBoard as Board>⟧.words self.old self.new }
-        ensures lists { (e : List Received) (f : List Frame) → ⟦<MemBoard as Board>⟧.stands self.old e f →
-            MatchResult result (λ _. ⟦<MemBoard as Board>⟧.stands self.new e (f ++ frame peer bytes.now ∷ []))
-            (λ _. ⟦<MemBoard as Board>⟧.stands self.new e f ⊎ ⟦<MemBoard as Board>⟧.stands self.new e (f ++ frame peer bytes.now ∷ [])) }
-        ensures time { Passes ⟦<MemBoard as Board>⟧ self.old self.new (Either Unchanged (Sends (frame peer bytes.now)))
-            (ByResult result (Sends (frame peer bytes.now)) (Either Unchanged (Sends (frame peer bytes.now)))) }
-        ensures covers { MayHaveLeft ⟦<MemBoard as Board>⟧ self.old self.new (Either Unchanged (Sends (frame peer bytes.now))) }
+        ensures lists { (e : List Received) (f : List SentFrame) → ⟦<MemBoard as Board>⟧.has_lists self.old e f →
+            MatchResult result (λ _. ⟦<MemBoard as Board>⟧.has_lists self.new e (f ++ sent_frame peer bytes.now ∷ []))
+            (λ _. ⟦<MemBoard as Board>⟧.has_lists self.new e f ⊎ ⟦<MemBoard as Board>⟧.has_lists self.new e (f ++ sent_frame peer bytes.now ∷ [])) }
+        ensures time { Passes ⟦<MemBoard as Board>⟧ self.old self.new (Either Unchanged (Sends (sent_frame peer bytes.now)))
+            (ByResult result (Sends (sent_frame peer bytes.now)) (Either Unchanged (Sends (sent_frame peer bytes.now)))) }
+        ensures covers { MayHaveLeft ⟦<MemBoard as Board>⟧ self.old self.new (Either Unchanged (Sends (sent_frame peer bytes.now))) }
         ensures moment { ⟦<MemBoard as Board>⟧.moment self.new ≡ after_send (⟦<MemBoard as Board>⟧.moment self.old) }
         ensures cause { HasCause Fault.Send (⟦<MemBoard as Board>⟧.faults self.old) (⟦<MemBoard as Board>⟧.faults self.new) result }
         ensures fails { IsErr result ↔ IsTrue (is_among (failing_calls self.old) (next_call self.old)) }
         ensures numbers { (failing_calls self.new ≡ failing_calls self.old) × (next_call self.new ≡ raised (next_call self.old)) }
         ensures goes_on { ⟦<MemBoard as Board>⟧.tells self.old → (holdings self.old).recorded < 65536 → (⟦<MemBoard as Board>⟧.moment self.old).sendings < 2 ^ 64 - 1 → ⟦<MemBoard as Board>⟧.tells self.new }
         ensures as_before { ⟦<MemBoard as Board>⟧.words self.new ≡ ⟦<MemBoard as Board>⟧.words self.old }
-        ensures holdings { holdings self.new ≡ noted (if is_ok result then sent_on (frame peer bytes.now) (holdings self.old) else holdings self.old) }
-        ensures leaves { (e : List Received) (f : List Frame) → ⟦<MemBoard as Board>⟧.stands self.old e f → OnErr result (⟦<MemBoard as Board>⟧.stands self.new e f) }
+        ensures holdings { holdings self.new ≡ noted (if is_ok result then sent_on (sent_frame peer bytes.now) (holdings self.old) else holdings self.old) }
+        ensures leaves { (e : List Received) (f : List SentFrame) → ⟦<MemBoard as Board>⟧.has_lists self.old e f → OnErr result (⟦<MemBoard as Board>⟧.has_lists self.new e f) }
     {
         if fails_now(&self.fails, &mut self.number) {
             self.memory.fail_send(peer, bytes);

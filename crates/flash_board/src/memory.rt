@@ -2,7 +2,7 @@
 ghost use Rattle.std.specs.Prelude.{◌≡◌, ◌↔◌, ◌<◌, ◌≤◌, ◌≢◌, ◌^◌, ◌-◌, ◌+◌, ◌++◌, [], ◌∷◌, List, ℕ, Bool, true, false, min, length, map, take, drop, slice_get, IfOk, OnOk, OnErr, IsTrue, vec_capacity};
 ghost use Rattle.std.specs.Bool.{OnTrue, OnFalse};
 ghost use Rattle.flash_board.specs.Kept.{IsKept, IsShaped, HasSpace, peers_fit, frame_of};
-ghost use Rattle.flash_board.specs.Losses.{received, frame, IsEventInRange};
+ghost use Rattle.flash_board.specs.Losses.{received, sent_frame, IsEventInRange};
 ghost use Rattle.flash_board.specs.Record.{event_of};
 ghost use Rattle.flash_board.specs.Words.{IsSectorSize, is_size};
 
@@ -62,7 +62,7 @@ fn keep(frames: &mut Vec<Sent>, peer: u8, bytes: &[u8])
     requires room { 4096 ≤ vec_capacity frames.old }
     requires size { length frames.old.items ≤ 4096 }
     requires bytes { length bytes.now ≤ 280 }
-    ensures frames { map frame_of frames.new.items ≡ take 4096 (map frame_of frames.old.items ++ frame peer bytes.now ∷ []) }
+    ensures frames { map frame_of frames.new.items ≡ take 4096 (map frame_of frames.old.items ++ sent_frame peer bytes.now ∷ []) }
     ensures size { length frames.new.items ≤ 4096 }
     ensures capacity { vec_capacity frames.old ≤ vec_capacity frames.new }
 {
@@ -115,7 +115,7 @@ pub(crate) fn copied(bytes: &[u8]) -> ArrayVec<u8, 280>
 impl Memory {
     ghost use Rattle.std.specs.Option.{ForSome};
     ghost use Rattle.std.specs.Prelude.{IfSome, MatchOption, None};
-    ghost use Rattle.flash_board.specs.Words.{row, blank, programmed, erased, Programs, ProgramMayLeave, Erases, EraseMayLeave};
+    ghost use Rattle.flash_board.specs.Words.{halfwords_in, blank, programmed, erased, Programs, ProgramMayLeave, Erases, EraseMayLeave};
     ghost use Rattle.flash_board.specs.Losses.{OnWords, after_program, after_erase, after_recv, after_send};
     ghost use Rattle.flash_board.specs.Flash.{words_of, half_erased};
     ghost use Rattle.flash_board.specs.Kept.{moment_of};
@@ -123,7 +123,7 @@ impl Memory {
     ghost use Rattle.flash_board.specs.MemoryLaws.{MemoryChanges, MemoryCovers, MemoryReceives, MemoryReceivesNothing, MemorySends, GoesOn};
 
     pub(crate) fn program(&mut self, region: Region, at: usize, word: u16)
-        requires { at < length (row (words_of self.old.image) region) }
+        requires { at < length (halfwords_in (words_of self.old.image) region) }
         ensures changes { MemoryChanges self.old self.new (ProgramMayLeave region at word) (Programs region at word) }
         ensures covers { MemoryCovers self.old self.new (OnWords (ProgramMayLeave region at word)) }
         ensures moment { moment_of self.new.counts ≡ after_program (moment_of self.old.counts) }
@@ -231,10 +231,10 @@ impl Memory {
 
     pub(crate) fn send(&mut self, peer: u8, bytes: &[u8])
         requires { length bytes.now ≤ 280 }
-        ensures sends { MemorySends self.old self.new (frame peer bytes.now) true }
+        ensures sends { MemorySends self.old self.new (sent_frame peer bytes.now) true }
         ensures moment { moment_of self.new.counts ≡ after_send (moment_of self.old.counts) }
         ensures words { words_of self.new.image ≡ words_of self.old.image }
-        ensures holdings { holdings_of self.new ≡ noted (sent_on (frame peer bytes.now) (holdings_of self.old)) }
+        ensures holdings { holdings_of self.new ≡ noted (sent_on (sent_frame peer bytes.now) (holdings_of self.old)) }
         ensures goes_on { GoesOn self.old self.new (moment_of self.old.counts).sendings }
     {
         let count = self.counts.sendings;
@@ -251,7 +251,7 @@ impl Memory {
 
     pub(crate) fn fail_send(&mut self, peer: u8, bytes: &[u8])
         requires { length bytes.now ≤ 280 }
-        ensures sends { MemorySends self.old self.new (frame peer bytes.now) false }
+        ensures sends { MemorySends self.old self.new (sent_frame peer bytes.now) false }
         ensures moment { moment_of self.new.counts ≡ after_send (moment_of self.old.counts) }
         ensures words { words_of self.new.image ≡ words_of self.old.image }
         ensures holdings { holdings_of self.new ≡ noted (holdings_of self.old) }

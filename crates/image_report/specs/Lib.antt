@@ -2,5 +2,5 @@ pub mod Texts
 pub mod Dumps
 pub mod Reports
 pub mod Writes
-pub mod Answers
+pub mod Refusals
 pub mod Laws

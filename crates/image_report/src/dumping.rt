@@ -10,7 +10,7 @@ ghost use Rattle.sector_log.specs.Storage.{storage_bytes};
 ghost use Rattle.sector_log.specs.Reads.{OnlyReads};
 ghost use Rattle.sector_switch.specs.FirstBad.{Place, FirstBad};
 ghost use Rattle.sector_switch.specs.Stands.{Stands};
-ghost use Rattle.image_report.specs.Answers.{OnForeign, OnFault, OnOutput, OnMemory, BeforeOutput, OnceRead};
+ghost use Rattle.image_report.specs.Refusals.{OnForeign, OnFault, OnOutput, OnMemory, BeforeOutput, OnceRead};
 ghost use Rattle.image_report.specs.Dumps as dumps;
 ghost use Rattle.image_report.specs.Dumps.{IsDump, dump_text};
 ghost use Rattle.image_report.specs.Writes.{Writes, WritesOne, WritesFirstPart};

@@ -1,7 +1,7 @@
 // What is found in the words of a board, region by region.
 ghost use Rattle.std.specs.Prelude.{◌≡◌, length, IfOk, IfErr};
 ghost use Rattle.flash_board.specs.declared.board.Fault.TheVariants.{Read};
-ghost use Rattle.flash_board.specs.Words.{row, IsSectorRegion, IsSectorSize};
+ghost use Rattle.flash_board.specs.Words.{halfwords_in, IsSectorRegion, IsSectorSize};
 ghost use Rattle.flash_board.specs.Causes.{Rose};
 ghost use Rattle.sector_log.specs.Storage.{storage_bytes};
 ghost use Rattle.sector_log.specs.Reads.{OnlyReads};
@@ -73,7 +73,7 @@ fn sector_found<B: Board>(
     requires attached { IsSectorSize (B.sector_bytes board.old) }
     requires sector { IsSectorRegion region }
     requires storage { length buffer.old ≡ storage_bytes }
-    ensures found { IfOk result (λ sector. B.tells board.new → IsSectorFound void region (row (B.words board.old) region) sector) }
+    ensures found { IfOk result (λ sector. B.tells board.new → IsSectorFound void region (halfwords_in (B.words board.old) region) sector) }
     ensures fault { IfErr result (λ kind. (kind ≡ Read) × Rose (B.faults board.old Read) (B.faults board.new Read)) }
     ensures reads { OnlyReads B.Board board.old board.new }
 {

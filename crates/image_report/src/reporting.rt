@@ -5,7 +5,7 @@ ghost use Rattle.flash_board.specs.Words.{IsSectorSize};
 ghost use Rattle.flash_board.specs.Causes.{Rose};
 ghost use Rattle.sector_log.specs.Storage.{storage_bytes};
 ghost use Rattle.sector_log.specs.Reads.{OnlyReads};
-ghost use Rattle.image_report.specs.Answers.{OnForeign, OnFault, OnOutput, OnMemory, BeforeOutput};
+ghost use Rattle.image_report.specs.Refusals.{OnForeign, OnFault, OnOutput, OnMemory, BeforeOutput};
 ghost use Rattle.image_report.specs.Reports as reports;
 ghost use Rattle.image_report.specs.Reports.{IsReport, report_text};
 ghost use Rattle.image_report.specs.Writes.{Writes, WritesOne, WritesFirstPart};

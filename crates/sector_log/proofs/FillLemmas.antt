@@ -4,7 +4,7 @@ use Rattle.std.specs.Prelude.{bit_and, Result, Ok, Err, Some}
 use Rattle.std.specs.Int.Bits.{and_self}
 use Rattle.std.proofs.lemmas.List.{length-set, length-replicate, ext_get_or, get_or-set_same, get_or-set_other}
 use Rattle.std.proofs.lemmas.Bool.{cases_eq}
-use Rattle.flash_board.specs.Words.{Words, row, with_row, programmed, Programs, ProgramMayLeave}
+use Rattle.flash_board.specs.Words.{Words, halfwords_in, with_halfwords, programmed, Programs, ProgramMayLeave}
 use Rattle.flash_board.specs.declared.board.Region.{Region}
 use Rattle.flash_board.specs.declared.board.Mark.{Mark}
 use Rattle.flash_board.specs.declared.board.Mark.TheVariants.{InUse}
@@ -25,10 +25,10 @@ use Rattle.sector_log.proofs.Programmable.{programmable_from, programmable_each}
 use Rattle.sector_log.proofs.AppendLemmas.{with_program, header, next, finish, begin, erased_becomes}
 
 -- a program in a region
-program_region : (w : Words) (r : Region) (xs : List ℕ) (at word : ℕ) (m : Words) → m ≡ with_row w r xs → programmed m r at word ≡ with_row w r (with_program xs at word)
+program_region : (w : Words) (r : Region) (xs : List ℕ) (at word : ℕ) (m : Words) → m ≡ with_halfwords w r xs → programmed m r at word ≡ with_halfwords w r (with_program xs at word)
 program_region w r xs at word m is =
     ap (λ (v : Words). programmed v r at word) is
-    ∙ ap (λ (l : List ℕ). with_row (with_row w r xs) r (with_program l at word)) (row-with_row w r xs)
+    ∙ ap (λ (l : List ℕ). with_halfwords (with_halfwords w r xs) r (with_program l at word)) (row-with_row w r xs)
     ∙ with_row-with_row w r xs (with_program xs at word)
 
 -- a step behind another one, done or not
@@ -37,8 +37,8 @@ by_both (Ok x) d1 l1 d2 l2 u v w done lost by = done by
 by_both (Err e) d1 l1 d2 l2 u v w done lost by = lost by
 
 -- nothing was changed
-still : (r : Region) (P : List ℕ → Type 0) (w : Words) → P (row w r) → InRegion r P w w
-still r P w here = record { halfwords = row w r; here = here; same_length = refl; whole = sym (with_row-row w r) }
+still : (r : Region) (P : List ℕ → Type 0) (w : Words) → P (halfwords_in w r) → InRegion r P w w
+still r P w here = record { halfwords = halfwords_in w r; here = here; same_length = refl; whole = sym (with_row-row w r) }
 
 weaker : {P Q : List ℕ → Type 0} (r : Region) (u v : Words) → ((l : List ℕ) → P l → Q l) → InRegion r P u v → InRegion r Q u v
 weaker r u v h p = record { halfwords = p.halfwords; here = h p.halfwords p.here; same_length = p.same_length; whole = p.whole }
@@ -46,23 +46,23 @@ weaker r u v h p = record { halfwords = p.halfwords; here = h p.halfwords p.here
 -- one change of a region after another
 one_after : {P Q : List ℕ → Type 0} (r : Region) (u v w : Words) → InRegion r P u v → InRegion r Q v w → InRegion r Q u w
 one_after r u v w p q =
-    let mid : row v r ≡ p.halfwords = ap (λ (x : Words). row x r) p.whole ∙ row-with_row u r p.halfwords in
+    let mid : halfwords_in v r ≡ p.halfwords = ap (λ (x : Words). halfwords_in x r) p.whole ∙ row-with_row u r p.halfwords in
     record {
       halfwords = q.halfwords;
       here = q.here;
       same_length = q.same_length ∙ ap length mid ∙ p.same_length;
-      whole = q.whole ∙ ap (λ (x : Words). with_row x r q.halfwords) p.whole ∙ with_row-with_row u r p.halfwords q.halfwords;
+      whole = q.whole ∙ ap (λ (x : Words). with_halfwords x r q.halfwords) p.whole ∙ with_row-with_row u r p.halfwords q.halfwords;
     }
 
-here_now : {P : List ℕ → Type 0} (r : Region) (u v : Words) → InRegion r P u v → P (row v r)
-here_now {P} r u v p = subst P (sym (ap (λ (x : Words). row x r) p.whole ∙ row-with_row u r p.halfwords)) p.here
+here_now : {P : List ℕ → Type 0} (r : Region) (u v : Words) → InRegion r P u v → P (halfwords_in v r)
+here_now {P} r u v p = subst P (sym (ap (λ (x : Words). halfwords_in x r) p.whole ∙ row-with_row u r p.halfwords)) p.here
 
 -- one program of the region
-programs_here : {P : List ℕ → Type 0} (r : Region) (at word : ℕ) (u v : Words) → Programs r at word u v → P (with_program (row u r) at word) → InRegion r P u v
+programs_here : {P : List ℕ → Type 0} (r : Region) (at word : ℕ) (u v : Words) → Programs r at word u v → P (with_program (halfwords_in u r) at word) → InRegion r P u v
 programs_here r at word u v did here = record {
-  halfwords = with_program (row u r) at word;
+  halfwords = with_program (halfwords_in u r) at word;
   here = here;
-  same_length = length-set (row u r) at (bit_and (get_or (row u r) at 0) word);
+  same_length = length-set (halfwords_in u r) at (bit_and (get_or (halfwords_in u r) at 0) word);
   whole = did;
 }
 
@@ -74,7 +74,7 @@ pub record IsFilled (at : ℕ) (new : List ℕ) (mark : Mark) (entries : List En
 
 -- the first k halfwords are programmed
 abbrev pub FilledTo : Region → ℕ → List ℕ → ℕ → Words → Words → Type 0
-FilledTo r at bytes k old new = (mark : Mark) (entries : List Entry) (line lines : ℕ) (content : List ℕ) → CanFill at (halfwords_of bytes) mark entries line lines content (row old r)
+FilledTo r at bytes k old new = (mark : Mark) (entries : List Entry) (line lines : ℕ) (content : List ℕ) → CanFill at (halfwords_of bytes) mark entries line lines content (halfwords_in old r)
     → InRegion r (IsFilled at (halfwords_of bytes) mark entries line lines k) old new
 
 pub filled_none : (r : Region) (at : ℕ) (bytes : List ℕ) (w : Words) → FilledTo r at bytes 0 w w
@@ -116,7 +116,7 @@ pub filled_next : (r : Region) (at : ℕ) (bytes : List ℕ) (k place word : ℕ
 filled_next r at bytes k place word u v w lt is_at is_word f did mark entries line lines content can =
     let before = f mark entries line lines content can in
     one_after r u v w before (programs_here {P = IsFilled at (halfwords_of bytes) mark entries line lines (k + 1)} r place word v w did
-    (filled_more at (halfwords_of bytes) mark entries line lines k place word (row v r) lt is_at is_word (here_now r u v before)))
+    (filled_more at (halfwords_of bytes) mark entries line lines k place word (halfwords_in v r) lt is_at is_word (here_now r u v before)))
 
 pub filled_next_may : (r : Region) (at : ℕ) (bytes : List ℕ) (k place word : ℕ) (u v w : Words) → k < length (halfwords_of bytes) → place ≡ at + k → word ≡ get_or (halfwords_of bytes) k 0
     → FilledTo r at bytes k u v → ProgramMayLeave r place word v w → FillMayLeave r at bytes u w
@@ -147,10 +147,10 @@ module _ (r : Region) (at line : ℕ) (bytes : List ℕ) where
       let before = fills mark entries line (length bytes / 8) content can in
       let lines = length bytes / 8 in
       let here : at ≡ end_of entries = omega (arith, can.place) in
-      let sealed = finish (row v r) mark entries line lines (halfwords_of bytes) (here_now r u v before) in
+      let sealed = finish (halfwords_in v r) mark entries line lines (halfwords_of bytes) (here_now r u v before) in
       one_after r u v w before (programs_here {P = λ l. IsSector l mark (entries ++ entry_of 0 line lines (halfwords_of bytes) ∷ [])} r at valid v w did
-      (subst (λ (d : ℕ). IsSector (with_program (row v r) at d) mark (entries ++ entry_of 0 line lines (halfwords_of bytes) ∷ [])) (sym is)
-      (subst (λ (n : ℕ). IsSector (with_program (row v r) n (header_word (header 0 line lines))) mark (entries ++ entry_of 0 line lines (halfwords_of bytes) ∷ [])) (sym here) sealed)))
+      (subst (λ (d : ℕ). IsSector (with_program (halfwords_in v r) at d) mark (entries ++ entry_of 0 line lines (halfwords_of bytes) ∷ [])) (sym is)
+      (subst (λ (n : ℕ). IsSector (with_program (halfwords_in v r) n (header_word (header 0 line lines))) mark (entries ++ entry_of 0 line lines (halfwords_of bytes) ∷ [])) (sym here) sealed)))
 
   pub completes_may : (u v : Words) → Completes r at line bytes u v → CompleteMayLeave r at line bytes u v
   completes_may u v did mark entries content can = weaker r u v (λ l p. inr p) (did mark entries content can)
@@ -172,27 +172,27 @@ module _ (log : Log) (line : ℕ) (bytes : List ℕ) (some : 1 ≤ length bytes 
   erased_can = programmable_from (begun many) (halfwords_of bytes) (length-replicate {A = ℕ} (4 * many) 65535 ∙ sym whole)
       (λ k lt. erased_becomes (4 * many) k (get_or (halfwords_of bytes) k 0) (omega (arith, lt, length-replicate {A = ℕ} (4 * many) 65535)) (halfwords k))
 
-  begins : (u v : Words) → log.end + 1 + 4 * many ≤ length (row u log.region) → Programs log.region log.end writing u v → (entries : List Entry) → log.end ≡ end_of entries → IsSector (row u log.region) InUse entries
+  begins : (u v : Words) → log.end + 1 + 4 * many ≤ length (halfwords_in u log.region) → Programs log.region log.end writing u v → (entries : List Entry) → log.end ≡ end_of entries → IsSector (halfwords_in u log.region) InUse entries
       → InRegion log.region (λ l. CanFill (log.end + 1) (halfwords_of bytes) InUse entries line many (begun many) l) u v
   begins u v fits did entries end sector =
-      let made = begin (row u log.region) InUse entries line many (λ e. cc) sector some most inside (omega (arith, fits, end)) in
+      let made = begin (halfwords_in u log.region) InUse entries line many (λ e. cc) sector some most inside (omega (arith, fits, end)) in
       programs_here {P = λ l. CanFill (log.end + 1) (halfwords_of bytes) InUse entries line many (begun many) l} log.region log.end writing u v did (record {
         place = ap (λ (n : ℕ). n + 1) end;
         can = erased_can;
-        sector = subst (λ (d : ℕ). IsSector (with_program (row u log.region) log.end d) InUse (entries ++ entry_of 1 line many (begun many) ∷ [])) (sym is)
-            (subst (λ (n : ℕ). IsSector (with_program (row u log.region) n (header_word (header 1 line many))) InUse (entries ++ entry_of 1 line many (begun many) ∷ [])) (sym end) made);
+        sector = subst (λ (d : ℕ). IsSector (with_program (halfwords_in u log.region) log.end d) InUse (entries ++ entry_of 1 line many (begun many) ∷ [])) (sym is)
+            (subst (λ (n : ℕ). IsSector (with_program (halfwords_in u log.region) n (header_word (header 1 line many))) InUse (entries ++ entry_of 1 line many (begun many) ∷ [])) (sym end) made);
       })
 
-  pub writing_may : (u v : Words) → log.end + 1 + 4 * many ≤ length (row u log.region) → ProgramMayLeave log.region log.end writing u v → AppendMayLeave log line bytes u v
+  pub writing_may : (u v : Words) → log.end + 1 + 4 * many ≤ length (halfwords_in u log.region) → ProgramMayLeave log.region log.end writing u v → AppendMayLeave log line bytes u v
   writing_may u v fits (inl same) entries end sector = subst (λ (x : Words). InRegion log.region (IsOneOfThree entries line many (halfwords_of bytes)) u x) (sym same) (still log.region (IsOneOfThree entries line many (halfwords_of bytes)) u (inl sector))
   writing_may u v fits (inr did) entries end sector = weaker log.region u v (λ l p. inr (inl (begun many, p.can, p.sector))) (begins u v fits did entries end sector)
 
-  pub then_completes : (u v w : Words) → log.end + 1 + 4 * many ≤ length (row u log.region) → Programs log.region log.end writing u v → Completes log.region log.end line bytes v w → Appends log line bytes u w
+  pub then_completes : (u v w : Words) → log.end + 1 + 4 * many ≤ length (halfwords_in u log.region) → Programs log.region log.end writing u v → Completes log.region log.end line bytes v w → Appends log line bytes u w
   then_completes u v w fits did completes entries end sector =
       let before = begins u v fits did entries end sector in
       one_after log.region u v w before (completes InUse entries (begun many) (here_now log.region u v before))
 
-  pub then_completes_may : (u v w : Words) → log.end + 1 + 4 * many ≤ length (row u log.region) → Programs log.region log.end writing u v → CompleteMayLeave log.region log.end line bytes v w → AppendMayLeave log line bytes u w
+  pub then_completes_may : (u v w : Words) → log.end + 1 + 4 * many ≤ length (halfwords_in u log.region) → Programs log.region log.end writing u v → CompleteMayLeave log.region log.end line bytes v w → AppendMayLeave log line bytes u w
   then_completes_may u v w fits did may entries end sector =
       let before = begins u v fits did entries end sector in
       weaker log.region u w (λ l p. inr p) (one_after log.region u v w before (may InUse entries (begun many) (here_now log.region u v before)))
@@ -200,7 +200,7 @@ module _ (log : Log) (line : ℕ) (bytes : List ℕ) (some : 1 ≤ length bytes 
 -- the torn last entry of a log is completed where it stands
 module _ (log : Log) (torn : Torn) (is : log.torn ≡ Some torn) (bytes : List ℕ) (size : length bytes ≡ 8 * torn.lines) where
   can_fill : (w : Words) (mark : Mark) (entries : List Entry) (line lines : ℕ) (content : List ℕ) → IsTornLast log w mark entries line lines content → programmable content (halfwords_of bytes) ≡ true
-      → (torn.line ≡ line) × (length bytes / 8 ≡ lines) × CanFill (torn.at + 1) (halfwords_of bytes) mark entries torn.line (length bytes / 8) content (row w log.region)
+      → (torn.line ≡ line) × (length bytes / 8 ≡ lines) × CanFill (torn.at + 1) (halfwords_of bytes) mark entries torn.line (length bytes / 8) content (halfwords_in w log.region)
   can_fill w mark entries line lines content last can =
       let parts = torn_parts log torn is w mark entries line lines content last in
       let many : length bytes / 8 ≡ lines = omega (arith, size, parts.2) in (
@@ -209,8 +209,8 @@ module _ (log : Log) (torn : Torn) (is : log.torn ≡ Some torn) (bytes : List �
         record {
           place = ap (λ (n : ℕ). n + 1) parts.0;
           can = can;
-          sector = subst (λ (n : ℕ). IsSector (row w log.region) mark (entries ++ entry_of 1 torn.line n content ∷ [])) (sym many)
-              (subst (λ (n : ℕ). IsSector (row w log.region) mark (entries ++ entry_of 1 n lines content ∷ [])) (sym parts.1) last.sector);
+          sector = subst (λ (n : ℕ). IsSector (halfwords_in w log.region) mark (entries ++ entry_of 1 torn.line n content ∷ [])) (sym many)
+              (subst (λ (n : ℕ). IsSector (halfwords_in w log.region) mark (entries ++ entry_of 1 n lines content ∷ [])) (sym parts.1) last.sector);
         },
       )
 

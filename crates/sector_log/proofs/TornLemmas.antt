@@ -5,7 +5,7 @@ use Rattle.std.specs.Option.{option_and_then}
 use Rattle.std.proofs.lemmas.List.{get_or_append_left, get_or-append_right}
 use Rattle.std.proofs.lemmas.Bool.{cases_Bool, cases_eq}
 use Rattle.std.proofs.lemmas.Bool.Decides.{nat_tests}
-use Rattle.flash_board.specs.Words.{Words, row}
+use Rattle.flash_board.specs.Words.{Words, halfwords_in}
 use Rattle.flash_board.specs.declared.board.Mark.{Mark}
 use Rattle.sector_log.specs.declared.log.Log.{Log}
 use Rattle.sector_log.specs.declared.log.Torn.{Torn}
@@ -64,15 +64,15 @@ module _ (log : Log) (torn : Torn) (is : log.torn ≡ Some torn) (w : Words) (by
       omega (arith, entry.whole, parts.2, size, length_halfwords bytes)
 
   -- the test of the i-th
-  pub test_is : (i new : ℕ) (fits : Bool) → i < length content → new ≡ get_or (halfwords_of bytes) i 0 → fits ≡ (bit_and (get_or (row w log.region) (torn.at + 1 + i) 0) new == new)
+  pub test_is : (i new : ℕ) (fits : Bool) → i < length content → new ≡ get_or (halfwords_of bytes) i 0 → fits ≡ (bit_and (get_or (halfwords_in w log.region) (torn.at + 1 + i) 0) new == new)
       → fits ≡ (bit_and (get_or content i 0) (get_or (halfwords_of bytes) i 0) == get_or (halfwords_of bytes) i 0)
   test_is i new fits lt is_new told =
       let parts = torn_parts log torn is w mark entries line lines content last in
-      let here : get_or (row w log.region) (torn.at + 1 + i) 0 ≡ get_or content i 0 =
-      ap (λ (n : ℕ). get_or (row w log.region) (n + 1 + i) 0) parts.0 ∙ torn_content (row w log.region) mark entries (entry_of 1 line lines content) i last.sector lt in
+      let here : get_or (halfwords_in w log.region) (torn.at + 1 + i) 0 ≡ get_or content i 0 =
+      ap (λ (n : ℕ). get_or (halfwords_in w log.region) (n + 1 + i) 0) parts.0 ∙ torn_content (halfwords_in w log.region) mark entries (entry_of 1 line lines content) i last.sector lt in
       told ∙ ap (λ (v : ℕ). bit_and v new == new) here ∙ ap (λ (d : ℕ). bit_and (get_or content i 0) d == d) is_new
 
-  pub each_more : (i new : ℕ) → i < length content → new ≡ get_or (halfwords_of bytes) i 0 → true ≡ (bit_and (get_or (row w log.region) (torn.at + 1 + i) 0) new == new)
+  pub each_more : (i new : ℕ) → i < length content → new ≡ get_or (halfwords_of bytes) i 0 → true ≡ (bit_and (get_or (halfwords_in w log.region) (torn.at + 1 + i) 0) new == new)
       → ((j : ℕ) → j < i → bit_and (get_or content j 0) (get_or (halfwords_of bytes) j 0) ≡ get_or (halfwords_of bytes) j 0)
       → (j : ℕ) → j < i + 1 → bit_and (get_or content j 0) (get_or (halfwords_of bytes) j 0) ≡ get_or (halfwords_of bytes) j 0
   each_more i new lt is_new told before j below = elim (cases_eq j i) [
@@ -81,7 +81,7 @@ module _ (log : Log) (torn : Torn) (is : log.torn ≡ Some torn) (w : Words) (by
     | inr other ↦ before j (omega (arith, below, other))
   ]
 
-  pub one_fails : (i new : ℕ) → i < length content → new ≡ get_or (halfwords_of bytes) i 0 → false ≡ (bit_and (get_or (row w log.region) (torn.at + 1 + i) 0) new == new) → false ≡ programmable content (halfwords_of bytes)
+  pub one_fails : (i new : ℕ) → i < length content → new ≡ get_or (halfwords_of bytes) i 0 → false ≡ (bit_and (get_or (halfwords_in w log.region) (torn.at + 1 + i) 0) new == new) → false ≡ programmable content (halfwords_of bytes)
   one_fails i new lt is_new told = sym (fails_at content (halfwords_of bytes) i lt (sym (test_is i new false lt is_new told)))
 
   pub all_fit : (i : ℕ) → length content ≤ i → ((j : ℕ) → j < i → bit_and (get_or content j 0) (get_or (halfwords_of bytes) j 0) ≡ get_or (halfwords_of bytes) j 0) → true ≡ programmable content (halfwords_of bytes)

@@ -1,6 +1,6 @@
 -- What an append and the completing of a torn entry do, and what a loss in one leaves.
 use Rattle.std.specs.Prelude.{◌≡◌, ◌⊎◌, ◌≤◌, ◌^◌, ℕ, ◌+◌, ◌-◌, ◌*◌, ◌/◌, min, max, List, [], ◌∷◌, ◌++◌, length, true, None, IfSome, IsSome}
-use Rattle.flash_board.specs.Words.{Words, row, with_row, IsSectorRegion}
+use Rattle.flash_board.specs.Words.{Words, halfwords_in, with_halfwords, IsSectorRegion}
 use Rattle.flash_board.specs.declared.board.Region.{Region}
 use Rattle.flash_board.specs.declared.board.Mark.{Mark}
 use Rattle.flash_board.specs.declared.board.Mark.TheVariants.{InUse}
@@ -16,8 +16,8 @@ use Rattle.sector_log.specs.Log.{end_of, IsLogOf}
 pub record InRegion (r : Region) (P : List ℕ → Type 0) (old new : Words) : Type 0 where
   pub halfwords : List ℕ
   pub here : P halfwords
-  pub same_length : length halfwords ≡ length (row old r)
-  pub whole : new ≡ with_row old r halfwords
+  pub same_length : length halfwords ≡ length (halfwords_in old r)
+  pub whole : new ≡ with_halfwords old r halfwords
 
 -- the entry of this state, first line, number of lines and content
 abbrev pub entry_of : ℕ → ℕ → ℕ → List ℕ → Entry
@@ -32,11 +32,11 @@ IsOneOfThree entries line lines content words =
 
 -- an append of these bytes from this line on, to a sector in use whose entries end where the log says
 abbrev pub AppendMayLeave : Log → ℕ → List ℕ → Words → Words → Type 0
-AppendMayLeave log line bytes old new = (entries : List Entry) → log.end ≡ end_of entries → IsSector (row old log.region) InUse entries
+AppendMayLeave log line bytes old new = (entries : List Entry) → log.end ≡ end_of entries → IsSector (halfwords_in old log.region) InUse entries
     → InRegion log.region (IsOneOfThree entries line (length bytes / 8) (halfwords_of bytes)) old new
 
 abbrev pub Appends : Log → ℕ → List ℕ → Words → Words → Type 0
-Appends log line bytes old new = (entries : List Entry) → log.end ≡ end_of entries → IsSector (row old log.region) InUse entries
+Appends log line bytes old new = (entries : List Entry) → log.end ≡ end_of entries → IsSector (halfwords_in old log.region) InUse entries
     → InRegion log.region (λ words. IsSector words InUse (entries ++ entry_of 0 line (length bytes / 8) (halfwords_of bytes) ∷ [])) old new
 
 -- the log with one more valid entry of so many lines
@@ -52,7 +52,7 @@ IsOneOfTwo mark entries line lines content words =
 -- the log is that of the region's words, and its last entry is torn
 pub record IsTornLast (log : Log) (words : Words) (mark : Mark) (entries : List Entry) (line lines : ℕ) (content : List ℕ) : Type 0 where
   pub tells : IsLogOf log log.region mark (entries ++ entry_of 1 line lines content ∷ [])
-  pub sector : IsSector (row words log.region) mark (entries ++ entry_of 1 line lines content ∷ [])
+  pub sector : IsSector (halfwords_in words log.region) mark (entries ++ entry_of 1 line lines content ∷ [])
 
 -- completing the torn last entry with these bytes
 abbrev pub FinishMayLeave : Log → List ℕ → Words → Words → Type 0

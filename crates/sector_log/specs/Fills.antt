@@ -1,6 +1,6 @@
 -- The steps of an entry: its content, and then its header as valid.
 use Rattle.std.specs.Prelude.{◌≡◌, ℕ, ◌+◌, ◌/◌, List, [], ◌∷◌, ◌++◌, length, true}
-use Rattle.flash_board.specs.Words.{Words, row}
+use Rattle.flash_board.specs.Words.{Words, halfwords_in}
 use Rattle.flash_board.specs.declared.board.Region.{Region}
 use Rattle.flash_board.specs.declared.board.Mark.{Mark}
 use Rattle.sector_log.specs.Entries.{Entry}
@@ -17,18 +17,18 @@ pub record CanFill (at : ℕ) (new : List ℕ) (mark : Mark) (entries : List Ent
 
 -- the content of a torn last entry is programmed to these bytes, one halfword after the other
 abbrev pub FillMayLeave : Region → ℕ → List ℕ → Words → Words → Type 0
-FillMayLeave r at bytes old new = (mark : Mark) (entries : List Entry) (line lines : ℕ) (content : List ℕ) → CanFill at (halfwords_of bytes) mark entries line lines content (row old r)
+FillMayLeave r at bytes old new = (mark : Mark) (entries : List Entry) (line lines : ℕ) (content : List ℕ) → CanFill at (halfwords_of bytes) mark entries line lines content (halfwords_in old r)
     → InRegion r (λ words. (left : List ℕ) × CanFill at (halfwords_of bytes) mark entries line lines left words) old new
 
 abbrev pub Fills : Region → ℕ → List ℕ → Words → Words → Type 0
-Fills r at bytes old new = (mark : Mark) (entries : List Entry) (line lines : ℕ) (content : List ℕ) → CanFill at (halfwords_of bytes) mark entries line lines content (row old r)
+Fills r at bytes old new = (mark : Mark) (entries : List Entry) (line lines : ℕ) (content : List ℕ) → CanFill at (halfwords_of bytes) mark entries line lines content (halfwords_in old r)
     → InRegion r (λ words. IsSector words mark (entries ++ entry_of 1 line lines (halfwords_of bytes) ∷ [])) old new
 
 -- the torn last entry, whose header stands at this place, becomes a valid one with these bytes
 abbrev pub CompleteMayLeave : Region → ℕ → ℕ → List ℕ → Words → Words → Type 0
-CompleteMayLeave r at line bytes old new = (mark : Mark) (entries : List Entry) (content : List ℕ) → CanFill (at + 1) (halfwords_of bytes) mark entries line (length bytes / 8) content (row old r)
+CompleteMayLeave r at line bytes old new = (mark : Mark) (entries : List Entry) (content : List ℕ) → CanFill (at + 1) (halfwords_of bytes) mark entries line (length bytes / 8) content (halfwords_in old r)
     → InRegion r (IsOneOfTwo mark entries line (length bytes / 8) (halfwords_of bytes)) old new
 
 abbrev pub Completes : Region → ℕ → ℕ → List ℕ → Words → Words → Type 0
-Completes r at line bytes old new = (mark : Mark) (entries : List Entry) (content : List ℕ) → CanFill (at + 1) (halfwords_of bytes) mark entries line (length bytes / 8) content (row old r)
+Completes r at line bytes old new = (mark : Mark) (entries : List Entry) (content : List ℕ) → CanFill (at + 1) (halfwords_of bytes) mark entries line (length bytes / 8) content (halfwords_in old r)
     → InRegion r (λ words. IsSector words mark (entries ++ entry_of 0 line (length bytes / 8) (halfwords_of bytes) ∷ [])) old new

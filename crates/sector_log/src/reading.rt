@@ -1,6 +1,6 @@
 // The scan that reads a sector's log.
 ghost use Rattle.std.specs.Prelude.{◌≡◌, ◌∷◌, ◌^◌, ◌+◌, ◌*◌, ◌/◌, ◌<◌, ◌≤◌, List, ℕ, length, take, drop, slice_index, All, Option, IfOk, OnOk, OnErr, IfErr, IfSome, MatchOption};
-ghost use Rattle.flash_board.specs.Words.{row, region_length, IsSectorRegion, IsSectorSize};
+ghost use Rattle.flash_board.specs.Words.{halfwords_in, region_length, IsSectorRegion, IsSectorSize};
 ghost use Rattle.flash_board.specs.Causes.{Rose};
 ghost use Rattle.flash_board.specs.declared.board.Fault.TheVariants.{Read};
 ghost use Rattle.sector_log.specs.declared.log.Log.{Log};
@@ -23,7 +23,7 @@ use flash_board::{Board, Fault, LogError, Mark, Region};
 fn word_at<B: Board>(board: &mut B, region: Region, at: u32) -> Result<u16, LogError>
     requires attached { IsSectorSize (B.sector_bytes board.old) }
     requires inside { at < region_length (B.sector_bytes board.old) region }
-    ensures word { IfOk result (λ word. B.tells board.new → word ≡ slice_index (row (B.words board.old) region) at) }
+    ensures word { IfOk result (λ word. B.tells board.new → word ≡ slice_index (halfwords_in (B.words board.old) region) at) }
     ensures no_word { IfErr result (λ e. OnWord e (λ offset word. ⊥)) }
     ensures fault { IfErr result (λ e. OnFault e (λ kind. (kind ≡ Read) × Rose (B.faults board.old Read) (B.faults board.new Read))) }
     ensures reads { OnlyReads B.Board board.old board.new }
@@ -46,7 +46,7 @@ fn content_at<B: Board>(
     requires within { at + count ≤ region_length (B.sector_bytes board.old) region }
     requires room { length content.old ≡ 2 * count }
     requires few { count ≤ 32 }
-    ensures content { OnOk result (B.tells board.new → content.new ≡ bytes_of (take count (drop at (row (B.words board.old) region)))) }
+    ensures content { OnOk result (B.tells board.new → content.new ≡ bytes_of (take count (drop at (halfwords_in (B.words board.old) region)))) }
     ensures no_word { IfErr result (λ e. OnWord e (λ offset word. ⊥)) }
     ensures fault { IfErr result (λ e. OnFault e (λ kind. (kind ≡ Read) × Rose (B.faults board.old Read) (B.faults board.new Read))) }
     ensures reads { OnlyReads B.Board board.old board.new }
@@ -71,7 +71,7 @@ fn copy_content<B: Board>(
     requires lawful { IsLawful header }
     requires within { at + 4 * header.lines ≤ region_length (B.sector_bytes board.old) region }
     requires storage { length into.old ≡ storage_bytes }
-    ensures copied { OnOk result (B.tells board.new → into.new ≡ put (8 * header.line) (bytes_of (take (4 * header.lines) (drop at (row (B.words board.old) region)))) into.old) }
+    ensures copied { OnOk result (B.tells board.new → into.new ≡ put (8 * header.line) (bytes_of (take (4 * header.lines) (drop at (halfwords_in (B.words board.old) region)))) into.old) }
     ensures size { length into.new ≡ storage_bytes }
     ensures err { OnErr result (into.new ≡ into.old) }
     ensures no_word { IfErr result (λ e. OnWord e (λ offset word. ⊥)) }
@@ -98,9 +98,9 @@ fn next_header<B: Board>(board: &mut B, len: u32, log: Log) -> Result<Option<Hea
     requires len { len ≡ region_length (B.sector_bytes board.old) log.region }
     requires within { log.end ≤ len }
     ensures fits { IfOk result (λ next. IfSome next (λ header. IsLawful header × (log.end + 1 + 4 * header.lines ≤ len))) }
-    ensures next { IfOk result (λ next. B.tells board.new → MatchOption next (NoEntry (drop log.end (row (B.words board.old) log.region)))
-        (λ header. header_word header ≡ slice_index (row (B.words board.old) log.region) log.end)) }
-    ensures word { IfErr result (λ e. OnWord e (λ place word. B.tells board.new → BadHere (row (B.words board.old) log.region) log.end place word)) }
+    ensures next { IfOk result (λ next. B.tells board.new → MatchOption next (NoEntry (drop log.end (halfwords_in (B.words board.old) log.region)))
+        (λ header. header_word header ≡ slice_index (halfwords_in (B.words board.old) log.region) log.end)) }
+    ensures word { IfErr result (λ e. OnWord e (λ place word. B.tells board.new → BadHere (halfwords_in (B.words board.old) log.region) log.end place word)) }
     ensures fault { IfErr result (λ e. OnFault e (λ kind. (kind ≡ Read) × Rose (B.faults board.old Read) (B.faults board.new Read))) }
     ensures reads { OnlyReads B.Board board.old board.new }
 {
@@ -138,11 +138,11 @@ fn next_entry<B: Board>(
     requires storage { length into.old ≡ storage_bytes }
     ensures every { IfOk result (λ next. IfSome next (λ new. (log.end < new.end) × IsLogIn len new × (new.region ≡ log.region) × (new.mark ≡ log.mark))) }
     ensures next { IfOk result (λ next. MatchOption next
-        ((into.new ≡ into.old) × (B.tells board.new → NoEntry (drop log.end (row (B.words board.old) log.region))))
-        (λ new. B.tells board.new → (e : Entry) × Adds (row (B.words board.old) log.region) log new into.old into.new e)) }
+        ((into.new ≡ into.old) × (B.tells board.new → NoEntry (drop log.end (halfwords_in (B.words board.old) log.region))))
+        (λ new. B.tells board.new → (e : Entry) × Adds (halfwords_in (B.words board.old) log.region) log new into.old into.new e)) }
     ensures size { length into.new ≡ storage_bytes }
     ensures err { OnErr result (into.new ≡ into.old) }
-    ensures word { IfErr result (λ e. OnWord e (λ place word. B.tells board.new → BadHere (row (B.words board.old) log.region) log.end place word)) }
+    ensures word { IfErr result (λ e. OnWord e (λ place word. B.tells board.new → BadHere (halfwords_in (B.words board.old) log.region) log.end place word)) }
     ensures fault { IfErr result (λ e. OnFault e (λ kind. (kind ≡ Read) × Rose (B.faults board.old Read) (B.faults board.new Read))) }
     ensures reads { OnlyReads B.Board board.old board.new }
 {
@@ -187,12 +187,12 @@ fn entries_of<B: Board>(
     requires len { len ≡ region_length (B.sector_bytes board.old) region }
     requires storage { length into.old ≡ storage_bytes }
     ensures every { IfOk result (λ log. IsLogIn len log × (log.region ≡ region) × (log.mark ≡ mark)) }
-    ensures log { IfOk result (λ log. B.tells board.new → NoEntry (drop log.end (row (B.words board.old) region))
-        × (entries : List Entry) × Walked (row (B.words board.old) region) region mark log into.old into.new entries) }
+    ensures log { IfOk result (λ log. B.tells board.new → NoEntry (drop log.end (halfwords_in (B.words board.old) region))
+        × (entries : List Entry) × Walked (halfwords_in (B.words board.old) region) region mark log into.old into.new entries) }
     ensures size { length into.new ≡ storage_bytes }
-    ensures err { OnErr result (B.tells board.new → (log : Log) × (entries : List Entry) × Walked (row (B.words board.old) region) region mark log into.old into.new entries) }
-    ensures word { IfErr result (λ e. OnWord e (λ place word. B.tells board.new → (log : Log) × BadHere (row (B.words board.old) region) log.end place word
-        × (entries : List Entry) × Walked (row (B.words board.old) region) region mark log into.old into.new entries)) }
+    ensures err { OnErr result (B.tells board.new → (log : Log) × (entries : List Entry) × Walked (halfwords_in (B.words board.old) region) region mark log into.old into.new entries) }
+    ensures word { IfErr result (λ e. OnWord e (λ place word. B.tells board.new → (log : Log) × BadHere (halfwords_in (B.words board.old) region) log.end place word
+        × (entries : List Entry) × Walked (halfwords_in (B.words board.old) region) region mark log into.old into.new entries)) }
     ensures fault { IfErr result (λ e. OnFault e (λ kind. (kind ≡ Read) × Rose (B.faults board.old Read) (B.faults board.new Read))) }
     ensures reads { OnlyReads B.Board board.old board.new }
 {
@@ -214,8 +214,8 @@ fn entries_of<B: Board>(
 fn mark_at<B: Board>(board: &mut B, region: Region) -> Result<Mark, LogError>
     requires attached { IsSectorSize (B.sector_bytes board.old) }
     requires sector { IsSectorRegion region }
-    ensures mark { IfOk result (λ mark. B.tells board.new → HasHead (row (B.words board.old) region) mark) }
-    ensures word { IfErr result (λ e. OnWord e (λ place word. B.tells board.new → FirstBad (row (B.words board.old) region) place word)) }
+    ensures mark { IfOk result (λ mark. B.tells board.new → HasHead (halfwords_in (B.words board.old) region) mark) }
+    ensures word { IfErr result (λ e. OnWord e (λ place word. B.tells board.new → FirstBad (halfwords_in (B.words board.old) region) place word)) }
     ensures fault { IfErr result (λ e. OnFault e (λ kind. (kind ≡ Read) × Rose (B.faults board.old Read) (B.faults board.new Read))) }
     ensures reads { OnlyReads B.Board board.old board.new }
 {
@@ -238,8 +238,8 @@ fn test_erased<B: Board>(board: &mut B, len: u32, region: Region, from: u32) -> 
     requires attached { IsSectorSize (B.sector_bytes board.old) }
     requires len { len ≡ region_length (B.sector_bytes board.old) region }
     requires within { from ≤ len }
-    ensures erased { OnOk result (B.tells board.new → All (λ word. word ≡ 65535) (drop from (row (B.words board.old) region))) }
-    ensures word { IfErr result (λ e. OnWord e (λ place word. B.tells board.new → (n : ℕ) × (place ≡ from + n) × FirstOther (drop from (row (B.words board.old) region)) n word)) }
+    ensures erased { OnOk result (B.tells board.new → All (λ word. word ≡ 65535) (drop from (halfwords_in (B.words board.old) region))) }
+    ensures word { IfErr result (λ e. OnWord e (λ place word. B.tells board.new → (n : ℕ) × (place ≡ from + n) × FirstOther (drop from (halfwords_in (B.words board.old) region)) n word)) }
     ensures fault { IfErr result (λ e. OnFault e (λ kind. (kind ≡ Read) × Rose (B.faults board.old Read) (B.faults board.new Read))) }
     ensures reads { OnlyReads B.Board board.old board.new }
 {
@@ -263,14 +263,14 @@ fn log_behind<B: Board>(
     requires attached { IsSectorSize (B.sector_bytes board.old) }
     requires sector { IsSectorRegion region }
     requires len { len ≡ region_length (B.sector_bytes board.old) region }
-    requires head { B.tells board.old → HasHead (row (B.words board.old) region) mark }
+    requires head { B.tells board.old → HasHead (halfwords_in (B.words board.old) region) mark }
     requires storage { length into.old ≡ storage_bytes }
     ensures every { IfOk result (λ log. IsLogIn len log × (log.region ≡ region) × (log.mark ≡ mark)) }
     ensures log { IfOk result (λ log. B.tells board.new → (entries : List Entry)
-        × Splits (row (B.words board.old) region) mark entries (drop log.end (row (B.words board.old) region))
+        × Splits (halfwords_in (B.words board.old) region) mark entries (drop log.end (halfwords_in (B.words board.old) region))
         × IsLogOf log region mark entries × (into.new ≡ applied into.old entries)) }
-    ensures word { IfErr result (λ e. OnWord e (λ place word. B.tells board.new → FirstBad (row (B.words board.old) region) place word)) }
-    ensures read { OnErr result (B.tells board.new → IsReadSoFar (row (B.words board.old) region) into.old into.new) }
+    ensures word { IfErr result (λ e. OnWord e (λ place word. B.tells board.new → FirstBad (halfwords_in (B.words board.old) region) place word)) }
+    ensures read { OnErr result (B.tells board.new → IsReadSoFar (halfwords_in (B.words board.old) region) into.old into.new) }
     ensures size { length into.new ≡ storage_bytes }
     ensures fault { IfErr result (λ e. OnFault e (λ kind. (kind ≡ Read) × Rose (B.faults board.old Read) (B.faults board.new Read))) }
     ensures reads { OnlyReads B.Board board.old board.new }
@@ -302,10 +302,10 @@ pub fn scan<B: Board>(board: &mut B, region: Region, into: &mut [u8]) -> Result<
     ensures size { length into.new ≡ storage_bytes }
 
     // where the words are told: the sector is of the grammar, or fails first at this place
-    ensures log { IfOk result (λ log. B.tells board.new → (entries : List Entry) × IsSector (row (B.words board.old) region) log.mark entries
+    ensures log { IfOk result (λ log. B.tells board.new → (entries : List Entry) × IsSector (halfwords_in (B.words board.old) region) log.mark entries
         × IsLogOf log region log.mark entries × (into.new ≡ applied into.old entries)) }
-    ensures word { IfErr result (λ e. OnWord e (λ place word. B.tells board.new → FirstBad (row (B.words board.old) region) place word)) }
-    ensures read { OnErr result (B.tells board.new → IsReadSoFar (row (B.words board.old) region) into.old into.new) }
+    ensures word { IfErr result (λ e. OnWord e (λ place word. B.tells board.new → FirstBad (halfwords_in (B.words board.old) region) place word)) }
+    ensures read { OnErr result (B.tells board.new → IsReadSoFar (halfwords_in (B.words board.old) region) into.old into.new) }
     ensures fault { IfErr result (λ e. OnFault e (λ kind. (kind ≡ Read) × Rose (B.faults board.old Read) (B.faults board.new Read))) }
     ensures reads { OnlyReads B.Board board.old board.new }
 {

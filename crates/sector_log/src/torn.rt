@@ -2,7 +2,7 @@
 ghost use Rattle.std.specs.Prelude.{◌≡◌, ◌+◌, ◌*◌, ◌/◌, ◌<◌, ◌≤◌, ◌==◌, List, [], ◌∷◌, ◌++◌, ℕ, length, slice_index, bit_and, IfOk, IfErr, IfSome, IsSome};
 ghost use Rattle.flash_board.specs.declared.board.Fault.TheVariants.{Read};
 ghost use Rattle.flash_board.specs.declared.board.Mark.{Mark};
-ghost use Rattle.flash_board.specs.Words.{row, region_length, IsSectorSize};
+ghost use Rattle.flash_board.specs.Words.{halfwords_in, region_length, IsSectorSize};
 ghost use Rattle.flash_board.specs.Causes.{Rose};
 ghost use Rattle.sector_log.specs.Entries.{Entry};
 ghost use Rattle.sector_log.specs.Bytes.{halfwords_of, programmable};
@@ -17,7 +17,7 @@ use flash_board::{Board, Fault, Region};
 fn word_fits<B: Board>(board: &mut B, region: Region, at: u32, new: u16) -> Result<bool, Fault>
     requires attached { IsSectorSize (B.sector_bytes board.old) }
     requires inside { at < region_length (B.sector_bytes board.old) region }
-    ensures fits { IfOk result (λ fits. B.tells board.new → fits ≡ (bit_and (slice_index (row (B.words board.old) region) at) new == new)) }
+    ensures fits { IfOk result (λ fits. B.tells board.new → fits ≡ (bit_and (slice_index (halfwords_in (B.words board.old) region) at) new == new)) }
     ensures fault { IfErr result (λ kind. (kind ≡ Read) × Rose (B.faults board.old Read) (B.faults board.new Read)) }
     ensures reads { OnlyReads B.Board board.old board.new }
 {

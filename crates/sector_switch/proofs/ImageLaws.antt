@@ -3,7 +3,7 @@ use Rattle.std.proofs.Common.{◌≡◌, ◌⊎◌, inl, inr, ℕ, ◌%◌, ◌�
 use Rattle.std.specs.Prelude.{All, IsTrue}
 use Rattle.std.proofs.lemmas.List.Elements.{All-append}
 use Rattle.std.proofs.lemmas.Bool.{cases_eq}
-use Rattle.flash_board.specs.Words.{Words, row, HasShape, IsSectorSize, IsSectorRegion}
+use Rattle.flash_board.specs.Words.{Words, halfwords_in, HasShape, IsSectorSize, IsSectorRegion}
 use Rattle.flash_board.specs.declared.board.Region.{Region}
 use Rattle.flash_board.specs.declared.board.Region.TheVariants.{S0, S1, Guard}
 use Rattle.flash_board.specs.declared.board.Mark.{Mark}
@@ -67,8 +67,8 @@ one_other_head r s home other m p q x y = elim x [
 
 one_both : (w : Words) (count : ℕ) (p q : Place) → BadBoth w count p → BadBoth w count q → p ≡ q
 one_both w count p q x y =
-    let home = row w (first_of count) in
-    let other = row w (second_of count) in
+    let home = halfwords_in w (first_of count) in
+    let other = halfwords_in w (second_of count) in
     elim x [
       | inl a ↦ elim y [
         | inl b ↦ at_once (first_of count) (BadHead home_mark home) (sector_parts.one_bad_head home_mark home) p q a b
@@ -83,7 +83,7 @@ one_both w count p q x y =
 
 one_one : (w : Words) (count : ℕ) (p q : Place) → BadOne w count p → BadOne w count q → p ≡ q
 one_one w count p q x y =
-    let only = row w (first_of count) in
+    let only = halfwords_in w (first_of count) in
     elim x [
       | inl a ↦ elim y [
         | inl b ↦ at_once (first_of count) (BadHead only_in_use only) (sector_parts.one_bad_head only_in_use only) p q a b
@@ -122,8 +122,8 @@ one_place w p q x y = elim x [
 -- an image with both sectors read has no failing place there
 good_both : (w : Words) (count : ℕ) (m n : Mark) (es fs : List Entry) (p : Place) → IsBoth w count m n es fs → BadBoth w count p → ⊥
 good_both w count m n es fs p good bad =
-    let home = row w (first_of count) in
-    let other = row w (second_of count) in
+    let home = halfwords_in w (first_of count) in
+    let other = halfwords_in w (second_of count) in
     let home_head : HasHead home m = sector_parts.has_head home m es good.first in
     let other_head : HasHead other n = sector_parts.has_head other n fs good.second in
     elim bad [
@@ -146,7 +146,7 @@ good_both w count m n es fs p good bad =
 
 good_one : (w : Words) (count : ℕ) (es : List Entry) (p : Place) → IsOne w count es → BadOne w count p → ⊥
 good_one w count es p good bad =
-    let only = row w (first_of count) in
+    let only = halfwords_in w (first_of count) in
     elim bad [
       | inl a ↦ sector_parts.no_bad_head only_in_use only InUse p.at p.word refl (sector_parts.has_head only InUse es good.first) a.1
       | inr a ↦ sector_parts.no_bad_log only InUse es p.at p.word good.first a.1.1
@@ -175,14 +175,14 @@ same_both c d m n k l es fs gs hs a b e f g = cc
 pub one_reading : (w : Words) (a b : Reading) → Reads w a → Reads w b → a ≡ b
 one_reading w (Both c m n es fs) (Both d k l gs hs) p q =
     let count : c ≡ d = guard_law.one_count w.guard c d p.guard q.guard in
-    let first = sector_reading.sector (row w (first_of c)) m k es gs p.first (subst (λ (i : ℕ). IsSector (row w (first_of i)) k gs) (sym count) q.first) in
-    let second = sector_reading.sector (row w (second_of c)) n l fs hs p.second (subst (λ (i : ℕ). IsSector (row w (second_of i)) l hs) (sym count) q.second) in
+    let first = sector_reading.sector (halfwords_in w (first_of c)) m k es gs p.first (subst (λ (i : ℕ). IsSector (halfwords_in w (first_of i)) k gs) (sym count) q.first) in
+    let second = sector_reading.sector (halfwords_in w (second_of c)) n l fs hs p.second (subst (λ (i : ℕ). IsSector (halfwords_in w (second_of i)) l hs) (sym count) q.second) in
     same_both c d m n k l es fs gs hs count first.0 second.0 first.1 second.1
 one_reading w (Both c m n es fs) (One d gs) p q = absurd (omega (arith, guard_law.one_count w.guard c d p.guard q.guard, p.even, q.odd))
 one_reading w (One c es) (Both d k l gs hs) p q = absurd (omega (arith, guard_law.one_count w.guard c d p.guard q.guard, p.odd, q.even))
 one_reading w (One c es) (One d gs) p q =
     let count : c ≡ d = guard_law.one_count w.guard c d p.guard q.guard in
-    let first : es ≡ gs = (sector_reading.sector (row w (first_of c)) InUse InUse es gs p.first (subst (λ (i : ℕ). IsSector (row w (first_of i)) InUse gs) (sym count) q.first)).1 in
+    let first : es ≡ gs = (sector_reading.sector (halfwords_in w (first_of c)) InUse InUse es gs p.first (subst (λ (i : ℕ). IsSector (halfwords_in w (first_of i)) InUse gs) (sym count) q.first)).1 in
     cc
 
 pub one_value : (w : Words) (a b : List ℕ) → Stands w a → Stands w b → a ≡ b
@@ -205,12 +205,12 @@ stands_of w reading p =
 abbrev Decided : Words → Type 0
 Decided w = ((reading : Reading) × Reads w reading) ⊎ ((p : Place) × FirstBad w p)
 
-decide_both : (w : Words) (count : ℕ) → IsGuardRow w.guard count → count % 2 ≡ 0 → 2 ≤ length (row w (first_of count)) → 2 ≤ length (row w (second_of count)) → Decided w
+decide_both : (w : Words) (count : ℕ) → IsGuardRow w.guard count → count % 2 ≡ 0 → 2 ≤ length (halfwords_in w (first_of count)) → 2 ≤ length (halfwords_in w (second_of count)) → Decided w
 decide_both w count guard_row even some some' =
     let r = first_of count in
     let s = second_of count in
-    let home = row w r in
-    let other = row w s in
+    let home = halfwords_in w r in
+    let other = halfwords_in w s in
     let fails : (p : Place) → BadBoth w count p → Decided w = λ p bad. inr (p, inr (count, guard_row, inl (even, bad))) in
     elim (sector_parts.head home_mark home some) [
       | inr bad ↦ fails (place_of r bad.0 bad.1) (inl (refl, bad.2))
@@ -237,10 +237,10 @@ only_mark Available h = cc
 only_mark InUse h = refl
 only_mark Full h = cc
 
-decide_one : (w : Words) (count : ℕ) → IsGuardRow w.guard count → count % 2 ≡ 1 → 2 ≤ length (row w (first_of count)) → Decided w
+decide_one : (w : Words) (count : ℕ) → IsGuardRow w.guard count → count % 2 ≡ 1 → 2 ≤ length (halfwords_in w (first_of count)) → Decided w
 decide_one w count guard_row odd some =
     let r = first_of count in
-    let only = row w r in
+    let only = halfwords_in w r in
     let fails : (p : Place) → BadOne w count p → Decided w = λ p bad. inr (p, inr (count, guard_row, inr (odd, bad))) in
     elim (sector_parts.head only_in_use only some) [
       | inr bad ↦ fails (place_of r bad.0 bad.1) (inl (refl, bad.2))
@@ -252,7 +252,7 @@ decide_one w count guard_row odd some =
           ]
     ]
 
-sector_least : (w : Words) (n : ℕ) → IsSectorSize n → HasShape n w → (r : Region) → IsSectorRegion r → 2 ≤ length (row w r)
+sector_least : (w : Words) (n : ℕ) → IsSectorSize n → HasShape n w → (r : Region) → IsSectorRegion r → 2 ≤ length (halfwords_in w r)
 sector_least w n size shape S0 is = omega (arith, shape S0, big n size)
 sector_least w n size shape S1 is = omega (arith, shape S1, big n size)
 sector_least w n size shape Guard is = absurd is

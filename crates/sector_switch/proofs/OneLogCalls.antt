@@ -2,7 +2,7 @@
 use Rattle.std.proofs.Common.{◌≡◌, ◌⊎◌, inl, inr, ⊎_elim, ℕ, ◌+◌, ◌*◌, ◌/◌, ◌%◌, ◌<◌, ◌≤◌, Some, List, length, get_or, replicate, refl, sym, ◌∙◌, ap, subst, arith}
 use Rattle.std.specs.Prelude.{All}
 use Rattle.std.proofs.lemmas.List.Elements.{All-replicate}
-use Rattle.flash_board.specs.Words.{Words, row, with_row, programmed, HasShape, IsSectorSize, ProgramMayLeave, Programs, EraseMayLeave, Erases}
+use Rattle.flash_board.specs.Words.{Words, halfwords_in, with_halfwords, programmed, HasShape, IsSectorSize, ProgramMayLeave, Programs, EraseMayLeave, Erases}
 use Rattle.flash_board.specs.Pairs.{ProgramsPair, PairMayLeave}
 use Rattle.flash_board.specs.declared.board.Region.{Region}
 use Rattle.flash_board.specs.declared.board.Region.TheVariants.{Guard}
@@ -27,10 +27,10 @@ use Rattle.sector_switch.proofs.SpilledLemmas.{stands_now}
 use Rattle.sector_switch.proofs.SpilledCalls.{rules_of, told_of}
 use Rattle.sector_switch.proofs.OneLogLemmas.{stands_alone, stands_marked, stands_void, marks, opens, opened_rules, voids, void_with, OnlyIn, only_in, only_guard, pair_only, made, alone_again, home_rules, words_then, may_then, puts_then}
 
-guard_same : (w v : Words) (r : Region) (xs : List ℕ) (count : ℕ) → v ≡ with_row w r xs → r ≡ first_of count ⊎ r ≡ second_of count → v.guard ≡ w.guard
+guard_same : (w v : Words) (r : Region) (xs : List ℕ) (count : ℕ) → v ≡ with_halfwords w r xs → r ≡ first_of count ⊎ r ≡ second_of count → v.guard ≡ w.guard
 guard_same w v r xs count is which = elim which [
-  | inl a ↦ ap (λ (u : Words). u.guard) (is ∙ ap (λ (q : Region). with_row w q xs) a) ∙ guard_kept w (first_of count) xs (first_sector count)
-  | inr b ↦ ap (λ (u : Words). u.guard) (is ∙ ap (λ (q : Region). with_row w q xs) b) ∙ guard_kept w (second_of count) xs (second_sector count)
+  | inl a ↦ ap (λ (u : Words). u.guard) (is ∙ ap (λ (q : Region). with_halfwords w q xs) a) ∙ guard_kept w (first_of count) xs (first_sector count)
+  | inr b ↦ ap (λ (u : Words). u.guard) (is ∙ ap (λ (q : Region). with_halfwords w q xs) b) ∙ guard_kept w (second_of count) xs (second_sector count)
 ]
 
 -- a call that leaves the words, or makes others of them
@@ -158,7 +158,7 @@ module _ {B : Type 0} (g : Ghosts B) (reads : (b : B) (o : Outcome) → g.now b 
         (stands_void kept images v (void_with kept images (g.words a) v (fits.1 t) guard (may.others (first_of kept.guard) (not_same kept.guard)))) (raises_none 0 (g.words a).guard v.guard guard)
 
     erased_words : g.tells a → (v : Words) → Erases (second_of kept.guard) (g.words a) v → OnlyIn (second_of kept.guard) (g.words a) v
-    erased_words t v did = record { halfwords = replicate (length (row (g.words a) (second_of kept.guard))) 65535; whole = did }
+    erased_words t v did = record { halfwords = replicate (length (halfwords_in (g.words a) (second_of kept.guard))) 65535; whole = did }
 
     does_erase : g.tells a → (v : Words) → Erases (second_of kept.guard) (g.words a) v → KeepsBytes 0 (g.words a) v
     does_erase t v did =
@@ -178,8 +178,8 @@ module _ {B : Type 0} (g : Ghosts B) (reads : (b : B) (o : Outcome) → g.now b 
         subst (λ (n : ℕ). OneLogRules shape.Voided n kept images) (sym changes.geometry) fits.0,
         λ t. only_in kept images (g.words a) (g.words b) (fits.1 (changes.told t)) (erased_words (changes.told t) (g.words b) (changes.content t)),
       ),
-      λ t. let n = length (row (g.words a) (second_of kept.guard)) in
-          subst (λ (l : List ℕ). IsErased l) (sym (ap (λ (u : Words). row u (second_of kept.guard)) (changes.content t) ∙ row-with_row (g.words a) (second_of kept.guard) (replicate n 65535)))
+      λ t. let n = length (halfwords_in (g.words a) (second_of kept.guard)) in
+          subst (λ (l : List ℕ). IsErased l) (sym (ap (λ (u : Words). halfwords_in u (second_of kept.guard)) (changes.content t) ∙ row-with_row (g.words a) (second_of kept.guard) (replicate n 65535)))
           (All-replicate (λ (word : ℕ). word ≡ 65535) n 65535 refl),
     )
 
@@ -191,7 +191,7 @@ module _ {B : Type 0} (g : Ghosts B) (reads : (b : B) (o : Outcome) → g.now b 
     pub odd_below : kept.guard < 8192
     odd_below = let odd = fits.0.0.home.parity in let most = fits.0.0.home.count in omega arith
 
-    long : g.tells a → 2 ≤ length (row (g.words a) r)
+    long : g.tells a → 2 ≤ length (halfwords_in (g.words a) r)
     long t = omega (arith, half_of (g.sector_bytes a) fits.0.0.home.attached, shape_of a t fits.0.0.home.attached r, length_second (g.sector_bytes a) kept.guard, big (g.sector_bytes a) fits.0.0.home.attached)
 
     was : g.tells a → Stands (g.words a) images.whole

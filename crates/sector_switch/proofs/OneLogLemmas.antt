@@ -3,7 +3,7 @@ use Rattle.std.proofs.Common.{◌≡◌, inl, inr, ℕ, ◌+◌, ◌*◌, ◌/�
 use Rattle.std.specs.Prelude.{All, bit_and, slice_set, slice_index}
 use Rattle.std.proofs.lemmas.List.{append-nil, length-set}
 use Rattle.std.proofs.lemmas.List.Elements.{All-nil}
-use Rattle.flash_board.specs.Words.{Words, row, with_row, programmed, HasShape, IsSectorSize}
+use Rattle.flash_board.specs.Words.{Words, halfwords_in, with_halfwords, programmed, HasShape, IsSectorSize}
 use Rattle.flash_board.specs.Pairs.{ProgramsPair, PairMayLeave}
 use Rattle.flash_board.specs.declared.board.Region.{Region}
 use Rattle.flash_board.specs.declared.board.Region.TheVariants.{Guard}
@@ -49,7 +49,7 @@ stands_void kept images w told = (One kept.guard told.entries, told.reads, told.
 pub marks : (kept : Kept) (images : Bytes) (w : Words) → OneLogWords shape.Alone kept images w → OneLogWords shape.Marked (marked_from kept) images (programmed w (first_of kept.guard) 0 23548)
 marks kept images w told =
     let r = first_of kept.guard in
-    let xs = slice_set (row w r) 0 (bit_and (slice_index (row w r) 0) 23548) in
+    let xs = slice_set (halfwords_in w r) 0 (bit_and (slice_index (halfwords_in w r) 0) 23548) in
     record {
       entries = told.entries;
       reads = record {
@@ -57,7 +57,7 @@ marks kept images w told =
         even = told.reads.even;
         home_may = refl;
         other_may = refl;
-        first = subst (λ (l : List ℕ). IsSector l Full told.entries) (sym (row-with_row w r xs)) (mark_step (row w r) InUse Full told.entries refl (λ is. cc) told.reads.first);
+        first = subst (λ (l : List ℕ). IsSector l Full told.entries) (sym (row-with_row w r xs)) (mark_step (halfwords_in w r) InUse Full told.entries refl (λ is. cc) told.reads.first);
         second = subst (λ (l : List ℕ). IsSector l Available []) (sym (second_kept w kept.guard xs)) told.reads.second;
         room = refl;
       };
@@ -71,18 +71,18 @@ pub opens : (size : ℕ) (kept : Kept) (images : Bytes) (zeros : List ℕ) (w : 
     → TwoLogWords (spilled_from kept) (new_log (second_of kept.guard)) (both_bytes images.whole zeros) (programmed w (second_of kept.guard) 0 23550)
 opens size kept images zeros w attached shaped long all told =
     let r = second_of kept.guard in
-    let xs = slice_set (row w r) 0 (bit_and (slice_index (row w r) 0) 23550) in
+    let xs = slice_set (halfwords_in w r) 0 (bit_and (slice_index (halfwords_in w r) 0) 23550) in
     let value : IsValue (told.entries ++ []) images.whole = subst (λ (es : List Entry). IsValue es images.whole) (sym (append-nil told.entries)) told.whole in
     let above : IsValue [] zeros = value_applied [] zeros (All-nil IsEntry) long all in
-    let same : length (row (with_row w r xs) r) ≡ length (row w r) = ap length (row-with_row w r xs) ∙ length-set (row w r) 0 (bit_and (slice_index (row w r) 0) 23550) in
+    let same : length (halfwords_in (with_halfwords w r xs) r) ≡ length (halfwords_in w r) = ap length (row-with_row w r xs) ∙ length-set (halfwords_in w r) 0 (bit_and (slice_index (halfwords_in w r) 0) 23550) in
     record {
       home = told.entries;
       other = [];
-      reads = reads_spilled (with_row w r xs) kept.guard told.entries [] images.whole zeros
+      reads = reads_spilled (with_halfwords w r xs) kept.guard told.entries [] images.whole zeros
           (subst (λ (l : List ℕ). IsGuardRow l kept.guard) (sym (guard_kept w r xs (second_sector kept.guard))) told.reads.guard)
           told.reads.even
           (subst (λ (l : List ℕ). IsSector l Full told.entries) (sym (first_kept w kept.guard xs)) told.reads.first)
-          (subst (λ (l : List ℕ). IsSector l InUse []) (sym (row-with_row w r xs)) (mark_step (row w r) Available InUse [] refl (λ is. cc) told.reads.second))
+          (subst (λ (l : List ℕ). IsSector l InUse []) (sym (row-with_row w r xs)) (mark_step (halfwords_in w r) Available InUse [] refl (λ is. cc) told.reads.second))
           value above
           (omega (arith, left_most 240 images.whole zeros None, same, shaped r, length_second size kept.guard, half_of size attached, big size attached));
       home_log = told.log;
@@ -121,7 +121,7 @@ voids kept log images w lt same told =
     let xs = slice_set w.guard kept.guard (bit_and (slice_index w.guard kept.guard) 0) in
     let even = told.reads.even in
     let next = next_first kept.guard even in
-    let stays : row (with_row w Guard xs) (first_of (kept.guard + 1)) ≡ row w (second_of kept.guard) = ap (λ (q : Region). row (with_row w Guard xs) q) next ∙ row_of_guard w (second_of kept.guard) xs (second_sector kept.guard) in
+    let stays : halfwords_in (with_halfwords w Guard xs) (first_of (kept.guard + 1)) ≡ halfwords_in w (second_of kept.guard) = ap (λ (q : Region). halfwords_in (with_halfwords w Guard xs) q) next ∙ row_of_guard w (second_of kept.guard) xs (second_sector kept.guard) in
     record {
       entries = told.other;
       reads = record {
@@ -135,7 +135,7 @@ voids kept log images w lt same told =
     }
 
 -- the void sector doesn't matter
-pub void_with : (kept : Kept) (images : Bytes) (w v : Words) → OneLogWords shape.Voided kept images w → v.guard ≡ w.guard → row v (first_of kept.guard) ≡ row w (first_of kept.guard) → OneLogWords shape.Voided kept images v
+pub void_with : (kept : Kept) (images : Bytes) (w v : Words) → OneLogWords shape.Voided kept images w → v.guard ≡ w.guard → halfwords_in v (first_of kept.guard) ≡ halfwords_in w (first_of kept.guard) → OneLogWords shape.Voided kept images v
 void_with kept images w v told guard first = record {
   entries = told.entries;
   reads = record {
@@ -151,45 +151,45 @@ void_with kept images w v told guard first = record {
 -- one region has other halfwords
 pub record OnlyIn (r : Region) (old new : Words) : Type 0 where
   pub halfwords : List ℕ
-  pub whole : new ≡ with_row old r halfwords
+  pub whole : new ≡ with_halfwords old r halfwords
 
 pub only_guard : (kept : Kept) (w v : Words) → OnlyIn (second_of kept.guard) w v → v.guard ≡ w.guard
 only_guard kept w v only = ap (λ (u : Words). u.guard) only.whole ∙ guard_kept w (second_of kept.guard) only.halfwords (second_sector kept.guard)
 
 pub only_in : (kept : Kept) (images : Bytes) (w v : Words) → OneLogWords shape.Voided kept images w → OnlyIn (second_of kept.guard) w v → OneLogWords shape.Voided kept images v
 only_in kept images w v told only = void_with kept images w v told (only_guard kept w v only)
-    (ap (λ (u : Words). row u (first_of kept.guard)) only.whole ∙ first_kept w kept.guard only.halfwords)
+    (ap (λ (u : Words). halfwords_in u (first_of kept.guard)) only.whole ∙ first_kept w kept.guard only.halfwords)
 
 pub pair_only : (r : Region) (at a b : ℕ) (w v : Words) → PairMayLeave r at a b w v → OnlyIn r w v
 pair_only r at a b w v may = elim may [
-  | inl same ↦ record { halfwords = row w r; whole = same ∙ sym (with_row-row w r) }
+  | inl same ↦ record { halfwords = halfwords_in w r; whole = same ∙ sym (with_row-row w r) }
   | inr more ↦ elim more [
-    | inl one ↦ record { halfwords = slice_set (row w r) at (bit_and (slice_index (row w r) at) a); whole = one }
+    | inl one ↦ record { halfwords = slice_set (halfwords_in w r) at (bit_and (slice_index (halfwords_in w r) at) a); whole = one }
     | inr both ↦
-        let xs = slice_set (row w r) at (bit_and (slice_index (row w r) at) a) in
+        let xs = slice_set (halfwords_in w r) at (bit_and (slice_index (halfwords_in w r) at) a) in
         let first = programmed w r at a in
-        record { halfwords = slice_set (row first r) (at + 1) (bit_and (slice_index (row first r) (at + 1)) b); whole = both ∙ with_row-with_row w r xs _ }
+        record { halfwords = slice_set (halfwords_in first r) (at + 1) (bit_and (slice_index (halfwords_in first r) (at + 1)) b); whole = both ∙ with_row-with_row w r xs _ }
   ]
 ]
 
 -- an erased sector with the header of an available one
-pub made : (r : Region) (w v : Words) → All (λ word. word ≡ 65535) (row w r) → 2 ≤ length (row w r) → ProgramsPair r 0 23551 20840 w v → IsSector (row v r) Available []
+pub made : (r : Region) (w v : Words) → All (λ word. word ≡ 65535) (halfwords_in w r) → 2 ≤ length (halfwords_in w r) → ProgramsPair r 0 23551 20840 w v → IsSector (halfwords_in v r) Available []
 made r w v erased long is =
-    let xs = slice_set (row w r) 0 (bit_and (slice_index (row w r) 0) 23551) in
-    let first : row (programmed w r 0 23551) r ≡ xs = row-with_row w r xs in
-    let whole_row : row v r ≡ slice_set xs 1 (bit_and (slice_index xs 1) 20840) =
-    ap (λ (u : Words). row u r) is ∙ row-with_row (programmed w r 0 23551) r _ ∙ ap (λ (l : List ℕ). slice_set l 1 (bit_and (slice_index l 1) 20840)) first in
-    subst (λ (l : List ℕ). IsSector l Available []) (sym whole_row) (header_made (row w r) erased long)
+    let xs = slice_set (halfwords_in w r) 0 (bit_and (slice_index (halfwords_in w r) 0) 23551) in
+    let first : halfwords_in (programmed w r 0 23551) r ≡ xs = row-with_row w r xs in
+    let whole_row : halfwords_in v r ≡ slice_set xs 1 (bit_and (slice_index xs 1) 20840) =
+    ap (λ (u : Words). halfwords_in u r) is ∙ row-with_row (programmed w r 0 23551) r _ ∙ ap (λ (l : List ℕ). slice_set l 1 (bit_and (slice_index l 1) 20840)) first in
+    subst (λ (l : List ℕ). IsSector l Available []) (sym whole_row) (header_made (halfwords_in w r) erased long)
 
 -- the other sector is home again, beside the available one
-pub alone_again : (kept : Kept) (images : Bytes) (m : Words) → OneLogWords shape.Voided kept images m → IsSector (row m (second_of kept.guard)) Available [] → kept.guard < length m.guard
+pub alone_again : (kept : Kept) (images : Bytes) (m : Words) → OneLogWords shape.Voided kept images m → IsSector (halfwords_in m (second_of kept.guard)) Available [] → kept.guard < length m.guard
     → OneLogWords shape.Alone (alone_from kept) images (programmed m Guard kept.guard 0)
 alone_again kept images m told available lt =
     let xs = slice_set m.guard kept.guard (bit_and (slice_index m.guard kept.guard) 0) in
     let odd = told.reads.odd in
     let next = next_home kept.guard odd in
-    let home_row : row (with_row m Guard xs) (first_of (kept.guard + 1)) ≡ row m (first_of kept.guard) = ap (λ (q : Region). row (with_row m Guard xs) q) next.0 ∙ row_of_guard m (first_of kept.guard) xs (first_sector kept.guard) in
-    let beside_row : row (with_row m Guard xs) (second_of (kept.guard + 1)) ≡ row m (second_of kept.guard) = ap (λ (q : Region). row (with_row m Guard xs) q) next.1 ∙ row_of_guard m (second_of kept.guard) xs (second_sector kept.guard) in
+    let home_row : halfwords_in (with_halfwords m Guard xs) (first_of (kept.guard + 1)) ≡ halfwords_in m (first_of kept.guard) = ap (λ (q : Region). halfwords_in (with_halfwords m Guard xs) q) next.0 ∙ row_of_guard m (first_of kept.guard) xs (first_sector kept.guard) in
+    let beside_row : halfwords_in (with_halfwords m Guard xs) (second_of (kept.guard + 1)) ≡ halfwords_in m (second_of kept.guard) = ap (λ (q : Region). halfwords_in (with_halfwords m Guard xs) q) next.1 ∙ row_of_guard m (second_of kept.guard) xs (second_sector kept.guard) in
     record {
       entries = told.entries;
       reads = record {
@@ -239,10 +239,10 @@ module _ (size : ℕ) (kept : Kept) (images : Bytes) (rules : OneLogRules shape.
       }
 
   module _ (w : Words) (told : OneLogWords shape.Alone kept images w) where
-    home_here : IsSector (row w kept.home.region) InUse told.entries
-    home_here = subst (λ (q : Region). IsSector (row w q) InUse told.entries) (sym rules.home.region) told.reads.first
+    home_here : IsSector (halfwords_in w kept.home.region) InUse told.entries
+    home_here = subst (λ (q : Region). IsSector (halfwords_in w q) InUse told.entries) (sym rules.home.region) told.reads.first
 
-    reads_with : (hw : List ℕ) (es : List Entry) → IsSector hw InUse es → IsBoth (with_row w r hw) kept.guard InUse Available es []
+    reads_with : (hw : List ℕ) (es : List Entry) → IsSector hw InUse es → IsBoth (with_halfwords w r hw) kept.guard InUse Available es []
     reads_with hw es sector = record {
       guard = subst (λ (l : List ℕ). IsGuardRow l kept.guard) (sym (guard_kept w r hw (first_sector kept.guard))) told.reads.guard;
       even = told.reads.even;
@@ -263,14 +263,14 @@ module _ (size : ℕ) (kept : Kept) (images : Bytes) (rules : OneLogRules shape.
           subst (λ (l : List ℕ). IsValue (told.entries ++ e ∷ []) l) (ap (λ (b : List ℕ). put (8 * first) b images.upper) same) values.1,
         )
 
-    row_here : (v : Words) (hw : List ℕ) → v ≡ with_row w kept.home.region hw → v ≡ with_row w r hw
-    row_here v hw is = is ∙ ap (λ (q : Region). with_row w q hw) rules.home.region
+    row_here : (v : Words) (hw : List ℕ) → v ≡ with_halfwords w kept.home.region hw → v ≡ with_halfwords w r hw
+    row_here v hw is = is ∙ ap (λ (q : Region). with_halfwords w q hw) rules.home.region
 
-    kept_guard : (v : Words) (hw : List ℕ) → v ≡ with_row w r hw → v.guard ≡ w.guard
+    kept_guard : (v : Words) (hw : List ℕ) → v ≡ with_halfwords w r hw → v.guard ≡ w.guard
     kept_guard v hw is = ap (λ (u : Words). u.guard) is ∙ guard_kept w r hw (first_sector kept.guard)
 
-    stands_with : (v : Words) (hw : List ℕ) (es : List Entry) (value : List ℕ) → v ≡ with_row w r hw → IsSector hw InUse es → IsValue es value → Stands v value
-    stands_with v hw es value is sector value_is = subst (λ (u : Words). Stands u value) (sym is) (stands_both InUse Available kept es value (with_row w r hw) (reads_with hw es sector) value_is)
+    stands_with : (v : Words) (hw : List ℕ) (es : List Entry) (value : List ℕ) → v ≡ with_halfwords w r hw → IsSector hw InUse es → IsValue es value → Stands v value
+    stands_with v hw es value is sector value_is = subst (λ (u : Words). Stands u value) (sym is) (stands_both InUse Available kept es value (with_halfwords w r hw) (reads_with hw es sector) value_is)
 
     pub words_then : (v : Words) → Appends kept.home first bytes w v → OneLogWords shape.Alone (with_home kept (appended kept.home many)) images_then v
     words_then v did =

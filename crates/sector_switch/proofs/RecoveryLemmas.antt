@@ -16,7 +16,7 @@ use Rattle.sector_switch.specs.Images.{Bytes}
 use Rattle.sector_switch.specs.Stands.{Reading, Both, One, Reads, count_in, count_after, is_alone, is_due}
 use Rattle.sector_switch.specs.Losses.{KeepsBytes}
 use Rattle.sector_switch.specs.Fits.{FitsShape, guard_after, is_full}
-use Rattle.sector_switch.specs.Answers.{OnWorn}
+use Rattle.sector_switch.specs.Refusals.{OnWorn}
 use Rattle.sector_switch.proofs.ImageLaws.{one_reading}
 use Rattle.sector_switch.proofs.Standing.{keeps_all}
 

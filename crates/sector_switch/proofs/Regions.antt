@@ -2,7 +2,7 @@
 use Rattle.std.proofs.Common.{◌≡◌, ◌≤◌, ◌⊎◌, inl, inr, ℕ, ◌+◌, ◌*◌, ◌/◌, ◌%◌, Bool, List, length, refl, sym, ◌∙◌, ap, subst, arith}
 use Rattle.std.specs.Prelude.{if◌then◌else◌, ◌==◌, ◌||◌}
 use Rattle.std.proofs.lemmas.Bool.{cases_Bool}
-use Rattle.flash_board.specs.Words.{Words, row, with_row, IsSectorRegion, IsSectorSize, region_length}
+use Rattle.flash_board.specs.Words.{Words, halfwords_in, with_halfwords, IsSectorRegion, IsSectorSize, region_length}
 use Rattle.flash_board.specs.declared.board.Region.{Region}
 use Rattle.flash_board.specs.declared.board.Region.TheVariants.{S0, S1, Guard}
 use Rattle.sector_switch.specs.Stands.{first_of, second_of}
@@ -32,21 +32,21 @@ second_sector count = elim (sides count) [
   | inr is ↦ subst IsSectorRegion (sym is.1) tt
 ]
 
-pub guard_kept : (w : Words) (r : Region) (xs : List ℕ) → IsSectorRegion r → (with_row w r xs).guard ≡ w.guard
+pub guard_kept : (w : Words) (r : Region) (xs : List ℕ) → IsSectorRegion r → (with_halfwords w r xs).guard ≡ w.guard
 guard_kept w S0 xs is = refl
 guard_kept w S1 xs is = refl
 guard_kept w Guard xs is = absurd is
 
-pub first_kept : (w : Words) (count : ℕ) (xs : List ℕ) → row (with_row w (second_of count) xs) (first_of count) ≡ row w (first_of count)
+pub first_kept : (w : Words) (count : ℕ) (xs : List ℕ) → halfwords_in (with_halfwords w (second_of count) xs) (first_of count) ≡ halfwords_in w (first_of count)
 first_kept w count xs = elim (sides count) [
-  | inl is ↦ ap (λ (r : Region). row (with_row w r xs) (first_of count)) is.1 ∙ ap (λ (r : Region). row (with_row w S1 xs) r) is.0 ∙ sym (ap (λ (r : Region). row w r) is.0)
-  | inr is ↦ ap (λ (r : Region). row (with_row w r xs) (first_of count)) is.1 ∙ ap (λ (r : Region). row (with_row w S0 xs) r) is.0 ∙ sym (ap (λ (r : Region). row w r) is.0)
+  | inl is ↦ ap (λ (r : Region). halfwords_in (with_halfwords w r xs) (first_of count)) is.1 ∙ ap (λ (r : Region). halfwords_in (with_halfwords w S1 xs) r) is.0 ∙ sym (ap (λ (r : Region). halfwords_in w r) is.0)
+  | inr is ↦ ap (λ (r : Region). halfwords_in (with_halfwords w r xs) (first_of count)) is.1 ∙ ap (λ (r : Region). halfwords_in (with_halfwords w S0 xs) r) is.0 ∙ sym (ap (λ (r : Region). halfwords_in w r) is.0)
 ]
 
-pub second_kept : (w : Words) (count : ℕ) (xs : List ℕ) → row (with_row w (first_of count) xs) (second_of count) ≡ row w (second_of count)
+pub second_kept : (w : Words) (count : ℕ) (xs : List ℕ) → halfwords_in (with_halfwords w (first_of count) xs) (second_of count) ≡ halfwords_in w (second_of count)
 second_kept w count xs = elim (sides count) [
-  | inl is ↦ ap (λ (r : Region). row (with_row w r xs) (second_of count)) is.0 ∙ ap (λ (r : Region). row (with_row w S0 xs) r) is.1 ∙ sym (ap (λ (r : Region). row w r) is.1)
-  | inr is ↦ ap (λ (r : Region). row (with_row w r xs) (second_of count)) is.0 ∙ ap (λ (r : Region). row (with_row w S1 xs) r) is.1 ∙ sym (ap (λ (r : Region). row w r) is.1)
+  | inl is ↦ ap (λ (r : Region). halfwords_in (with_halfwords w r xs) (second_of count)) is.0 ∙ ap (λ (r : Region). halfwords_in (with_halfwords w S0 xs) r) is.1 ∙ sym (ap (λ (r : Region). halfwords_in w r) is.1)
+  | inr is ↦ ap (λ (r : Region). halfwords_in (with_halfwords w r xs) (second_of count)) is.0 ∙ ap (λ (r : Region). halfwords_in (with_halfwords w S1 xs) r) is.1 ∙ sym (ap (λ (r : Region). halfwords_in w r) is.1)
 ]
 
 -- behind an even count, one more makes the second sector the one that isn't void, and two more make it the home
@@ -112,7 +112,7 @@ length_second size count = elim (sides count) [
 ]
 
 -- each row keeps its length
-pub same_lengths : (w : Words) (r : Region) (xs : List ℕ) → length xs ≡ length (row w r) → (q : Region) → length (row (with_row w r xs) q) ≡ length (row w q)
+pub same_lengths : (w : Words) (r : Region) (xs : List ℕ) → length xs ≡ length (halfwords_in w r) → (q : Region) → length (halfwords_in (with_halfwords w r xs) q) ≡ length (halfwords_in w q)
 same_lengths w S0 xs same S0 = same
 same_lengths w S0 xs same S1 = refl
 same_lengths w S0 xs same Guard = refl
@@ -134,7 +134,7 @@ not_same count same = elim (sides count) [
   | inr is ↦ let wrong : S1 ≡ S0 = sym is.0 ∙ same ∙ is.1 in cc
 ]
 
-pub row_of_guard : (w : Words) (r : Region) (xs : List ℕ) → IsSectorRegion r → row (with_row w Guard xs) r ≡ row w r
+pub row_of_guard : (w : Words) (r : Region) (xs : List ℕ) → IsSectorRegion r → halfwords_in (with_halfwords w Guard xs) r ≡ halfwords_in w r
 row_of_guard w S0 xs is = refl
 row_of_guard w S1 xs is = refl
 row_of_guard w Guard xs is = absurd is

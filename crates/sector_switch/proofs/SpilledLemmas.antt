@@ -4,7 +4,7 @@ use Rattle.std.specs.Prelude.{All}
 use Rattle.std.specs.Option.{option_and_then, is_some}
 use Rattle.std.proofs.lemmas.Bool.{cases_Bool}
 use Rattle.std.proofs.lemmas.List.Elements.{All-append, All-push}
-use Rattle.flash_board.specs.Words.{Words, row, with_row, HasShape}
+use Rattle.flash_board.specs.Words.{Words, halfwords_in, with_halfwords, HasShape}
 use Rattle.flash_board.specs.declared.board.Region.{Region}
 use Rattle.flash_board.specs.declared.board.Mark.TheVariants.{InUse, Full}
 use Rattle.flash_board.proofs.Moments.{row-with_row}
@@ -72,26 +72,26 @@ module _ (size : ℕ) (kept : Kept) (log : Log) (images : Bytes) (rules : TwoLog
   all_chunks : 64 * 240 ≤ length upper
   all_chunks = omega (arith, rules.home.upper_size)
 
-  long : 2 * length (row w r) ≡ size
+  long : 2 * length (halfwords_in w r) ≡ size
   long = omega (arith, shaped r, length_second size kept.guard, half_of size rules.home.attached)
 
   -- the other sector has these entries
-  reads_with : (hw : List ℕ) (es : List Entry) (value above : List ℕ) → length hw ≡ length (row w r) → IsSector hw InUse es → IsValue (told.home ++ es) value → IsValue es above
-      → 66 * left_to_copy value above (finishing value es) + 2 * end_of es ≤ size → IsBoth (with_row w r hw) kept.guard Full InUse told.home es
+  reads_with : (hw : List ℕ) (es : List Entry) (value above : List ℕ) → length hw ≡ length (halfwords_in w r) → IsSector hw InUse es → IsValue (told.home ++ es) value → IsValue es above
+      → 66 * left_to_copy value above (finishing value es) + 2 * end_of es ≤ size → IsBoth (with_halfwords w r hw) kept.guard Full InUse told.home es
   reads_with hw es value above same sector is over room =
-      reads_spilled (with_row w r hw) kept.guard told.home es value above
+      reads_spilled (with_halfwords w r hw) kept.guard told.home es value above
       (subst (λ (l : List ℕ). IsGuardRow l kept.guard) (sym (guard_kept w r hw (second_sector kept.guard))) told.reads.guard)
       told.reads.even
       (subst (λ (l : List ℕ). IsSector l Full told.home) (sym (first_kept w kept.guard hw)) told.reads.first)
       (subst (λ (l : List ℕ). IsSector l InUse es) (sym (row-with_row w r hw)) sector)
       is over (omega (arith, room, ap length (row-with_row w r hw), same, long))
 
-  stands_with : (hw : List ℕ) (es : List Entry) (value above : List ℕ) → length hw ≡ length (row w r) → IsSector hw InUse es → IsValue (told.home ++ es) value → IsValue es above
-      → 66 * left_to_copy value above (finishing value es) + 2 * end_of es ≤ size → Stands (with_row w r hw) value
+  stands_with : (hw : List ℕ) (es : List Entry) (value above : List ℕ) → length hw ≡ length (halfwords_in w r) → IsSector hw InUse es → IsValue (told.home ++ es) value → IsValue es above
+      → 66 * left_to_copy value above (finishing value es) + 2 * end_of es ≤ size → Stands (with_halfwords w r hw) value
   stands_with hw es value above same sector is over room = (Both kept.guard Full InUse told.home es, reads_with hw es value above same sector is over room, is)
 
-  words_with : (hw : List ℕ) (es : List Entry) (value above : List ℕ) (next : Log) → length hw ≡ length (row w r) → IsSector hw InUse es → IsLogOf next r InUse es → IsValue (told.home ++ es) value → IsValue es above
-      → finishing value es ≡ None → 66 * left_to_copy value above None + 2 * end_of es ≤ size → TwoLogWords (with_other kept next) next (both_bytes value above) (with_row w r hw)
+  words_with : (hw : List ℕ) (es : List Entry) (value above : List ℕ) (next : Log) → length hw ≡ length (halfwords_in w r) → IsSector hw InUse es → IsLogOf next r InUse es → IsValue (told.home ++ es) value → IsValue es above
+      → finishing value es ≡ None → 66 * left_to_copy value above None + 2 * end_of es ≤ size → TwoLogWords (with_other kept next) next (both_bytes value above) (with_halfwords w r hw)
   words_with hw es value above next same sector of is over none room = record {
     home = told.home;
     other = es;
@@ -103,10 +103,10 @@ module _ (size : ℕ) (kept : Kept) (log : Log) (images : Bytes) (rules : TwoLog
     completable = sym (ap is_some none);
   }
 
-  kept_guard : (v : Words) (hw : List ℕ) → v ≡ with_row w r hw → v.guard ≡ w.guard
+  kept_guard : (v : Words) (hw : List ℕ) → v ≡ with_halfwords w r hw → v.guard ≡ w.guard
   kept_guard v hw is = ap (λ (u : Words). u.guard) is ∙ guard_kept w r hw (second_sector kept.guard)
 
-  keeps_with : (v : Words) (hw : List ℕ) → v ≡ with_row w r hw → Stands (with_row w r hw) whole → KeepsBytes 0 w v
+  keeps_with : (v : Words) (hw : List ℕ) → v ≡ with_halfwords w r hw → Stands (with_halfwords w r hw) whole → KeepsBytes 0 w v
   keeps_with v hw is stands = keeps 0 w v whole (stands_now kept log images w told) (subst (λ (u : Words). Stands u whole) (sym is) stands) (raises_none 0 w.guard v.guard (kept_guard v hw is))
 
   finishing_now : finishing whole told.other ≡ torn_chunk kept.completable log
@@ -115,14 +115,14 @@ module _ (size : ℕ) (kept : Kept) (log : Log) (images : Bytes) (rules : TwoLog
   room_now : 66 * left_to_copy whole upper (finishing whole told.other) + 2 * end_of told.other ≤ size
   room_now = subst (λ (f : Option ℕ). 66 * left_to_copy whole upper f + 2 * end_of told.other ≤ size) (sym finishing_now) (omega (arith, rules.room, told.other_log.end))
 
-  second_here : IsSector (row w log.region) InUse told.other
-  second_here = subst (λ (q : Region). IsSector (row w q) InUse told.other) (sym rules.region) told.reads.second
+  second_here : IsSector (halfwords_in w log.region) InUse told.other
+  second_here = subst (λ (q : Region). IsSector (halfwords_in w q) InUse told.other) (sym rules.region) told.reads.second
 
-  row_here : (v : Words) (hw : List ℕ) → v ≡ with_row w log.region hw → v ≡ with_row w r hw
-  row_here v hw is = is ∙ ap (λ (q : Region). with_row w q hw) rules.region
+  row_here : (v : Words) (hw : List ℕ) → v ≡ with_halfwords w log.region hw → v ≡ with_halfwords w r hw
+  row_here v hw is = is ∙ ap (λ (q : Region). with_halfwords w q hw) rules.region
 
-  size_here : (hw : List ℕ) → length hw ≡ length (row w log.region) → length hw ≡ length (row w r)
-  size_here hw same = same ∙ ap (λ (q : Region). length (row w q)) rules.region
+  size_here : (hw : List ℕ) → length hw ≡ length (halfwords_in w log.region) → length hw ≡ length (halfwords_in w r)
+  size_here hw same = same ∙ ap (λ (q : Region). length (halfwords_in w q)) rules.region
 
   -- a chunk is copied
   module _ (c : ℕ) (lt : c < 240) (left : is_left whole upper None c ≡ true) (plain : kept.completable ≡ false) (small : (k : ℕ) → get_or whole k 0 < 256) where
@@ -141,7 +141,7 @@ module _ (size : ℕ) (kept : Kept) (log : Log) (images : Bytes) (rules : TwoLog
     room : 66 * left_to_copy whole upper None + 2 * end_of told.other ≤ size
     room = subst (λ (f : Option ℕ). 66 * left_to_copy whole upper f + 2 * end_of told.other ≤ size) (finishing_now ∙ ap (λ (b : Bool). torn_chunk b log) plain) room_now
 
-    torn_entry : (hw old : List ℕ) → length hw ≡ length (row w r) → programmable old content ≡ true → IsSector hw InUse (told.other ++ entry_of 1 (8 * c) 8 old ∷ []) → Stands (with_row w r hw) whole
+    torn_entry : (hw old : List ℕ) → length hw ≡ length (halfwords_in w r) → programmable old content ≡ true → IsSector hw InUse (told.other ++ entry_of 1 (8 * c) 8 old ∷ []) → Stands (with_halfwords w r hw) whole
     torn_entry hw old same can sector =
         let e = entry_of 1 (8 * c) 8 old in
         let entry = (all_init told.other e sector.each).1 in
@@ -151,8 +151,8 @@ module _ (size : ℕ) (kept : Kept) (log : Log) (images : Bytes) (rules : TwoLog
         stands_with hw (told.other ++ e ∷ []) whole upper same sector values.0 values.1
         (subst (λ (f : Option ℕ). 66 * left_to_copy whole upper f + 2 * end_of (told.other ++ e ∷ []) ≤ size) (sym finish) (omega (arith, falls, room, end_push told.other e, entry.whole)))
 
-    valid_entry : (hw : List ℕ) → length hw ≡ length (row w r) → IsSector hw InUse (told.other ++ entry_of 0 (8 * c) 8 content ∷ [])
-        → TwoLogWords (with_other kept (appended log 8)) (appended log 8) (both_bytes whole upper_then) (with_row w r hw)
+    valid_entry : (hw : List ℕ) → length hw ≡ length (halfwords_in w r) → IsSector hw InUse (told.other ++ entry_of 0 (8 * c) 8 content ∷ [])
+        → TwoLogWords (with_other kept (appended log 8)) (appended log 8) (both_bytes whole upper_then) (with_halfwords w r hw)
     valid_entry hw same sector =
         let e = entry_of 0 (8 * c) 8 content in
         let entry = (all_init told.other e sector.each).1 in
@@ -221,7 +221,7 @@ module _ (size : ℕ) (kept : Kept) (log : Log) (images : Bytes) (rules : TwoLog
         let here : end_of told.other ≡ end_of (last.0 ++ entry_of 1 (8 * c) 8 last.1 ∷ []) = ap end_of last.2 in
         omega (arith, end_push last.0 (entry_of state (8 * c) 8 words), end_push last.0 (entry_of 1 (8 * c) 8 last.1), here, old_entry.whole)
 
-    still_torn : (hw old : List ℕ) → length hw ≡ length (row w r) → programmable old wanted ≡ true → IsSector hw InUse (last.0 ++ entry_of 1 (8 * c) 8 old ∷ []) → Stands (with_row w r hw) whole
+    still_torn : (hw old : List ℕ) → length hw ≡ length (halfwords_in w r) → programmable old wanted ≡ true → IsSector hw InUse (last.0 ++ entry_of 1 (8 * c) 8 old ∷ []) → Stands (with_halfwords w r hw) whole
     still_torn hw old same can sector =
         let e = entry_of 1 (8 * c) 8 old in
         let entry = (all_init last.0 e sector.each).1 in
@@ -229,8 +229,8 @@ module _ (size : ℕ) (kept : Kept) (log : Log) (images : Bytes) (rules : TwoLog
         stands_with hw (last.0 ++ e ∷ []) whole upper same sector values.0 values.1
         (subst (λ (f : Option ℕ). 66 * left_to_copy whole upper f + 2 * end_of (last.0 ++ e ∷ []) ≤ size) (sym (finishing_torn whole last.0 c old can)) (omega (arith, room_last, end_last 1 old entry.whole)))
 
-    completed : (hw : List ℕ) → length hw ≡ length (row w r) → IsSector hw InUse (last.0 ++ entry_of 0 (8 * c) 8 wanted ∷ [])
-        → TwoLogWords (with_other kept (finished log)) (finished log) (both_bytes whole upper_done) (with_row w r hw)
+    completed : (hw : List ℕ) → length hw ≡ length (halfwords_in w r) → IsSector hw InUse (last.0 ++ entry_of 0 (8 * c) 8 wanted ∷ [])
+        → TwoLogWords (with_other kept (finished log)) (finished log) (both_bytes whole upper_done) (with_halfwords w r hw)
     completed hw same sector =
         let e = entry_of 0 (8 * c) 8 wanted in
         let entry = (all_init last.0 e sector.each).1 in
@@ -246,7 +246,7 @@ module _ (size : ℕ) (kept : Kept) (log : Log) (images : Bytes) (rules : TwoLog
     torn_here : IsTornLast log w InUse last.0 (8 * c) 8 last.1
     torn_here = record {
       tells = subst (λ (es : List Entry). IsLogOf log log.region InUse es) last.2 (subst (λ (q : Region). IsLogOf log q InUse told.other) (sym rules.region) told.other_log);
-      sector = subst (λ (es : List Entry). IsSector (row w log.region) InUse es) last.2 second_here;
+      sector = subst (λ (es : List Entry). IsSector (halfwords_in w log.region) InUse es) last.2 second_here;
     }
 
     pub lost_finish : (v : Words) → FinishMayLeave log (chunk_at whole c) w v → KeepsBytes 0 w v
@@ -287,8 +287,8 @@ module _ (size : ℕ) (kept : Kept) (log : Log) (images : Bytes) (rules : TwoLog
     room_before : 66 * left_to_copy whole upper (finishing whole told.other) + 66 + 2 + length bytes + 2 * end_of told.other ≤ size
     room_before = subst (λ (f : Option ℕ). 66 * left_to_copy whole upper f + 66 + 2 + length bytes + 2 * end_of told.other ≤ size) (sym finishing_now) (omega (arith, room, told.other_log.end))
 
-    put_words : (hw : List ℕ) → length hw ≡ length (row w r) → IsSector hw InUse (told.other ++ entry_of 0 first many given ∷ [])
-        → TwoLogWords (with_other kept (appended log many)) (appended log many) (both_bytes value_new upper_new) (with_row w r hw)
+    put_words : (hw : List ℕ) → length hw ≡ length (halfwords_in w r) → IsSector hw InUse (told.other ++ entry_of 0 first many given ∷ [])
+        → TwoLogWords (with_other kept (appended log many)) (appended log many) (both_bytes value_new upper_new) (with_halfwords w r hw)
     put_words hw same sector =
         let e = entry_of 0 first many given in
         let entry = (all_init told.other e sector.each).1 in

@@ -3,7 +3,7 @@ use Rattle.std.proofs.Common.{◌≡◌, ◌≢◌, ◌⊎◌, ℕ, ◌+◌, ◌
 use Rattle.std.specs.Prelude.{All, bit_and, slice_set, slice_index, nat_le}
 use Rattle.std.proofs.lemmas.Bool.{le-leb}
 use Rattle.std.proofs.lemmas.List.Elements.{All-head, All-tail, All-nil}
-use Rattle.flash_board.specs.Words.{Words, row}
+use Rattle.flash_board.specs.Words.{Words, halfwords_in}
 use Rattle.flash_board.specs.declared.board.Mark.{Mark}
 use Rattle.flash_board.specs.declared.board.Mark.TheVariants.{Available, InUse, Full}
 use Rattle.guard_row.specs.Row.{IsGuardRow}
@@ -23,9 +23,9 @@ use Rattle.sector_switch.proofs.ImageLaws.{one_value}
 pub raises_none : (most : ℕ) (a b : List ℕ) → b ≡ a → RaisesGuard most a b
 raises_none most a b same = λ c is. (c, subst (λ (l : List ℕ). IsGuardRow l c) (sym same) is, omega arith, omega arith)
 
-pub raises_one : (row : List ℕ) (count : ℕ) → IsGuardRow row count → count < length row → RaisesGuard 1 row (slice_set row count (bit_and (slice_index row count) 0))
-raises_one row count is lt = λ c other. let same : c ≡ count = guard_law.one_count row c count other is in
-    (count + 1, next_count row count is lt, omega (arith, same), omega (arith, same))
+pub raises_one : (halfwords_in : List ℕ) (count : ℕ) → IsGuardRow halfwords_in count → count < length halfwords_in → RaisesGuard 1 halfwords_in (slice_set halfwords_in count (bit_and (slice_index halfwords_in count) 0))
+raises_one halfwords_in count is lt = λ c other. let same : c ≡ count = guard_law.one_count halfwords_in c count other is in
+    (count + 1, next_count halfwords_in count is lt, omega (arith, same), omega (arith, same))
 
 pub raises_then : (m n : ℕ) (a b c : List ℕ) → RaisesGuard m a b → RaisesGuard n b c → RaisesGuard (m + n) a c
 raises_then m n a b c first second = λ k is. let mid = first k is in let last = second mid.0 mid.1 in
@@ -42,7 +42,7 @@ pub keeps_then : (m n : ℕ) (u v w : Words) → KeepsBytes m u v → KeepsBytes
 keeps_then m n u v w first second = record { bytes = λ b is. second.bytes b (first.bytes b is); guard = raises_then m n u.guard v.guard w.guard first.guard second.guard }
 
 pub keeps_more : (m n : ℕ) (u v : Words) → m ≤ n → KeepsBytes m u v → KeepsBytes n u v
-keeps_more m n u v le is = record { bytes = is.bytes; guard = λ c row. let d = is.guard c row in (d.0, d.1, d.2, omega (arith, d.3, le)) }
+keeps_more m n u v le is = record { bytes = is.bytes; guard = λ c halfwords_in. let d = is.guard c halfwords_in in (d.0, d.1, d.2, omega (arith, d.3, le)) }
 
 -- a mark is programmed over another one
 pub mark_step : (words : List ℕ) (m n : Mark) (es : List Entry) → bit_and (mark_word m) (mark_word n) ≡ mark_word n → n ≢ Available → IsSector words m es
@@ -82,8 +82,8 @@ room_is halfwords home other whole upper value above =
 
 -- what makes words a spilled image
 pub reads_spilled : (w : Words) (count : ℕ) (home other : List Entry) (whole upper : List ℕ) → IsGuardRow w.guard count → count % 2 ≡ 0
-    → IsSector (row w (first_of count)) Full home → IsSector (row w (second_of count)) InUse other → IsValue (home ++ other) whole → IsValue other upper
-    → 66 * left_to_copy whole upper (finishing whole other) + 2 * end_of other ≤ 2 * length (row w (second_of count)) → IsBoth w count Full InUse home other
+    → IsSector (halfwords_in w (first_of count)) Full home → IsSector (halfwords_in w (second_of count)) InUse other → IsValue (home ++ other) whole → IsValue other upper
+    → 66 * left_to_copy whole upper (finishing whole other) + 2 * end_of other ≤ 2 * length (halfwords_in w (second_of count)) → IsBoth w count Full InUse home other
 reads_spilled w count home other whole upper guard even first second value above room = record {
   guard = guard;
   even = even;
@@ -91,7 +91,7 @@ reads_spilled w count home other whole upper guard even first second value above
   other_may = refl;
   first = first;
   second = second;
-  room = room_is (length (row w (second_of count))) home other whole upper value above ∙ le-leb _ _ room;
+  room = room_is (length (halfwords_in w (second_of count))) home other whole upper value above ∙ le-leb _ _ room;
 }
 
 -- an entry that is put, or may be

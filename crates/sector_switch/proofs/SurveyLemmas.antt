@@ -6,7 +6,7 @@ use Rattle.std.specs.Option.{option_and_then, is_some}
 use Rattle.std.proofs.lemmas.Bool.{cases_Bool, eqb-true, ne_eqb, lt-leb}
 use Rattle.std.proofs.lemmas.List.Sums.{fold-append}
 use Rattle.std.proofs.lemmas.List.Elements.{All-append}
-use Rattle.flash_board.specs.Words.{Words, row, IsSectorSize}
+use Rattle.flash_board.specs.Words.{Words, halfwords_in, IsSectorSize}
 use Rattle.flash_board.specs.declared.board.Region.{Region}
 use Rattle.flash_board.specs.declared.board.Mark.{Mark}
 use Rattle.flash_board.specs.declared.board.Mark.TheVariants.{Available, InUse, Full}
@@ -30,7 +30,7 @@ use Rattle.sector_switch.specs.Room.{chunk_at, left_to_copy, finishing, chunk_to
 use Rattle.sector_switch.specs.Stands.{first_of, second_of, home_mark, beside, only_in_use, IsBoth}
 use Rattle.sector_switch.specs.FirstBad.{Place, place_of, At, FirstBad}
 use Rattle.sector_switch.specs.Fits.{IsKept, OneLogWords, TwoLogWords, mark_of, parity_of, torn_chunk}
-use Rattle.sector_switch.specs.Answers.{OnForeign}
+use Rattle.sector_switch.specs.Refusals.{OnForeign}
 use Rattle.sector_switch.specs.Surveys.{AreHeads, AreLogs}
 use Rattle.sector_switch.proofs.LawsBelow.{sector_reading}
 use Rattle.sector_switch.proofs.Values.{zeros_of}
@@ -139,7 +139,7 @@ not_chunk whole es t is wrong =
     and_false true p = refl
     and_false false p = refl
 
-pub is_chunk : (whole : List ℕ) (w : Words) (mark : Mark) (es : List Entry) (log : Log) (t : Torn) → IsLogOf log log.region mark es → IsSector (row w log.region) mark es → log.torn ≡ Some t → t.lines ≡ 8 → t.line % 8 ≡ 0
+pub is_chunk : (whole : List ℕ) (w : Words) (mark : Mark) (es : List Entry) (log : Log) (t : Torn) → IsLogOf log log.region mark es → IsSector (halfwords_in w log.region) mark es → log.torn ≡ Some t → t.lines ≡ 8 → t.line % 8 ≡ 0
     → (init : List Entry) × (content : List ℕ) × IsTornLast log w mark init t.line 8 content × (is_some (finishing whole es) ≡ programmable content (halfwords_of (chunk_at whole (t.line / 8))))
 is_chunk whole w mark es log t of sector is lines line =
     let torn = torn_entry es t (sym of.torn ∙ is) in
@@ -150,7 +150,7 @@ is_chunk whole w mark es log t of sector is lines line =
     let whole_list : es ≡ split.0 ++ entry_of 1 t.line 8 e.content ∷ [] = split.1 ∙ ap (λ (d : Entry). split.0 ++ d ∷ []) this in (
       split.0,
       e.content,
-      record { tells = subst (λ (l : List Entry). IsLogOf log log.region mark l) whole_list of; sector = subst (λ (l : List Entry). IsSector (row w log.region) mark l) whole_list sector },
+      record { tells = subst (λ (l : List Entry). IsLogOf log log.region mark l) whole_list of; sector = subst (λ (l : List Entry). IsSector (halfwords_in w log.region) mark l) whole_list sector },
       finishing_last whole es e torn.last
           ∙ completable_by whole e true true true (eq-eqb e.header.state 1 torn.state) (eq-eqb e.header.lines 8 (torn.lines ∙ lines)) (eq-eqb (e.header.line % 8) 0 (ap (λ (n : ℕ). n % 8) torn.line ∙ line))
           ∙ ap (λ (n : ℕ). programmable e.content (halfwords_of (chunk_at whole (n / 8)))) torn.line,
@@ -177,26 +177,26 @@ foreign_through (Ok x) P Q more is = tt
 foreign_through (Err e) P Q more is = on_foreign e P Q more is
 
 -- where the checks fail
-pub bad_home_head : (w : Words) (count : ℕ) (r : Region) (p : Place) → r ≡ first_of count → IsGuardRow w.guard count → count % 2 ≡ 0 → At r (BadHead home_mark (row w r)) p → FirstBad w p
-bad_home_head w count r p is guard even bad = inr (count, guard, inl (even, inl (subst (λ (q : Region). At q (BadHead home_mark (row w q)) p) is bad)))
+pub bad_home_head : (w : Words) (count : ℕ) (r : Region) (p : Place) → r ≡ first_of count → IsGuardRow w.guard count → count % 2 ≡ 0 → At r (BadHead home_mark (halfwords_in w r)) p → FirstBad w p
+bad_home_head w count r p is guard even bad = inr (count, guard, inl (even, inl (subst (λ (q : Region). At q (BadHead home_mark (halfwords_in w q)) p) is bad)))
 
-pub bad_other_head : (w : Words) (count : ℕ) (m : Mark) (r : Region) (p : Place) → r ≡ second_of count → IsGuardRow w.guard count → count % 2 ≡ 0 → IsTrue (home_mark m) → HasHead (row w (first_of count)) m
-    → At r (BadHead (beside m) (row w r)) p → FirstBad w p
-bad_other_head w count m r p is guard even may head bad = inr (count, guard, inl (even, inr (m, may, head, inl (subst (λ (q : Region). At q (BadHead (beside m) (row w q)) p) is bad))))
+pub bad_other_head : (w : Words) (count : ℕ) (m : Mark) (r : Region) (p : Place) → r ≡ second_of count → IsGuardRow w.guard count → count % 2 ≡ 0 → IsTrue (home_mark m) → HasHead (halfwords_in w (first_of count)) m
+    → At r (BadHead (beside m) (halfwords_in w r)) p → FirstBad w p
+bad_other_head w count m r p is guard even may head bad = inr (count, guard, inl (even, inr (m, may, head, inl (subst (λ (q : Region). At q (BadHead (beside m) (halfwords_in w q)) p) is bad))))
 
-pub bad_home_log : (w : Words) (count : ℕ) (m n : Mark) (r : Region) (p : Place) → r ≡ first_of count → AreHeads w count m n → At r (BadLog (row w r)) p → FirstBad w p
-bad_home_log w count m n r p is heads bad = inr (count, heads.guard, inl (heads.even, inr (m, heads.home_may, heads.first, inr (n, heads.other_may, heads.second, inl (subst (λ (q : Region). At q (BadLog (row w q)) p) is bad)))))
+pub bad_home_log : (w : Words) (count : ℕ) (m n : Mark) (r : Region) (p : Place) → r ≡ first_of count → AreHeads w count m n → At r (BadLog (halfwords_in w r)) p → FirstBad w p
+bad_home_log w count m n r p is heads bad = inr (count, heads.guard, inl (heads.even, inr (m, heads.home_may, heads.first, inr (n, heads.other_may, heads.second, inl (subst (λ (q : Region). At q (BadLog (halfwords_in w q)) p) is bad)))))
 
-pub bad_other_log : (w : Words) (count : ℕ) (m n : Mark) (es : List Entry) (r : Region) (p : Place) → r ≡ second_of count → AreHeads w count m n → IsSector (row w (first_of count)) m es → At r (BadLog (row w r)) p → FirstBad w p
+pub bad_other_log : (w : Words) (count : ℕ) (m n : Mark) (es : List Entry) (r : Region) (p : Place) → r ≡ second_of count → AreHeads w count m n → IsSector (halfwords_in w (first_of count)) m es → At r (BadLog (halfwords_in w r)) p → FirstBad w p
 bad_other_log w count m n es r p is heads home bad =
-    inr (count, heads.guard, inl (heads.even, inr (m, heads.home_may, heads.first, inr (n, heads.other_may, heads.second, inr (es, home, inl (subst (λ (q : Region). At q (BadLog (row w q)) p) is bad))))))
+    inr (count, heads.guard, inl (heads.even, inr (m, heads.home_may, heads.first, inr (n, heads.other_may, heads.second, inr (es, home, inl (subst (λ (q : Region). At q (BadLog (halfwords_in w q)) p) is bad))))))
 
-pub bad_only_head : (w : Words) (count : ℕ) (r : Region) (p : Place) → r ≡ first_of count → IsGuardRow w.guard count → count % 2 ≡ 1 → At r (BadHead only_in_use (row w r)) p → FirstBad w p
-bad_only_head w count r p is guard odd bad = inr (count, guard, inr (odd, inl (subst (λ (q : Region). At q (BadHead only_in_use (row w q)) p) is bad)))
+pub bad_only_head : (w : Words) (count : ℕ) (r : Region) (p : Place) → r ≡ first_of count → IsGuardRow w.guard count → count % 2 ≡ 1 → At r (BadHead only_in_use (halfwords_in w r)) p → FirstBad w p
+bad_only_head w count r p is guard odd bad = inr (count, guard, inr (odd, inl (subst (λ (q : Region). At q (BadHead only_in_use (halfwords_in w q)) p) is bad)))
 
-pub bad_only_log : (w : Words) (count : ℕ) (r : Region) (p : Place) → r ≡ first_of count → IsGuardRow w.guard count → count % 2 ≡ 1 → HasHead (row w r) InUse → At r (BadLog (row w r)) p → FirstBad w p
+pub bad_only_log : (w : Words) (count : ℕ) (r : Region) (p : Place) → r ≡ first_of count → IsGuardRow w.guard count → count % 2 ≡ 1 → HasHead (halfwords_in w r) InUse → At r (BadLog (halfwords_in w r)) p → FirstBad w p
 bad_only_log w count r p is guard odd head bad =
-    inr (count, guard, inr (odd, inr (subst (λ (q : Region). HasHead (row w q) InUse) is head, subst (λ (q : Region). At q (BadLog (row w q)) p) is bad)))
+    inr (count, guard, inr (odd, inr (subst (λ (q : Region). HasHead (halfwords_in w q) InUse) is head, subst (λ (q : Region). At q (BadLog (halfwords_in w q)) p) is bad)))
 
 -- what the logs tell
 reads_beside : (w : Words) (count : ℕ) (m : Mark) (home other : Log) (whole upper : List ℕ) → IsTrue (home_mark m) → IsTrue (beside m Available) → (logs : AreLogs w count m Available home other whole upper) → IsBoth w count m Available logs.home_entries []
@@ -206,7 +206,7 @@ reads_beside w count m home other whole upper may beside_may logs = record {
   home_may = may;
   other_may = beside_may;
   first = logs.first;
-  second = subst (λ (es : List Entry). IsSector (row w (second_of count)) Available es) (logs.second.available refl) logs.second;
+  second = subst (λ (es : List Entry). IsSector (halfwords_in w (second_of count)) Available es) (logs.second.available refl) logs.second;
   room = refl;
 }
 
@@ -229,7 +229,7 @@ marked_words w kept other whole upper logs = record {
 }
 
 pub spilled_words : (w : Words) (kept : Kept) (other : Log) (before upper whole : List ℕ) (logs : AreLogs w kept.guard Full InUse kept.home other before upper) → IsValue (logs.home_entries ++ logs.other_entries) whole
-    → kept.completable ≡ is_some (finishing whole logs.other_entries) → 66 * left_to_copy whole upper (torn_chunk kept.completable other) + 2 * other.end ≤ 2 * length (row w (second_of kept.guard))
+    → kept.completable ≡ is_some (finishing whole logs.other_entries) → 66 * left_to_copy whole upper (torn_chunk kept.completable other) + 2 * other.end ≤ 2 * length (halfwords_in w (second_of kept.guard))
     → TwoLogWords kept other (both_bytes whole upper) w
 spilled_words w kept other before upper whole logs value known room =
     let chunk : finishing whole logs.other_entries ≡ torn_chunk kept.completable other = finishing_is whole logs.other_entries other kept.completable logs.other_log.torn known in
@@ -237,7 +237,7 @@ spilled_words w kept other before upper whole logs value known room =
       home = logs.home_entries;
       other = logs.other_entries;
       reads = reads_spilled w kept.guard logs.home_entries logs.other_entries whole upper logs.heads.guard logs.heads.even logs.first logs.second value logs.other_value
-          (subst (λ (f : Option ℕ). 66 * left_to_copy whole upper f + 2 * end_of logs.other_entries ≤ 2 * length (row w (second_of kept.guard))) (sym chunk) (omega (arith, room, logs.other_log.end)));
+          (subst (λ (f : Option ℕ). 66 * left_to_copy whole upper f + 2 * end_of logs.other_entries ≤ 2 * length (halfwords_in w (second_of kept.guard))) (sym chunk) (omega (arith, room, logs.other_log.end)));
       home_log = logs.home_log;
       other_log = logs.other_log;
       whole = value;
@@ -247,15 +247,15 @@ spilled_words w kept other before upper whole logs value known room =
 
 -- the room rule fails
 pub no_room : (w : Words) (count : ℕ) (home other : Log) (completable : Bool) (before upper whole : List ℕ) (logs : AreLogs w count Full InUse home other before upper) → IsValue (logs.home_entries ++ logs.other_entries) whole
-    → completable ≡ is_some (finishing whole logs.other_entries) → 2 * length (row w (second_of count)) < 66 * left_to_copy whole upper (torn_chunk completable other) + 2 * other.end
+    → completable ≡ is_some (finishing whole logs.other_entries) → 2 * length (halfwords_in w (second_of count)) < 66 * left_to_copy whole upper (torn_chunk completable other) + 2 * other.end
     → FirstBad w (place_of (second_of count) 0 23550)
 no_room w count home other completable before upper whole logs value known room =
     let heads = logs.heads in
     let chunk : finishing whole logs.other_entries ≡ torn_chunk completable other = finishing_is whole logs.other_entries other completable logs.other_log.torn known in
-    let over : 2 * length (row w (second_of count)) < 66 * left_to_copy whole upper (finishing whole logs.other_entries) + 2 * end_of logs.other_entries =
-    subst (λ (f : Option ℕ). 2 * length (row w (second_of count)) < 66 * left_to_copy whole upper f + 2 * end_of logs.other_entries) (sym chunk) (omega (arith, room, logs.other_log.end)) in
-    let fails : has_room (length (row w (second_of count))) logs.home_entries logs.other_entries ≡ false =
-    room_is (length (row w (second_of count))) logs.home_entries logs.other_entries whole upper value logs.other_value ∙ lt-leb _ _ over in
+    let over : 2 * length (halfwords_in w (second_of count)) < 66 * left_to_copy whole upper (finishing whole logs.other_entries) + 2 * end_of logs.other_entries =
+    subst (λ (f : Option ℕ). 2 * length (halfwords_in w (second_of count)) < 66 * left_to_copy whole upper f + 2 * end_of logs.other_entries) (sym chunk) (omega (arith, room, logs.other_log.end)) in
+    let fails : has_room (length (halfwords_in w (second_of count))) logs.home_entries logs.other_entries ≡ false =
+    room_is (length (halfwords_in w (second_of count))) logs.home_entries logs.other_entries whole upper value logs.other_value ∙ lt-leb _ _ over in
     inr (count, heads.guard, inl (heads.even, inr (Full, heads.home_may, heads.first, inr (InUse, heads.other_may, heads.second, inr (logs.home_entries, logs.first, inr (logs.other_entries, logs.second, fails, (refl, (refl, refl))))))))
 
 -- what holds of a state that is found, whether the words are told or not
@@ -274,15 +274,15 @@ found_rules name old_size size kept images attached same bytes most parity home 
 }
 
 -- the other's entries are read once more, over home's bytes
-pub spilled_value : (w : Words) (count : ℕ) (home other : Log) (before upper after : List ℕ) (r : Region) (es : List Entry) → r ≡ second_of count → (logs : AreLogs w count Full InUse home other before upper) → IsSector (row w r) InUse es
+pub spilled_value : (w : Words) (count : ℕ) (home other : Log) (before upper after : List ℕ) (r : Region) (es : List Entry) → r ≡ second_of count → (logs : AreLogs w count Full InUse home other before upper) → IsSector (halfwords_in w r) InUse es
     → after ≡ applied before es → IsValue (logs.home_entries ++ logs.other_entries) after
 spilled_value w count home other before upper after r es is logs sector applies =
-    let same : es ≡ logs.other_entries = (sector_reading.sector (row w (second_of count)) InUse InUse es logs.other_entries (subst (λ (q : Region). IsSector (row w q) InUse es) is sector) logs.second).1 in
+    let same : es ≡ logs.other_entries = (sector_reading.sector (halfwords_in w (second_of count)) InUse InUse es logs.other_entries (subst (λ (q : Region). IsSector (halfwords_in w q) InUse es) is sector) logs.second).1 in
     subst (λ (l : List ℕ). IsValue (logs.home_entries ++ logs.other_entries) l) (ap (λ (l : List Entry). applied before l) (sym same) ∙ sym applies)
     (value_behind logs.home_entries logs.other_entries before logs.first.each logs.second.each logs.home_value)
 
 pub spilled_known : (w : Words) (count : ℕ) (home other : Log) (before upper whole : List ℕ) (completable : Bool) (logs : AreLogs w count Full InUse home other before upper)
-    → ((mark : Mark) (entries : List Entry) → IsLogOf other other.region mark entries → IsSector (row w other.region) mark entries → completable ≡ is_some (finishing whole entries)) → completable ≡ is_some (finishing whole logs.other_entries)
+    → ((mark : Mark) (entries : List Entry) → IsLogOf other other.region mark entries → IsSector (halfwords_in w other.region) mark entries → completable ≡ is_some (finishing whole entries)) → completable ≡ is_some (finishing whole logs.other_entries)
 spilled_known w count home other before upper whole completable logs known =
     known InUse logs.other_entries (subst (λ (q : Region). IsLogOf other q InUse logs.other_entries) (sym logs.other_log.region) logs.other_log)
-    (subst (λ (q : Region). IsSector (row w q) InUse logs.other_entries) (sym logs.other_log.region) logs.second)
+    (subst (λ (q : Region). IsSector (halfwords_in w q) InUse logs.other_entries) (sym logs.other_log.region) logs.second)

@@ -1,6 +1,6 @@
 -- The first foreign word of words that are no image.
 use Rattle.std.specs.Prelude.{◌≡◌, ◌⊎◌, ℕ, ◌%◌, List, length, IsFalse, IsTrue}
-use Rattle.flash_board.specs.Words.{Words, row}
+use Rattle.flash_board.specs.Words.{Words, halfwords_in}
 use Rattle.flash_board.specs.declared.board.Region.{Region}
 use Rattle.flash_board.specs.declared.board.Region.TheVariants.{Guard}
 use Rattle.flash_board.specs.declared.board.Mark.{Mark}
@@ -42,13 +42,13 @@ abbrev pub BadHomeHead : Region → Region → List ℕ → List ℕ → Place �
 BadHomeHead r s home other p = At r (BadHead home_mark home) p ⊎ ((m : Mark) × IsTrue (home_mark m) × HasHead home m × BadOtherHead r s home other m p)
 
 abbrev pub BadBoth : Words → ℕ → Place → Type 0
-BadBoth w count p = BadHomeHead (first_of count) (second_of count) (row w (first_of count)) (row w (second_of count)) p
+BadBoth w count p = BadHomeHead (first_of count) (second_of count) (halfwords_in w (first_of count)) (halfwords_in w (second_of count)) p
 
 -- where it is odd: the head of the sector that isn't void, and its log
 abbrev pub BadOne : Words → ℕ → Place → Type 0
 BadOne w count p =
-    At (first_of count) (BadHead only_in_use (row w (first_of count))) p
-    ⊎ (HasHead (row w (first_of count)) InUse × At (first_of count) (BadLog (row w (first_of count))) p)
+    At (first_of count) (BadHead only_in_use (halfwords_in w (first_of count))) p
+    ⊎ (HasHead (halfwords_in w (first_of count)) InUse × At (first_of count) (BadLog (halfwords_in w (first_of count))) p)
 
 abbrev pub BadSectors : Words → ℕ → Place → Type 0
 BadSectors w count p = ((count % 2 ≡ 0) × BadBoth w count p) ⊎ ((count % 2 ≡ 1) × BadOne w count p)

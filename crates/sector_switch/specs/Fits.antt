@@ -1,7 +1,7 @@
 -- When what a state keeps fits a board and the bytes in memory.
 use Rattle.std.specs.Prelude.{◌≡◌, ℕ, ◌+◌, ◌-◌, ◌*◌, ◌/◌, ◌%◌, ◌≤◌, List, [], ◌++◌, length, All, if◌then◌else◌, Bool, true, false, Option, Some, None, IsSome, IfSome}
 use Rattle.std.specs.Option.{option_map, option_and_then, option_map_or, is_some}
-use Rattle.flash_board.specs.Words.{Words, row, IsSectorSize}
+use Rattle.flash_board.specs.Words.{Words, halfwords_in, IsSectorSize}
 use Rattle.flash_board.specs.declared.board.Board.{Ghosts}
 use Rattle.flash_board.specs.declared.board.Region.{Region}
 use Rattle.flash_board.specs.declared.board.Mark.{Mark}
@@ -92,7 +92,7 @@ IsErased halfwords = All (λ word. word ≡ 65535) halfwords
 
 -- voided, with the void sector erased
 abbrev pub FitsErased : {B : Type 0} → Ghosts B → B → Kept → Bytes → Type 0
-FitsErased g b kept images = FitsVoided g b kept images × (g.tells b → IsErased (row (g.words b) (second_of kept.guard)))
+FitsErased g b kept images = FitsVoided g b kept images × (g.tells b → IsErased (halfwords_in (g.words b) (second_of kept.guard)))
 
 -- the chunk of the torn last entry, where it is known to be completable
 abbrev pub torn_chunk : Bool → Log → Option ℕ

@@ -6,5 +6,5 @@ pub mod Losses
 pub mod Fits
 pub mod Heads
 pub mod Surveys
-pub mod Answers
+pub mod Refusals
 pub mod Laws

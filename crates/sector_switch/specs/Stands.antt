@@ -1,6 +1,6 @@
 -- Which words are an image, and for which bytes they stand.
 use Rattle.std.specs.Prelude.{◌≡◌, ℕ, ◌+◌, ◌%◌, List, ◌++◌, length, Bool, true, false, IsTrue, ◌==◌, ◌||◌, if◌then◌else◌}
-use Rattle.flash_board.specs.Words.{Words, row}
+use Rattle.flash_board.specs.Words.{Words, halfwords_in}
 use Rattle.flash_board.specs.declared.board.Region.{Region}
 use Rattle.flash_board.specs.declared.board.Region.TheVariants.{S0, S1}
 use Rattle.flash_board.specs.declared.board.Mark.{Mark}
@@ -57,15 +57,15 @@ pub record IsBoth (w : Words) (count : ℕ) (m n : Mark) (home other : List Entr
   pub even : count % 2 ≡ 0
   pub home_may : IsTrue (home_mark m)
   pub other_may : IsTrue (beside m n)
-  pub first : IsSector (row w (first_of count)) m home
-  pub second : IsSector (row w (second_of count)) n other
-  pub room : IsTrue (room_kept n (length (row w (second_of count))) home other)
+  pub first : IsSector (halfwords_in w (first_of count)) m home
+  pub second : IsSector (halfwords_in w (second_of count)) n other
+  pub room : IsTrue (room_kept n (length (halfwords_in w (second_of count))) home other)
 
 -- One sector is void, and isn't looked at.
 pub record IsOne (w : Words) (count : ℕ) (entries : List Entry) : Type 0 where
   pub guard : IsGuardRow w.guard count
   pub odd : count % 2 ≡ 1
-  pub first : IsSector (row w (first_of count)) InUse entries
+  pub first : IsSector (halfwords_in w (first_of count)) InUse entries
 
 -- the words are an image, and tell this
 abbrev pub Reads : Words → Reading → Type 0

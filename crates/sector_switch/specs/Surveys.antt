@@ -1,6 +1,6 @@
 -- What a survey knows of words that are told, as far as it has come.
 use Rattle.std.specs.Prelude.{◌≡◌, ℕ, ◌%◌, List, IsTrue}
-use Rattle.flash_board.specs.Words.{Words, row}
+use Rattle.flash_board.specs.Words.{Words, halfwords_in}
 use Rattle.flash_board.specs.declared.board.Mark.{Mark}
 use Rattle.guard_row.specs.Row.{IsGuardRow}
 use Rattle.sector_log.specs.declared.log.Log.{Log}
@@ -16,16 +16,16 @@ pub record AreHeads (w : Words) (count : ℕ) (m n : Mark) : Type 0 where
   pub even : count % 2 ≡ 0
   pub home_may : IsTrue (home_mark m)
   pub other_may : IsTrue (beside m n)
-  pub first : HasHead (row w (first_of count)) m
-  pub second : HasHead (row w (second_of count)) n
+  pub first : HasHead (halfwords_in w (first_of count)) m
+  pub second : HasHead (halfwords_in w (second_of count)) n
 
 -- both sectors are of the grammar, and these are their logs and the bytes of each alone
 pub record AreLogs (w : Words) (count : ℕ) (m n : Mark) (home other : Log) (whole upper : List ℕ) : Type 0 where
   pub home_entries : List Entry
   pub other_entries : List Entry
   pub heads : AreHeads w count m n
-  pub first : IsSector (row w (first_of count)) m home_entries
-  pub second : IsSector (row w (second_of count)) n other_entries
+  pub first : IsSector (halfwords_in w (first_of count)) m home_entries
+  pub second : IsSector (halfwords_in w (second_of count)) n other_entries
   pub home_log : IsLogOf home (first_of count) m home_entries
   pub other_log : IsLogOf other (second_of count) n other_entries
   pub home_value : IsValue home_entries whole

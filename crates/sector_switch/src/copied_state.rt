@@ -8,7 +8,7 @@ ghost use Rattle.sector_log.specs.Appends.{raised_by};
 ghost use Rattle.sector_switch.specs.Images.{Bytes};
 ghost use Rattle.sector_switch.specs.Losses.{KeepsBytes};
 ghost use Rattle.sector_switch.specs.Fits.{FitsCopied, FitsVoided, voided_from};
-ghost use Rattle.sector_switch.specs.Answers.{OnVoidWorn, OnVoidFault};
+ghost use Rattle.sector_switch.specs.Refusals.{OnVoidWorn, OnVoidFault};
 
 use crate::{Kept, Voided};
 use flash_board::{Board, Fault};

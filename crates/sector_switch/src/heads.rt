@@ -2,13 +2,13 @@
 ghost use Rattle.std.specs.Prelude.{◌≡◌, ◌≢◌, ◌<◌, IsTrue, IfOk, OnOk, IfErr, IfSome, IfNone, slice_index};
 ghost use Rattle.flash_board.specs.declared.board.Fault.TheVariants.{Read};
 ghost use Rattle.flash_board.specs.declared.board.Mark.{Mark};
-ghost use Rattle.flash_board.specs.Words.{row, region_length, IsSectorRegion, IsSectorSize};
+ghost use Rattle.flash_board.specs.Words.{halfwords_in, region_length, IsSectorRegion, IsSectorSize};
 ghost use Rattle.flash_board.specs.Causes.{Rose};
 ghost use Rattle.sector_log.specs.Sector.{mark_word, HasHead, BadHead};
 ghost use Rattle.sector_log.specs.Reads.{OnlyReads};
 ghost use Rattle.sector_switch.specs.FirstBad.{Place, At};
 ghost use Rattle.sector_switch.specs.Heads.{allowed};
-ghost use Rattle.sector_switch.specs.Answers.{OnForeign, OnSurveyFault};
+ghost use Rattle.sector_switch.specs.Refusals.{OnForeign, OnSurveyFault};
 
 use crate::SurveyError;
 use flash_board::{Board, Fault, Mark, Region};
@@ -28,7 +28,7 @@ pub(crate) enum Expected {
 fn word_at<B: Board>(board: &mut B, region: Region, at: u32) -> Result<u16, SurveyError>
     requires attached { IsSectorSize (B.sector_bytes board.old) }
     requires inside { at < region_length (B.sector_bytes board.old) region }
-    ensures word { IfOk result (λ word. B.tells board.new → word ≡ slice_index (row (B.words board.old) region) at) }
+    ensures word { IfOk result (λ word. B.tells board.new → word ≡ slice_index (halfwords_in (B.words board.old) region) at) }
     ensures not_foreign { IfErr result (λ e. OnForeign e (λ place. ⊥)) }
     ensures fault { IfErr result (λ e. OnSurveyFault e (λ kind. (kind ≡ Read) × Rose (B.faults board.old Read) (B.faults board.new Read))) }
     ensures reads { OnlyReads B.Board board.old board.new }
@@ -79,8 +79,8 @@ pub(crate) fn head_at<B: Board>(
     requires attached { IsSectorSize (B.sector_bytes board.old) }
     requires sector { IsSectorRegion region }
     ensures may { IfOk result (λ mark. IsTrue (allowed expected mark)) }
-    ensures head { IfOk result (λ mark. B.tells board.new → HasHead (row (B.words board.old) region) mark) }
-    ensures foreign { IfErr result (λ e. OnForeign e (λ place. B.tells board.new → At region (BadHead (allowed expected) (row (B.words board.old) region)) place)) }
+    ensures head { IfOk result (λ mark. B.tells board.new → HasHead (halfwords_in (B.words board.old) region) mark) }
+    ensures foreign { IfErr result (λ e. OnForeign e (λ place. B.tells board.new → At region (BadHead (allowed expected) (halfwords_in (B.words board.old) region)) place)) }
     ensures fault { IfErr result (λ e. OnSurveyFault e (λ kind. (kind ≡ Read) × Rose (B.faults board.old Read) (B.faults board.new Read))) }
     ensures reads { OnlyReads B.Board board.old board.new }
 {

@@ -3,7 +3,7 @@ ghost use Rattle.std.specs.Prelude.{◌≡◌, ◌/◌, ◌%◌, ◌*◌, List, 
 ghost use Rattle.std.specs.Option.{is_some};
 ghost use Rattle.flash_board.specs.declared.board.Fault.TheVariants.{Read};
 ghost use Rattle.flash_board.specs.declared.board.Mark.{Mark};
-ghost use Rattle.flash_board.specs.Words.{row, IsSectorRegion, IsSectorSize};
+ghost use Rattle.flash_board.specs.Words.{halfwords_in, IsSectorRegion, IsSectorSize};
 ghost use Rattle.flash_board.specs.Causes.{Rose};
 ghost use Rattle.sector_log.specs.Storage.{storage_bytes};
 ghost use Rattle.sector_log.specs.Entries.{Entry};
@@ -14,7 +14,7 @@ ghost use Rattle.sector_log.specs.Appends.{IsLogIn};
 ghost use Rattle.sector_log.specs.Reads.{OnlyReads};
 ghost use Rattle.sector_switch.specs.Room.{finishing};
 ghost use Rattle.sector_switch.specs.FirstBad.{Place, At};
-ghost use Rattle.sector_switch.specs.Answers.{OnForeign, OnSurveyFault};
+ghost use Rattle.sector_switch.specs.Refusals.{OnForeign, OnSurveyFault};
 
 use crate::SurveyError;
 use crate::marked_state::clear;
@@ -30,12 +30,12 @@ pub(crate) fn log_at<B: Board>(
 ) -> Result<Log, SurveyError>
     requires attached { IsSectorSize (B.sector_bytes board.old) }
     requires sector { IsSectorRegion region }
-    requires head { B.tells board.old → HasHead (row (B.words board.old) region) mark }
+    requires head { B.tells board.old → HasHead (halfwords_in (B.words board.old) region) mark }
     requires storage { length into.old ≡ storage_bytes }
     ensures every { IfOk result (λ log. IsLogIn (B.sector_bytes board.old / 2) log × (log.region ≡ region) × (log.mark ≡ mark)) }
-    ensures log { IfOk result (λ log. B.tells board.new → (entries : List Entry) × IsSector (row (B.words board.old) region) mark entries
+    ensures log { IfOk result (λ log. B.tells board.new → (entries : List Entry) × IsSector (halfwords_in (B.words board.old) region) mark entries
         × IsLogOf log region mark entries × (into.new ≡ applied into.old entries)) }
-    ensures foreign { IfErr result (λ e. OnForeign e (λ place. B.tells board.new → At region (BadLog (row (B.words board.old) region)) place)) }
+    ensures foreign { IfErr result (λ e. OnForeign e (λ place. B.tells board.new → At region (BadLog (halfwords_in (B.words board.old) region)) place)) }
     ensures fault { IfErr result (λ e. OnSurveyFault e (λ kind. (kind ≡ Read) × Rose (B.faults board.old Read) (B.faults board.new Read))) }
     ensures reads { OnlyReads B.Board board.old board.new }
 {
@@ -59,12 +59,12 @@ pub(crate) fn bytes_at<B: Board>(
 ) -> Result<Log, SurveyError>
     requires attached { IsSectorSize (B.sector_bytes board.old) }
     requires sector { IsSectorRegion region }
-    requires head { B.tells board.old → HasHead (row (B.words board.old) region) mark }
+    requires head { B.tells board.old → HasHead (halfwords_in (B.words board.old) region) mark }
     requires storage { length into.old ≡ storage_bytes }
     ensures every { IfOk result (λ log. IsLogIn (B.sector_bytes board.old / 2) log × (log.region ≡ region) × (log.mark ≡ mark)) }
-    ensures log { IfOk result (λ log. B.tells board.new → (entries : List Entry) × IsSector (row (B.words board.old) region) mark entries
+    ensures log { IfOk result (λ log. B.tells board.new → (entries : List Entry) × IsSector (halfwords_in (B.words board.old) region) mark entries
         × IsLogOf log region mark entries × IsValue entries into.new) }
-    ensures foreign { IfErr result (λ e. OnForeign e (λ place. B.tells board.new → At region (BadLog (row (B.words board.old) region)) place)) }
+    ensures foreign { IfErr result (λ e. OnForeign e (λ place. B.tells board.new → At region (BadLog (halfwords_in (B.words board.old) region)) place)) }
     ensures fault { IfErr result (λ e. OnSurveyFault e (λ kind. (kind ≡ Read) × Rose (B.faults board.old Read) (B.faults board.new Read))) }
     ensures reads { OnlyReads B.Board board.old board.new }
 {
@@ -83,7 +83,7 @@ pub(crate) fn is_completable<B: Board>(
     requires whole { length whole.now ≡ storage_bytes }
     ensures chunk { IfOk result (λ completable. completable ≡ true → IsSome log.torn × IfSome log.torn (λ torn. (torn.lines ≡ 8) × (torn.line % 8 ≡ 0))) }
     ensures known { IfOk result (λ completable. B.tells board.new → (mark : Mark) (entries : List Entry) → IsLogOf log log.region mark entries
-        → IsSector (row (B.words board.old) log.region) mark entries → completable ≡ is_some (finishing whole.now entries)) }
+        → IsSector (halfwords_in (B.words board.old) log.region) mark entries → completable ≡ is_some (finishing whole.now entries)) }
     ensures not_foreign { IfErr result (λ e. OnForeign e (λ place. ⊥)) }
     ensures fault { IfErr result (λ e. OnSurveyFault e (λ kind. (kind ≡ Read) × Rose (B.faults board.old Read) (B.faults board.new Read))) }
     ensures reads { OnlyReads B.Board board.old board.new }

@@ -11,7 +11,7 @@ ghost use Rattle.sector_switch.specs.Stands.{Reading, Reads, Stands, count_in, c
 ghost use Rattle.sector_switch.specs.FirstBad.{Place, FirstBad};
 ghost use Rattle.sector_switch.specs.Losses.{KeepsBytes};
 ghost use Rattle.sector_switch.specs.Fits.{FitsAlone, FitsMarked, FitsSpilled, FitsCopied, FitsVoided, FitsShape, guard_after, is_full};
-ghost use Rattle.sector_switch.specs.Answers.{OnRecoverForeign, OnRecoverFault, OnWorn};
+ghost use Rattle.sector_switch.specs.Refusals.{OnRecoverForeign, OnRecoverFault, OnWorn};
 
 use crate::{Alone, Images, Kept, Marked, Shape, Spilled, SurveyError, VoidError, Voided, survey};
 use flash_board::{Board, Fault, Region};

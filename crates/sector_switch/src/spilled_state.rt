@@ -11,7 +11,7 @@ ghost use Rattle.sector_switch.specs.Images.{Bytes, both_bytes};
 ghost use Rattle.sector_switch.specs.Room.{chunks, is_left, left_to_copy};
 ghost use Rattle.sector_switch.specs.Losses.{KeepsBytes, Puts, MayPut};
 ghost use Rattle.sector_switch.specs.Fits.{FitsSpilled, FitsCopied, left_chunks, left_in, taken_of, room_of, with_appended};
-ghost use Rattle.sector_switch.specs.Answers.{kept_in, is_whole};
+ghost use Rattle.sector_switch.specs.Refusals.{kept_in, is_whole};
 
 use crate::alone_state::put_lines;
 use crate::chunks::{copy_bytes, count_left, first_left, torn_chunk};

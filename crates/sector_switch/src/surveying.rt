@@ -13,7 +13,7 @@ ghost use Rattle.sector_switch.specs.Stands.{first_of, second_of, home_mark, bes
 ghost use Rattle.sector_switch.specs.FirstBad.{Place, FirstBad};
 ghost use Rattle.sector_switch.specs.Fits.{FitsShape, mark_of, other_mark_of, parity_of};
 ghost use Rattle.sector_switch.specs.Surveys.{AreHeads, AreLogs};
-ghost use Rattle.sector_switch.specs.Answers.{OnForeign, OnSurveyFault};
+ghost use Rattle.sector_switch.specs.Refusals.{OnForeign, OnSurveyFault};
 
 use crate::chunks::{count_left, torn_chunk};
 use crate::flash::{first_sector, second_sector};

@@ -2,7 +2,7 @@
 use Rattle.std.proofs.Common.{◌≡◌, ◌≢◌, ℕ, ◌+◌, List, [], ◌∷◌, ◌++◌, length, refl, sym, ◌∙◌, ap, subst, arith, append_assoc, append-nil, length-append, Some, None}
 use Rattle.flash_board.specs.declared.board.Board.{Ghosts}
 use Rattle.flash_board.specs.Calls.{Passes}
-use Rattle.flash_board.specs.Losses.{Received, End, Frame, Outcome, After}
+use Rattle.flash_board.specs.Losses.{Received, End, SentFrame, Outcome, After}
 use Rattle.flash_board.proofs.Moments.{started, chained}
 use Rattle.vehicle_node.specs.declared.Turn.{Turn}
 use Rattle.vehicle_node.specs.declared.Turn.TheVariants as turn
@@ -14,26 +14,26 @@ use Rattle.storage_cli.specs.Progress.{IsSafe, Progress, Finishes}
 adds_none : (s : Outcome) → Adds [] [] s s
 adds_none s = record { events_are = sym (append-nil s.events); frames_are = sym (append-nil s.frames) }
 
-adds_then : (es more : List Received) (fs others : List Frame) (s m o : Outcome) → Adds es fs s m → Adds more others m o → Adds (es ++ more) (fs ++ others) s o
+adds_then : (es more : List Received) (fs others : List SentFrame) (s m o : Outcome) → Adds es fs s m → Adds more others m o → Adds (es ++ more) (fs ++ others) s o
 adds_then es more fs others s m o first second = record {
   events_are = second.events_are ∙ ap (λ (l : List Received). l ++ more) first.events_are ∙ append_assoc s.events es more;
-  frames_are = second.frames_are ∙ ap (λ (l : List Frame). l ++ others) first.frames_are ∙ append_assoc s.frames fs others;
+  frames_are = second.frames_are ∙ ap (λ (l : List SentFrame). l ++ others) first.frames_are ∙ append_assoc s.frames fs others;
 }
 
-pub some_safe : (b : List ℕ) (e : List Received) (f : List Frame) (n : ℕ) (s o : Outcome) → SafeSince b e f n s o → IsSafe b e f s o
+pub some_safe : (b : List ℕ) (e : List Received) (f : List SentFrame) (n : ℕ) (s o : Outcome) → SafeSince b e f n s o → IsSafe b e f s o
 some_safe b e f n s o since = record { finished = n; since = since }
 
 -- what is safe behind an addition is safe with it
-pub safe_later : (b : List ℕ) (e es : List Received) (f fs : List Frame) (n : ℕ) (s m o : Outcome) → Adds es fs s m → SafeSince b (e ++ es) (f ++ fs) n m o → IsSafe b e f s o
+pub safe_later : (b : List ℕ) (e es : List Received) (f fs : List SentFrame) (n : ℕ) (s m o : Outcome) → Adds es fs s m → SafeSince b (e ++ es) (f ++ fs) n m o → IsSafe b e f s o
 safe_later b e es f fs n s m o adds since = record {
   finished = n;
   since = record {
     added_events = es ++ since.added_events;
     events_are = since.events_are ∙ ap (λ (l : List Received). l ++ since.added_events) adds.events_are ∙ append_assoc s.events es since.added_events;
     added_frames = fs ++ since.added_frames;
-    frames_are = since.frames_are ∙ ap (λ (l : List Frame). l ++ since.added_frames) adds.frames_are ∙ append_assoc s.frames fs since.added_frames;
+    frames_are = since.frames_are ∙ ap (λ (l : List SentFrame). l ++ since.added_frames) adds.frames_are ∙ append_assoc s.frames fs since.added_frames;
     safe = subst (λ (l : List Received). Safe b l (f ++ (fs ++ since.added_frames)) n o.words) (append_assoc e es since.added_events)
-        (subst (λ (l : List Frame). Safe b ((e ++ es) ++ since.added_events) l n o.words) (append_assoc f fs since.added_frames) since.safe);
+        (subst (λ (l : List SentFrame). Safe b ((e ++ es) ++ since.added_events) l n o.words) (append_assoc f fs since.added_frames) since.safe);
   };
 }
 
@@ -56,26 +56,26 @@ module _ {B : Type 0} (g : Ghosts B) where
   pub progress_none : (node : Node) (board : B) → Progress g node board node board [] []
   progress_none node board = record {
     told = λ told. told;
-    lists = λ e f stood. subst (λ (l : List Received). g.stands board l (f ++ [])) (sym (append-nil e)) (subst (λ (l : List Frame). g.stands board e l) (sym (append-nil f)) stood);
+    lists = λ e f stood. subst (λ (l : List Received). g.has_lists board l (f ++ [])) (sym (append-nil e)) (subst (λ (l : List SentFrame). g.has_lists board e l) (sym (append-nil f)) stood);
     stands = λ b e f m run. subst (λ (n : ℕ). StandsForRun node b (e ++ []) (f ++ []) n) (omega arith)
-        (subst (λ (l : List Received). StandsForRun node b l (f ++ []) m) (sym (append-nil e)) (subst (λ (l : List Frame). StandsForRun node b e l m) (sym (append-nil f)) run));
+        (subst (λ (l : List Received). StandsForRun node b l (f ++ []) m) (sym (append-nil e)) (subst (λ (l : List SentFrame). StandsForRun node b e l m) (sym (append-nil f)) run));
     losses = λ b e f m runs. started board (IsSafe b e f) (Adds [] []) adds_none;
   }
 
   -- one event more
-  module _ (node : Node) (board : B) (mid : Node) (mid_board : B) (new : Node) (new_board : B) (es : List Received) (fs : List Frame) (p : Progress g node board mid mid_board es fs) where
+  module _ (node : Node) (board : B) (mid : Node) (mid_board : B) (new : Node) (new_board : B) (es : List Received) (fs : List SentFrame) (p : Progress g node board mid mid_board es fs) where
     pub progress_more : (answer : Turn) (f : Finished g mid mid_board new new_board answer) → (g.tells new_board → g.tells mid_board)
-        → ((b : List ℕ) (e : List Received) (sent : List Frame) (m : ℕ) → (g.tells mid_board → StandsForRun mid b e sent m) → Passes g mid_board new_board (SafeSince b e sent m) (SafeSince b e sent (m + 1)))
+        → ((b : List ℕ) (e : List Received) (sent : List SentFrame) (m : ℕ) → (g.tells mid_board → StandsForRun mid b e sent m) → Passes g mid_board new_board (SafeSince b e sent m) (SafeSince b e sent (m + 1)))
         → Progress g node board new new_board (es ++ f.event ∷ []) (fs ++ f.frames)
     progress_more answer f told losses = record {
       told = λ t. p.told (told t);
       lists = λ e sent stood.
-          subst (λ (l : List Received). g.stands new_board l (sent ++ (fs ++ f.frames))) (append_assoc e es (f.event ∷ []))
-          (subst (λ (l : List Frame). g.stands new_board ((e ++ es) ++ f.event ∷ []) l) (append_assoc sent fs f.frames) (f.lists (e ++ es) (sent ++ fs) (p.lists e sent stood)));
+          subst (λ (l : List Received). g.has_lists new_board l (sent ++ (fs ++ f.frames))) (append_assoc e es (f.event ∷ []))
+          (subst (λ (l : List SentFrame). g.has_lists new_board ((e ++ es) ++ f.event ∷ []) l) (append_assoc sent fs f.frames) (f.lists (e ++ es) (sent ++ fs) (p.lists e sent stood)));
       stands = λ b e sent m run.
           subst (λ (n : ℕ). StandsForRun new b (e ++ (es ++ f.event ∷ [])) (sent ++ (fs ++ f.frames)) n) (omega (arith, length-append es (f.event ∷ [])))
           (subst (λ (l : List Received). StandsForRun new b l (sent ++ (fs ++ f.frames)) (m + length es + 1)) (append_assoc e es (f.event ∷ []))
-          (subst (λ (l : List Frame). StandsForRun new b ((e ++ es) ++ f.event ∷ []) l (m + length es + 1)) (append_assoc sent fs f.frames) (f.stands b (e ++ es) (sent ++ fs) (m + length es) (p.stands b e sent m run))));
+          (subst (λ (l : List SentFrame). StandsForRun new b ((e ++ es) ++ f.event ∷ []) l (m + length es + 1)) (append_assoc sent fs f.frames) (f.stands b (e ++ es) (sent ++ fs) (m + length es) (p.stands b e sent m run))));
       losses = λ b e sent m runs.
           let call = losses b (e ++ es) (sent ++ fs) (m + length es) (λ t. p.stands b e sent m (runs (p.told t))) in
           chained (IsSafe b e sent) (Adds (es ++ f.event ∷ []) (fs ++ f.frames)) (p.losses b e sent m runs) (ending (Adds (f.event ∷ []) f.frames) call f.here)
@@ -85,8 +85,8 @@ module _ {B : Type 0} (g : Ghosts B) where
     }
 
     -- a call that failed
-    pub progress_lost : (b : List ℕ) (e : List Received) (sent : List Frame) (m : ℕ) → (g.tells board → StandsForRun node b e sent m)
-        → ((b : List ℕ) (e : List Received) (sent : List Frame) (m : ℕ) → (g.tells mid_board → StandsForRun mid b e sent m) → Passes g mid_board new_board (SafeSince b e sent m) (SafeSince b e sent m))
+    pub progress_lost : (b : List ℕ) (e : List Received) (sent : List SentFrame) (m : ℕ) → (g.tells board → StandsForRun node b e sent m)
+        → ((b : List ℕ) (e : List Received) (sent : List SentFrame) (m : ℕ) → (g.tells mid_board → StandsForRun mid b e sent m) → Passes g mid_board new_board (SafeSince b e sent m) (SafeSince b e sent m))
         → Passes g board new_board (IsSafe b e sent) (IsSafe b e sent)
     progress_lost b e sent m runs losses =
         let call = losses b (e ++ es) (sent ++ fs) (m + length es) (λ t. p.stands b e sent m (runs (p.told t))) in
@@ -100,7 +100,7 @@ module _ {B : Type 0} (g : Ghosts B) where
 
   module _ (node : Node) (board : B) (mid : Node) (mid_board : B) (new : Node) (new_board : B) (n : ℕ) (p : Finishes g node board mid mid_board n None) (answer : Turn) (f : Finished g mid mid_board new new_board answer)
       (told : g.tells new_board → g.tells mid_board)
-      (losses : (b : List ℕ) (e : List Received) (sent : List Frame) (m : ℕ) → (g.tells mid_board → StandsForRun mid b e sent m) → Passes g mid_board new_board (SafeSince b e sent m) (SafeSince b e sent (m + 1))) where
+      (losses : (b : List ℕ) (e : List Received) (sent : List SentFrame) (m : ℕ) → (g.tells mid_board → StandsForRun mid b e sent m) → Passes g mid_board new_board (SafeSince b e sent m) (SafeSince b e sent (m + 1))) where
     -- one that is no end
     pub finishes_more : answer ≡ turn.More → Finishes g node board new new_board (n + 1) None
     finishes_more is = record {

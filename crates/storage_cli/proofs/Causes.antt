@@ -9,7 +9,7 @@ use Rattle.sector_switch.specs.Stands.{Stands}
 use Rattle.sector_switch.proofs.ImageLaws as image
 use Rattle.vehicle_node.specs.declared.NodeError.{NodeError}
 use Rattle.vehicle_node.specs.declared.NodeError.TheVariants as node_error
-use Rattle.vehicle_node.specs.Answers as node
+use Rattle.vehicle_node.specs.Refusals as node
 use Rattle.storage_cli.specs.declared.endings.Served.{Served}
 use Rattle.storage_cli.specs.declared.endings.Stop.{Stop}
 use Rattle.storage_cli.specs.declared.endings.Stop.TheVariants as stop

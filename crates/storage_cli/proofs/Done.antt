@@ -15,7 +15,7 @@ use Rattle.storage_cli.proofs.Outcomes.{Gives, other, ends_turns}
 
 module _ {B : Type 0} (g : Ghosts B) (board : B) (before : Words) (turns status : ℕ) (printed : List ℕ → Type 0) where
   pub serves_done : (served : Served) → Gives status 0 → Completes g before ⊤ board turns (Ok served) → (status ≢ 10 → printed (served_line served.events served.frames))
-      → Serves (g.stands board) (g.tells board) before (g.words board) turns status printed
+      → Serves (g.has_lists board) (g.tells board) before (g.words board) turns status printed
   serves_done served gives p line = record {
     events = p.events;
     frames = p.frames;
@@ -29,7 +29,7 @@ module _ {B : Type 0} (g : Ghosts B) (board : B) (before : Words) (turns status 
   }
 
   -- the turns are over
-  serves_turns : (n : ℕ) → Gives status 8 → Completes g before ⊤ board turns (Err (stop.Turns n)) → Serves (g.stands board) (g.tells board) before (g.words board) turns status printed
+  serves_turns : (n : ℕ) → Gives status 8 → Completes g before ⊤ board turns (Err (stop.Turns n)) → Serves (g.has_lists board) (g.tells board) before (g.words board) turns status printed
   serves_turns n gives p = record {
     events = p.events;
     frames = p.frames;
@@ -54,7 +54,7 @@ module _ {B : Type 0} (g : Ghosts B) (board : B) (before : Words) (turns status 
   no_stop n stop.Attach is zero = omega (arith, is, zero)
 
   pub serves_stopped : (why : Stop) → Gives status (status_of_stop why) → (IsDone (Err why) → Completes g before ⊤ board turns (Err why)) → (status ≡ 0) ⊎ (status ≡ 8)
-      → Serves (g.stands board) (g.tells board) before (g.words board) turns status printed
+      → Serves (g.has_lists board) (g.tells board) before (g.words board) turns status printed
   serves_stopped why gives done (inl e) = absurd (other status (status_of_stop why) 0 gives (λ z. no_stop (status_of_stop why) why refl z) (λ z. omega (arith, z)) e)
   serves_stopped why gives done (inr e) =
       let is = ends_turns status why gives e in

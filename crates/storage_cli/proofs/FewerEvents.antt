@@ -2,16 +2,16 @@
 use Rattle.std.proofs.Common.{◌≡◌, ◌⊎◌, inl, inr, ℕ, zero, suc, ◌+◌, ◌-◌, ◌≤◌, List, [], ◌∷◌, length, take, refl, ap, subst, arith, length-append}
 use Rattle.std.proofs.lemmas.List.{take_all}
 use Rattle.flash_board.specs.Words.{Words}
-use Rattle.flash_board.specs.Losses.{Received, Frame}
+use Rattle.flash_board.specs.Losses.{Received, SentFrame}
 use Rattle.sector_switch.specs.Stands.{Stands}
-use Rattle.vehicle_core.specs.Parts.{Part}
+use Rattle.vehicle_core.specs.Acts.{Act}
 use Rattle.vehicle_node.specs.Frames.{numbered}
 use Rattle.vehicle_node.specs.Reading.{Reads, no_rests}
 use Rattle.vehicle_node.specs.Runs.{Run, did_in, deliveries_in, part, all_parts, turn, start, run_from, run_of, floor_of}
 use Rattle.vehicle_node.specs.Safe.{Safe}
 
 -- as many lists of parts as events
-pub length-parts : (old : List (List ℕ)) (events : List Received) (parts : List (List Part)) (rests : List (List ℕ)) → Reads old events parts rests → length parts ≡ length events
+pub length-parts : (old : List (List ℕ)) (events : List Received) (parts : List (List Act)) (rests : List (List ℕ)) → Reads old events parts rests → length parts ≡ length events
 length-parts old [] parts rests r = ap length r.0
 length-parts old (e ∷ events) parts rests r = omega (arith, ap length r.5, length-parts r.1 events r.2 rests r.4)
 
@@ -31,48 +31,48 @@ grows_same r sound = record { sound = sound; answers = omega arith; floor = omeg
 grows_then : (r s t : Run) → Grows r s → Grows s t → Grows r t
 grows_then r s t first second = record { sound = second.sound; answers = omega (arith, first.answers, second.answers); floor = omega (arith, first.floor, second.floor) }
 
-grows_part : (b : List ℕ) (r : Run) (p : Part) → IsSound r → Grows r (part b r p)
+grows_part : (b : List ℕ) (r : Run) (p : Act) → IsSound r → Grows r (part b r p)
 grows_part b r p sound = record {
   sound = omega (arith, sound, length-append r.issued (did_in b r p).writes);
   answers = omega (arith, length-append r.answers (numbered (did_in b r p).vehicle r.machine.sequences (deliveries_in b r p)));
   floor = omega arith;
 }
 
-grows_parts : (b : List ℕ) (r : Run) (ps : List Part) → IsSound r → Grows r (all_parts b r ps)
+grows_parts : (b : List ℕ) (r : Run) (ps : List Act) → IsSound r → Grows r (all_parts b r ps)
 grows_parts b r [] sound = grows_same r sound
 grows_parts b r (p ∷ ps) sound =
     let one = grows_part b r p sound in
     grows_then r (part b r p) (all_parts b (part b r p) ps) one (grows_parts b (part b r p) ps one.sound)
 
-grows_turn : (b : List ℕ) (r : Run) (ps : List Part) → IsSound r → Grows r (turn b r ps)
+grows_turn : (b : List ℕ) (r : Run) (ps : List Act) → IsSound r → Grows r (turn b r ps)
 grows_turn b r ps sound =
     let all = grows_parts b r ps sound in
     record { sound = omega arith; answers = all.answers; floor = omega (arith, all.floor, all.sound) }
 
-grows_from : (b : List ℕ) (r : Run) (events : List (List Part)) → IsSound r → Grows r (run_from b r events)
+grows_from : (b : List ℕ) (r : Run) (events : List (List Act)) → IsSound r → Grows r (run_from b r events)
 grows_from b r [] sound = grows_same r sound
 grows_from b r (ps ∷ events) sound =
     let one = grows_turn b r ps sound in
     grows_then r (turn b r ps) (run_from b (turn b r ps) events) one (grows_from b (turn b r ps) events one.sound)
 
-grows_front : (b : List ℕ) (r : Run) (n : ℕ) (events : List (List Part)) → IsSound r → Grows (run_from b r (take n events)) (run_from b r events)
+grows_front : (b : List ℕ) (r : Run) (n : ℕ) (events : List (List Act)) → IsSound r → Grows (run_from b r (take n events)) (run_from b r events)
 grows_front b r zero events sound = grows_from b r events sound
 grows_front b r (suc n) [] sound = grows_same r sound
 grows_front b r (suc n) (ps ∷ events) sound = grows_front b (turn b r ps) n events (grows_turn b r ps sound).sound
 
-run_grows : (b : List ℕ) (n : ℕ) (parts : List (List Part)) → Grows (run_of b (take n parts)) (run_of b parts)
+run_grows : (b : List ℕ) (n : ℕ) (parts : List (List Act)) → Grows (run_of b (take n parts)) (run_of b parts)
 unfolding run_of
 run_grows b n parts = grows_front b (start b) n parts (omega arith)
 
-floor_grows : (b : List ℕ) (parts : List (List Part)) (n m : ℕ) → length parts ≤ m → floor_of b parts n ≤ floor_of b parts m
+floor_grows : (b : List ℕ) (parts : List (List Act)) (n m : ℕ) → length parts ≤ m → floor_of b parts n ≤ floor_of b parts m
 floor_grows b [] n m long = omega arith
-floor_grows b (ps ∷ parts) n m long = omega (arith, (run_grows b n (ps ∷ parts)).floor, ap (λ (l : List (List Part)). (run_of b l).floor) (take_all m (ps ∷ parts) long))
+floor_grows b (ps ∷ parts) n m long = omega (arith, (run_grows b n (ps ∷ parts)).floor, ap (λ (l : List (List Act)). (run_of b l).floor) (take_all m (ps ∷ parts) long))
 
 fewer_count : (events : List Received) → (length events - 1 ≡ length events) ⊎ (length events - 1 + 1 ≡ length events)
 fewer_count [] = inl (omega arith)
 fewer_count (e ∷ events) = inr (omega arith)
 
-pub one_fewer : (b : List ℕ) (events : List Received) (frames : List Frame) (m : ℕ) (words : Words) → Safe b events frames m words → Safe b events frames (length events - 1) words
+pub one_fewer : (b : List ℕ) (events : List Received) (frames : List SentFrame) (m : ℕ) (words : Words) → Safe b events frames m words → Safe b events frames (length events - 1) words
 one_fewer b events frames m words s = elim s.count [
   | inl all ↦
       let long : length s.parts ≤ m = omega (arith, all, length-parts no_rests events s.parts s.rests s.reads) in
@@ -81,7 +81,7 @@ one_fewer b events frames m words s = elim s.count [
         rests = s.rests;
         reads = s.reads;
         count = fewer_count events;
-        finished = omega (arith, s.finished, (run_grows b (length events - 1) s.parts).answers, ap (λ (l : List (List Part)). length (run_of b l).answers) (take_all m s.parts long));
+        finished = omega (arith, s.finished, (run_grows b (length events - 1) s.parts).answers, ap (λ (l : List (List Act)). length (run_of b l).answers) (take_all m s.parts long));
         at = record {
           first = s.at.first;
           kept = s.at.kept;

@@ -7,7 +7,7 @@ use Rattle.std.proofs.lemmas.Bool.{eqb-false}
 use Rattle.std.proofs.lemmas.List.{get_or-replicate, length-replicate}
 use Rattle.flash_board.specs.declared.board.Region.{Region}
 use Rattle.flash_board.specs.declared.board.Region.TheVariants.{S0, S1, Guard}
-use Rattle.flash_board.specs.Words.{Words, row, region_length, blank, programmed, HasShape, IsSectorSize}
+use Rattle.flash_board.specs.Words.{Words, halfwords_in, region_length, blank, programmed, HasShape, IsSectorSize}
 use Rattle.flash_board.specs.Losses.{ByResult}
 use Rattle.flash_board.specs.Pairs.{ProgramsPair}
 use Rattle.storage_cli.specs.Fresh.{header_only, fresh_word, IsFreshImage}
@@ -68,7 +68,7 @@ half_long n known = omega (arith, length-replicate {A = ℕ} (n / 2) 65535, smal
 abbrev formatted : ℕ → Words
 formatted n = programmed (programmed (programmed (programmed (blank n) S1 0 0x5BFF) S1 1 0x5168) S0 0 0x5BFE) S0 1 0x5168
 
-formatted_at : (n : ℕ) → IsSectorSize n → (region : Region) (offset : ℕ) → offset < region_length n region → get_or (row (formatted n) region) offset 0 ≡ fresh_word region offset
+formatted_at : (n : ℕ) → IsSectorSize n → (region : Region) (offset : ℕ) → offset < region_length n region → get_or (halfwords_in (formatted n) region) offset 0 ≡ fresh_word region offset
 formatted_at n known S0 offset inside = header_at (replicate (n / 2) 65535) 0x5BFE (half_long n known) (blank_row (n / 2)) refl offset (omega (arith, inside, length-replicate {A = ℕ} (n / 2) 65535))
 formatted_at n known S1 offset inside = header_at (replicate (n / 2) 65535) 0x5BFF (half_long n known) (blank_row (n / 2)) refl offset (omega (arith, inside, length-replicate {A = ℕ} (n / 2) 65535))
 formatted_at n known Guard offset inside = get_or-replicate 8192 offset 65535 0 inside
@@ -78,7 +78,7 @@ formatted_fresh n w0 w1 w2 known start one two shape = record {
   shape = shape;
   fresh = record {
     each = λ region offset inside.
-        ap (λ (w : Words). get_or (row w region) offset 0) is ∙ formatted_at n known region offset (omega (arith, inside, shape region));
+        ap (λ (w : Words). get_or (halfwords_in w region) offset 0) is ∙ formatted_at n known region offset (omega (arith, inside, shape region));
   };
 }
   where

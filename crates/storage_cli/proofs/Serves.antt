@@ -3,7 +3,7 @@ use Rattle.std.proofs.Common.{◌≡◌, ⊎_elim, ℕ, ◌+◌, List, [], ◌++
 use Rattle.std.specs.Prelude.{⊤}
 use Rattle.flash_board.specs.declared.board.Board.{Ghosts}
 use Rattle.flash_board.specs.Words.{Words}
-use Rattle.flash_board.specs.Losses.{Received, Frame, Moment, Outcome, After}
+use Rattle.flash_board.specs.Losses.{Received, SentFrame, Moment, Outcome, After}
 use Rattle.flash_board.specs.Calls.{Passes}
 use Rattle.flash_board.proofs.Moments.{up_to_self, chained, weaker}
 use Rattle.sector_switch.specs.Stands.{Stands}
@@ -34,7 +34,7 @@ safe_run g reads only_now old a new b same starts stands losses o left =
         let here = only_now a o was in
         let lists = starts o here in
         let tell = reads a o here in
-        safe_from 0 (subst (λ (l : List Received). Safe b l o.frames 0 o.words) (sym lists.0) (subst (λ (l : List Frame). Safe b [] l 0 o.words) (sym lists.1)
+        safe_from 0 (subst (λ (l : List Received). Safe b l o.frames 0 o.words) (sym lists.0) (subst (λ (l : List SentFrame). Safe b [] l 0 o.words) (sym lists.1)
         (safe_none b o.words (subst (λ (w : Words). Stands w b) (sym tell.1) (stands tell.0)))))
 
     some : After (g.now a) (IsSafe b [] []) o → IsSafeRun b o
@@ -42,8 +42,8 @@ safe_run g reads only_now old a new b same starts stands losses o left =
         let lists = starts p.from p.was in
         let s = p.steps.since in
         let events : s.added_events ≡ o.events = sym (s.events_are ∙ ap (λ (l : List Received). l ++ s.added_events) lists.0) in
-        let frames : s.added_frames ≡ o.frames = sym (s.frames_are ∙ ap (λ (l : List Frame). l ++ s.added_frames) lists.1) in
-        safe_from p.steps.finished (subst (λ (l : List Received). Safe b l o.frames p.steps.finished o.words) events (subst (λ (l : List Frame). Safe b s.added_events l p.steps.finished o.words) frames s.safe))
+        let frames : s.added_frames ≡ o.frames = sym (s.frames_are ∙ ap (λ (l : List SentFrame). l ++ s.added_frames) lists.1) in
+        safe_from p.steps.finished (subst (λ (l : List Received). Safe b l o.frames p.steps.finished o.words) events (subst (λ (l : List SentFrame). Safe b s.added_events l p.steps.finished o.words) frames s.safe))
 
 module _ {B : Type 0} (g : Ghosts B) (b : List ℕ) (a m : B) (opens : Passes g a m (SafeSince b [] [] 0) (SafeSince b [] [] 0)) where
   -- the opening failed
@@ -58,7 +58,7 @@ module _ {B : Type 0} (g : Ghosts B) (b : List ℕ) (a m : B) (opens : Passes g 
         (λ s n o now adds safe. safe_behind b s n o adds safe)
         (λ s n o now adds safe. safe_behind b s n o adds safe)
 
-    pub open_closed : (c d : B) (es : List Received) (fs : List Frame) (n : ℕ) → Passes g m c (IsSafe b [] []) (Adds es fs) → Passes g c d (SafeSince b es fs n) (SafeSince b es fs n)
+    pub open_closed : (c d : B) (es : List Received) (fs : List SentFrame) (n : ℕ) → Passes g m c (IsSafe b [] []) (Adds es fs) → Passes g c d (SafeSince b es fs n) (SafeSince b es fs n)
         → Passes g a d (IsSafe b [] []) (IsSafe b [] [])
     open_closed c d es fs n events closes = open_then d (chained (IsSafe b [] []) (IsSafe b [] []) events closes
         (λ s o safe. safe)
@@ -68,11 +68,11 @@ module _ {B : Type 0} (g : Ghosts B) (b : List ℕ) (a m : B) (opens : Passes g 
 -- a serve that was not cut off
 module _ {B : Type 0} (g : Ghosts B) (a m c d : B) (node new : Node) (turns : ℕ)
     (told : g.tells d → g.tells c)
-    (opened : (e : List Received) (f : List Frame) → g.stands a e f → g.stands m e f)
+    (opened : (e : List Received) (f : List SentFrame) → g.has_lists a e f → g.has_lists m e f)
     (starts : g.tells m → (b : List ℕ) → Stands (g.words a) b → StandsForRun node b [] [] 0)
     (image : g.tells m → (b : List ℕ) × Stands (g.words a) b)
-    (closed : (e : List Received) (f : List Frame) → g.stands c e f → g.stands d e f)
-    (done : g.tells d → (b : List ℕ) (r : Run) (frames : List Frame) → StandsAt new b r frames → Stands (g.words d) (after b r.issued))
+    (closed : (e : List Received) (f : List SentFrame) → g.has_lists c e f → g.has_lists d e f)
+    (done : g.tells d → (b : List ℕ) (r : Run) (frames : List SentFrame) → StandsAt new b r frames → Stands (g.words d) (after b r.issued))
     (end : Option ℕ) (p : Finishes g node m new c turns end) where
   runs : g.tells d → (b : List ℕ) → Stands (g.words a) b → StandsForRun new b p.events p.frames (0 + length p.events)
   runs t b stands = p.progress.stands b [] [] 0 (starts (p.progress.told (told t)) b stands)
@@ -85,10 +85,10 @@ module _ {B : Type 0} (g : Ghosts B) (a m c d : B) (node new : Node) (turns : �
   sent : g.tells d → new.frames ≡ counts (length p.frames)
   sent t = let b = image (p.progress.told (told t)) in (runs t b.0 b.1).at.frame_count
 
-  lists : g.stands a [] [] → g.stands d p.events p.frames
+  lists : g.has_lists a [] [] → g.has_lists d p.events p.frames
   lists stood = closed p.events p.frames (p.progress.lists [] [] (opened [] [] stood))
 
-  pub completes_end : (count frames : ℕ) → end ≡ Some count → frames ≡ new.frames → Completes g (g.words a) (g.stands a [] []) d turns (Ok (record { events = count; frames = frames }))
+  pub completes_end : (count frames : ℕ) → end ≡ Some count → frames ≡ new.frames → Completes g (g.words a) (g.has_lists a [] []) d turns (Ok (record { events = count; frames = frames }))
   completes_end count frames is same = record {
     events = p.events;
     frames = p.frames;
@@ -98,7 +98,7 @@ module _ {B : Type 0} (g : Ghosts B) (a m c d : B) (node new : Node) (turns : �
     counted = λ t. same ∙ sent t;
   }
 
-  pub completes_turns : end ≡ None → Completes g (g.words a) (g.stands a [] []) d turns (Err (stop.Turns turns))
+  pub completes_turns : end ≡ None → Completes g (g.words a) (g.has_lists a [] []) d turns (Err (stop.Turns turns))
   completes_turns is =
       let ends = subst (λ (e : Option ℕ). EndsSo e turns p.events) is p.ends in
       record {
@@ -111,8 +111,8 @@ module _ {B : Type 0} (g : Ghosts B) (a m c d : B) (node new : Node) (turns : �
       }
 
 -- the attach keeps the words, and its lists are empty
-pub completes_attached : {B : Type 0} (g : Ghosts B) (a d : B) (before : Words) (turns : ℕ) (r : Result Served Stop) → (g.tells d → g.words a ≡ before) → g.stands a [] []
-    → Completes g (g.words a) (g.stands a [] []) d turns r → Completes g before ⊤ d turns r
+pub completes_attached : {B : Type 0} (g : Ghosts B) (a d : B) (before : Words) (turns : ℕ) (r : Result Served Stop) → (g.tells d → g.words a ≡ before) → g.has_lists a [] []
+    → Completes g (g.words a) (g.has_lists a [] []) d turns r → Completes g before ⊤ d turns r
 completes_attached g a d before turns r same empty p = record {
   events = p.events;
   frames = p.frames;

@@ -9,7 +9,7 @@ use Rattle.sector_switch.specs.FirstBad.{Place, FirstBad}
 use Rattle.sector_switch.specs.Stands.{Stands}
 use Rattle.image_report.specs.declared.errors.ReportError.{ReportError}
 use Rattle.image_report.specs.declared.errors.ReportError.TheVariants as errors
-use Rattle.image_report.specs.Answers.{OnForeign, OnOutput, OnceRead}
+use Rattle.image_report.specs.Refusals.{OnForeign, OnOutput, OnceRead}
 use Rattle.image_report.specs.Dumps.{IsDump}
 use Rattle.image_report.specs.Reports.{IsReport}
 use Rattle.image_report.specs.Writes.{WritesFirstPart}

@@ -1,6 +1,6 @@
 -- The words of a fresh image.
 use Rattle.std.specs.Prelude.{◌≡◌, ℕ, ◌<◌, ◌==◌, length, slice_index, if◌then◌else◌}
-use Rattle.flash_board.specs.Words.{Words, row, HasShape}
+use Rattle.flash_board.specs.Words.{Words, halfwords_in, HasShape}
 use Rattle.flash_board.specs.declared.board.Region.{Region}
 use Rattle.flash_board.specs.declared.board.Region.TheVariants.{S0, S1, Guard}
 
@@ -17,7 +17,7 @@ fresh_word Guard offset = 0xFFFF
 
 -- the words are those of a fresh image, whatever their number
 pub record IsFresh (words : Words) : Type 0 where
-  pub each : (region : Region) (offset : ℕ) → offset < length (row words region) → slice_index (row words region) offset ≡ fresh_word region offset
+  pub each : (region : Region) (offset : ℕ) → offset < length (halfwords_in words region) → slice_index (halfwords_in words region) offset ≡ fresh_word region offset
 
 -- the words of a fresh image with sectors of that size
 pub record IsFreshImage (sector_bytes : ℕ) (words : Words) : Type 0 where

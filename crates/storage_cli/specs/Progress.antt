@@ -2,7 +2,7 @@
 use Rattle.std.specs.Prelude.{◌≡◌, ℕ, ◌+◌, ◌-◌, List, ◌++◌, length, Option, Some, None, Result, Ok, Err}
 use Rattle.flash_board.specs.declared.board.Board.{Ghosts}
 use Rattle.flash_board.specs.Words.{Words}
-use Rattle.flash_board.specs.Losses.{Received, Frame, Outcome}
+use Rattle.flash_board.specs.Losses.{Received, SentFrame, Outcome}
 use Rattle.flash_board.specs.Calls.{Passes}
 use Rattle.sector_switch.specs.Stands.{Stands}
 use Rattle.vehicle_node.specs.Safe.{Safe, SafeSince, Adds}
@@ -13,17 +13,17 @@ use Rattle.storage_cli.specs.declared.endings.Stop.TheVariants as stop
 use Rattle.storage_cli.specs.Serving.{HasNoEnd, EndsOnce, IsWhole}
 
 -- what has been added since an outcome is safe, with all events finished or all but one
-pub record IsSafe (b : List ℕ) (events : List Received) (frames : List Frame) (from o : Outcome) : Type 0 where
+pub record IsSafe (b : List ℕ) (events : List Received) (frames : List SentFrame) (from o : Outcome) : Type 0 where
   pub finished : ℕ
   pub since : SafeSince b events frames finished from o
 
 -- Events were received and finished, and frames were sent: whatever run the node stood for, it stands for the run with these,
 -- and each loss inside is safe.
-pub record Progress {B : Type 0} (g : Ghosts B) (old : Node) (board : B) (new : Node) (after_board : B) (events : List Received) (frames : List Frame) : Type 0 where
+pub record Progress {B : Type 0} (g : Ghosts B) (old : Node) (board : B) (new : Node) (after_board : B) (events : List Received) (frames : List SentFrame) : Type 0 where
   pub told : g.tells after_board → g.tells board
-  pub lists : (e : List Received) (f : List Frame) → g.stands board e f → g.stands after_board (e ++ events) (f ++ frames)
-  pub stands : (b : List ℕ) (e : List Received) (f : List Frame) (m : ℕ) → StandsForRun old b e f m → StandsForRun new b (e ++ events) (f ++ frames) (m + length events)
-  pub losses : (b : List ℕ) (e : List Received) (f : List Frame) (m : ℕ) → (g.tells board → StandsForRun old b e f m) →
+  pub lists : (e : List Received) (f : List SentFrame) → g.has_lists board e f → g.has_lists after_board (e ++ events) (f ++ frames)
+  pub stands : (b : List ℕ) (e : List Received) (f : List SentFrame) (m : ℕ) → StandsForRun old b e f m → StandsForRun new b (e ++ events) (f ++ frames) (m + length events)
+  pub losses : (b : List ℕ) (e : List Received) (f : List SentFrame) (m : ℕ) → (g.tells board → StandsForRun old b e f m) →
       Passes g board after_board (IsSafe b e f) (Adds events frames)
 
 -- how many events came before the end, where it came within so many turns
@@ -34,7 +34,7 @@ EndsSo None turns events = HasNoEnd events × (length events ≡ turns)
 -- the events that were finished within so many turns
 pub record Finishes {B : Type 0} (g : Ghosts B) (old : Node) (board : B) (new : Node) (after_board : B) (turns : ℕ) (end : Option ℕ) : Type 0 where
   pub events : List Received
-  pub frames : List Frame
+  pub frames : List SentFrame
   pub progress : Progress g old board new after_board events frames
   pub ends : EndsSo end turns events
 
@@ -45,15 +45,15 @@ EndsBy (Err (stop.Turns n)) turns events = HasNoEnd events × (length events ≡
 EndsBy (Err _) turns events = ⊥
 
 -- the number of frames that a serve tells
-abbrev pub CountsFrames : Result Served Stop → List Frame → Type 0
+abbrev pub CountsFrames : Result Served Stop → List SentFrame → Type 0
 CountsFrames (Ok served) frames = served.frames ≡ counts (length frames)
 CountsFrames (Err _) frames = Unit {0}
 
 -- How a serve that was not cut off has left the board, from these words; `begun` says that the lists were empty at its start.
 pub record Completes {B : Type 0} (g : Ghosts B) (before : Words) (begun : Type 0) (board : B) (turns : ℕ) (result : Result Served Stop) : Type 0 where
   pub events : List Received
-  pub frames : List Frame
-  pub lists : begun → g.stands board events frames
+  pub frames : List SentFrame
+  pub lists : begun → g.has_lists board events frames
   pub ends : EndsBy result turns events
   pub whole : g.tells board → (b : List ℕ) → Stands before b → IsWhole b events frames (g.words board)
   pub counted : g.tells board → CountsFrames result frames

@@ -1,12 +1,12 @@
 -- What a `serve` and a `format` have done.
 use Rattle.std.specs.Prelude.{◌≡◌, ◌≢◌, ℕ, ◌-◌, List, [], ◌∷◌, ◌++◌, length, IsTrue}
 use Rattle.flash_board.specs.Words.{Words}
-use Rattle.flash_board.specs.Losses.{Received, End, Frame, Moment}
+use Rattle.flash_board.specs.Losses.{Received, End, SentFrame, Moment}
 use Rattle.storage_lines.specs.Lines.{after}
 use Rattle.sector_switch.specs.FirstBad.{Place, FirstBad}
 use Rattle.sector_switch.specs.Stands as image
 use Rattle.sector_switch.specs.Stands.{Stands, Reading, is_due, count_in}
-use Rattle.vehicle_core.specs.Parts.{Part}
+use Rattle.vehicle_core.specs.Acts.{Act}
 use Rattle.vehicle_node.specs.Frames.{AreFramesOf}
 use Rattle.vehicle_node.specs.Reading.{Reads, no_rests}
 use Rattle.vehicle_node.specs.Runs.{run_of}
@@ -24,8 +24,8 @@ EndsOnce events = (front : List Received) × (events ≡ front ++ End ∷ []) ×
 
 -- The whole run over these events, from these bytes: the frames are all its answers, and the words stand for the bytes with all of
 -- its lines.
-pub record IsWhole (b : List ℕ) (events : List Received) (frames : List Frame) (words : Words) : Type 0 where
-  pub parts : List (List Part)
+pub record IsWhole (b : List ℕ) (events : List Received) (frames : List SentFrame) (words : Words) : Type 0 where
+  pub parts : List (List Act)
   pub rests : List (List ℕ)
   pub reads : Reads no_rests events parts rests
   pub all_answers : AreFramesOf (run_of b parts).answers frames
@@ -33,9 +33,9 @@ pub record IsWhole (b : List ℕ) (events : List Received) (frames : List Frame)
 
 -- What a `serve` of so many turns has done that ends with 0 or 8, between the words of its attach and those of its end.
 -- `stands` and `told` are what the board says at the end, and `printed` what was printed.
-pub record Serves (stands : List Received → List Frame → Type 0) (told : Type 0) (before now : Words) (turns status : ℕ) (printed : List ℕ → Type 0) : Type 0 where
+pub record Serves (stands : List Received → List SentFrame → Type 0) (told : Type 0) (before now : Words) (turns status : ℕ) (printed : List ℕ → Type 0) : Type 0 where
   pub events : List Received
-  pub frames : List Frame
+  pub frames : List SentFrame
   -- the board has received these events and sent these frames
   pub are_these : stands events frames
   -- at 0 the last event was an end, and no earlier one

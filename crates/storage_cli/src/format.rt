@@ -22,7 +22,7 @@ pub(crate) fn format<B: Board>(board: &mut B, image: &str, sector_bytes: u32) ->
     requires { IsSectorSize sector_bytes }
     ensures fresh { IsOk result → B.tells board.new → IsFreshImage sector_bytes (B.words board.new) }
     ensures size { IsAttached result → B.sector_bytes board.new ≡ sector_bytes }
-    ensures no_link { IsAttached result → B.stands board.new [] [] }
+    ensures no_link { IsAttached result → B.has_lists board.new [] [] }
     ensures link { LeavesLink (B.moment board.old) (B.moment board.new) }
     ensures stops { IfErr result IsFormatStop }
     ensures cause { StopsByCause (B.faults board.old) (B.faults board.new) result }

@@ -6,7 +6,7 @@ ghost use Rattle.flash_board.specs.Words.{IsSectorSize};
 ghost use Rattle.flash_board.specs.Causes.{Rose};
 ghost use Rattle.sector_switch.specs.FirstBad.{Place, FirstBad};
 ghost use Rattle.sector_switch.specs.Stands.{Stands};
-ghost use Rattle.image_report.specs.Answers.{OnForeign, OnFault, OnOutput, BeforeOutput, OnceRead};
+ghost use Rattle.image_report.specs.Refusals.{OnForeign, OnFault, OnOutput, BeforeOutput, OnceRead};
 ghost use Rattle.image_report.specs.Writes.{WritesOne};
 ghost use Rattle.storage_cli.specs.Ends.{IsAttached, IsFirst, StopsByCause};
 ghost use Rattle.storage_cli.specs.Printing.{IsTextOf, IsRefusing, IsTextStop, OnWhole, OnFirstPart, ending_of, status_of_printed};

@@ -1,11 +1,11 @@
 // Serves an image.
 ghost use Rattle.std.specs.Prelude.{◌≡◌, List, ℕ, [], IfOk, IfErr, OnOk, OnErr, ⊤};
 ghost use Rattle.flash_board.specs.Words.{IsSectorSize};
-ghost use Rattle.flash_board.specs.Losses.{Received, Frame, Outcome};
+ghost use Rattle.flash_board.specs.Losses.{Received, SentFrame, Outcome};
 ghost use Rattle.flash_board.specs.Calls.{Passes};
 ghost use Rattle.sector_switch.specs.FirstBad.{Place, FirstBad};
 ghost use Rattle.sector_switch.specs.Stands.{Stands};
-ghost use Rattle.block_store.specs.Answers.{IsWorn};
+ghost use Rattle.block_store.specs.Refusals.{IsWorn};
 ghost use Rattle.vehicle_node.specs.Standing.{Fits, StandsForRun};
 ghost use Rattle.storage_cli.specs.Serving.{IsUsedUp};
 ghost use Rattle.storage_cli.specs.Ends.{stop_of_fault, stop_of, IsAttached, IsDone, IsServeStop, IsEventStop, IsFirst, OnMemory, OnWorn, StopsEarly, StopsWorn, StopsByCause};
@@ -53,7 +53,7 @@ fn serve_events<B: Board>(node: &mut Node, board: &mut B, turns: u32) -> Result<
     requires fits { Fits B.Board board.old node.old }
     ensures fits { OnOk result (Fits B.Board board.new node.new) }
     ensures finished { IfOk result (λ end. Finishes B.Board node.old board.old node.new board.new turns end) }
-    ensures losses { OnErr result ((b : List ℕ) (e : List Received) (f : List Frame) (m : ℕ) → (B.tells board.old → StandsForRun node.old b e f m) →
+    ensures losses { OnErr result ((b : List ℕ) (e : List Received) (f : List SentFrame) (m : ℕ) → (B.tells board.old → StandsForRun node.old b e f m) →
         Passes B.Board board.old board.new (IsSafe b e f) (IsSafe b e f)) }
     ensures told { B.tells board.new → B.tells board.old }
     ensures worn { IfErr result (λ stop. OnWorn stop ((bytes : _) × IsWorn B.Board board.new bytes)) }
@@ -77,7 +77,7 @@ fn serve_events<B: Board>(node: &mut Node, board: &mut B, turns: u32) -> Result<
 fn serve_image<B: Board>(alloc: Global, board: &mut B, turns: u32) -> Result<Served, Stop>
     requires attached { IsSectorSize (B.sector_bytes board.old) }
     ensures losses { (b : List ℕ) → (B.tells board.old → Stands (B.words board.old) b) → Passes B.Board board.old board.new (IsSafe b [] []) (IsSafe b [] []) }
-    ensures completes { IsDone result → Completes B.Board (B.words board.old) (B.stands board.old [] []) board.new turns result }
+    ensures completes { IsDone result → Completes B.Board (B.words board.old) (B.has_lists board.old [] []) board.new turns result }
     ensures told { B.tells board.new → B.tells board.old }
     ensures foreign { B.tells board.new → IfErr result (IsFirst (B.words board.old)) }
     ensures foreign_where { B.tells board.new → (place : Place) → FirstBad (B.words board.old) place → StopsEarly result }

@@ -236,7 +236,7 @@ impl Board for Refusing {
 
     ghost words = { λ _. record { s0 = []; s1 = []; guard = [] } };
 
-    ghost stands = { λ _ _ _. Unit {0} };
+    ghost has_lists = { λ _ _ _. Unit {0} };
 
     ghost moment = { λ _. record { programs = 2 ^ 64 - 1; erases = 2 ^ 64 - 1; receptions = 2 ^ 64 - 1; sendings = 2 ^ 64 - 1 } };
 

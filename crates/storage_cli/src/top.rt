@@ -7,7 +7,7 @@ ghost use Rattle.flash_board.specs.Losses.{Outcome};
 ghost use Rattle.command_line.specs.Lines.{line_of_words};
 ghost use Rattle.sector_switch.specs.FirstBad.{Place, FirstBad};
 ghost use Rattle.sector_switch.specs.Stands.{Stands};
-ghost use Rattle.block_store.specs.Answers.{IsWorn};
+ghost use Rattle.block_store.specs.Refusals.{IsWorn};
 ghost use Rattle.vehicle_node.specs.Safe.{Safe};
 ghost use Rattle.image_report.specs.Dumps.{IsDump};
 ghost use Rattle.image_report.specs.Reports.{IsReport};
@@ -100,7 +100,7 @@ fn run_serve<B: Board, K: Sink>(
         (b : List ℕ) → (B.tells board.old → Stands (B.words board.old) b) →
         (o : Outcome) → B.left board.new (B.moment board.old) o → Safe b o.events o.frames (length o.events - 1) o.words }
     ensures serves { (result.0 ≡ 0) ⊎ (result.0 ≡ 8) →
-        Serves (B.stands board.new) (B.tells board.new) (B.words board.old) (B.words board.new) turns result.0
+        Serves (B.has_lists board.new) (B.tells board.new) (B.words board.old) (B.words board.new) turns result.0
         (λ line. K.tells_written out.new → K.written out.new ≡ K.written out.old ++ line) }
     ensures turns { result.0 ≡ 8 → K.tells_written out.new → K.written out.new ≡ K.written out.old ++ turns_line turns }
 {
@@ -128,7 +128,7 @@ fn run_format<B: Board, K: Sink>(
     ensures no_others { (result.0 ≢ 2) × (result.0 ≢ 3) × (result.0 ≢ 7) }
     ensures formatted { result.0 ≡ 0 → B.tells board.new → IsFreshImage sector_bytes (B.words board.new) }
     ensures size { IsPastAttach result.0 (B.faults board.old) (B.faults board.new) → B.sector_bytes board.new ≡ sector_bytes }
-    ensures no_link { IsPastAttach result.0 (B.faults board.old) (B.faults board.new) → B.stands board.new [] [] }
+    ensures no_link { IsPastAttach result.0 (B.faults board.old) (B.faults board.new) → B.has_lists board.new [] [] }
     ensures link { LeavesLink (B.moment board.old) (B.moment board.new) }
     ensures quiet { result.0 ≡ 0 → out.new ≡ out.old }
 {
@@ -226,7 +226,7 @@ pub fn run<'a, B: Board, S: Source, K: Sink>(
 
     // What a serve has done that came to the end, or to the last of its turns.
     ensures serves { OnServe (texts words.entry.now) ((result.0 ≡ 0) ⊎ (result.0 ≡ 8)) (λ turns.
-        Serves (B.stands board.new) (B.tells board.new) (B.words board.old) (B.words board.new) turns result.0
+        Serves (B.has_lists board.new) (B.tells board.new) (B.words board.old) (B.words board.new) turns result.0
         (λ line. K.tells_written out.new → K.written out.new ≡ K.written out.old ++ line)) }
     ensures turns { OnServe (texts words.entry.now) (result.0 ≡ 8) (λ turns.
         K.tells_written out.new → K.written out.new ≡ K.written out.old ++ turns_line turns) }
@@ -236,7 +236,7 @@ pub fn run<'a, B: Board, S: Source, K: Sink>(
     ensures size { OnFormat (texts words.entry.now) (IsPastAttach result.0 (B.faults board.old) (B.faults board.new)) (λ sector_bytes.
         IsUnasked result.0 (board.new ≡ board.old) ⊎ (B.sector_bytes board.new ≡ sector_bytes)) }
     ensures no_link { OnFormat (texts words.entry.now) (IsPastAttach result.0 (B.faults board.old) (B.faults board.new)) (λ sector_bytes.
-        IsUnasked result.0 (board.new ≡ board.old) ⊎ B.stands board.new [] []) }
+        IsUnasked result.0 (board.new ≡ board.old) ⊎ B.has_lists board.new [] []) }
     ensures link { OnFormat (texts words.entry.now) ⊤ (λ sector_bytes. LeavesLink (B.moment board.old) (B.moment board.new)) }
     ensures quiet { OnFormat (texts words.entry.now) (result.0 ≡ 0) (λ sector_bytes. out.new ≡ out.old) }
 

@@ -14,7 +14,7 @@ use Rattle.param_service.specs.Replies as showing
 use Rattle.vehicle_core.specs.declared.StationState.{StationState as Inner}
 use Rattle.vehicle_core.specs.Inside.{stations_of}
 use Rattle.vehicle_core.specs.Vehicle.{Vehicle, StationState, Asked, Parameters, Alive, Told, tells_value, is_heard, is_version_two, hears}
-use Rattle.vehicle_core.specs.Parts.{Did, Said, Beat, Stream, did, nothing, by_parameters, asked_of}
+use Rattle.vehicle_core.specs.Acts.{Did, Said, Beat, Stream, did, nothing, by_parameters, asked_of}
 use Rattle.vehicle_core.specs.Replies.{AreRepliesOf}
 
 -- a station inside, as it is seen

@@ -1,4 +1,4 @@
 pub mod Vehicle
-pub mod Parts
+pub mod Acts
 pub mod Replies
 pub mod Inside

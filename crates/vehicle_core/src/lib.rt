@@ -6,7 +6,7 @@ ghost use Rattle.storage_lines.specs.declared.lines.TheConstants.{STORAGE_BYTES,
 ghost use Rattle.storage_lines.specs.Lines.{after};
 ghost use Rattle.param_records.specs.Steps.{HasMagic};
 ghost use Rattle.vehicle_core.specs.Vehicle.{Asked, Asks, Alive, new_vehicle, is_heard, is_version_two};
-ghost use Rattle.vehicle_core.specs.Parts.{Said, Beat, Stream, did};
+ghost use Rattle.vehicle_core.specs.Acts.{Said, Beat, Stream, did};
 ghost use Rattle.vehicle_core.specs.Replies.{AreRepliesOf, Tells};
 
 mod laws;

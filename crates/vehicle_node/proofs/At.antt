@@ -2,14 +2,14 @@
 use Rattle.std.proofs.Common.{◌≡◌, ◌⊎◌, inl, inr, ℕ, ◌+◌, ◌-◌, ◌^◌, ◌≤◌, min, List, [], ◌∷◌, ◌++◌, length, take, refl, sym, ◌∙◌, ap, subst, arith, append_assoc, length-append}
 use Rattle.std.proofs.lemmas.List.{take_at, take_all}
 use Rattle.flash_board.specs.Words.{Words}
-use Rattle.flash_board.specs.Losses.{Received, Frame, Outcome}
+use Rattle.flash_board.specs.Losses.{Received, SentFrame, Outcome}
 use Rattle.storage_lines.specs.declared.lines.LineWrite.{LineWrite}
 use Rattle.storage_lines.specs.Lines.{after}
 use Rattle.sector_switch.specs.Stands.{Stands}
 use Rattle.block_store.specs.Store.{durable_of}
 use Rattle.dirty_lines.specs.Lines.{Lines, current_of}
 use Rattle.vehicle_core.specs.Vehicle.{Vehicle}
-use Rattle.vehicle_core.specs.Parts.{Part, Did, did}
+use Rattle.vehicle_core.specs.Acts.{Act, Did, did}
 use Rattle.vehicle_node.specs.Frames.{Answer, AreFramesOf, deliveries, numbered, counted_all}
 use Rattle.vehicle_node.specs.Reading.{IsEvent, no_rests}
 use Rattle.vehicle_node.specs.Runs.{Run, Machine, did_in, deliveries_in, part, all_parts, finish, run_of, floor_of}
@@ -26,7 +26,7 @@ raised_twice top n k = omega arith
 counts_more : (old new n k : ℕ) → old ≡ counts n → new ≡ counts (old + k) → new ≡ counts (n + k)
 counts_more old new n k before now = now ∙ ap (λ (m : ℕ). counts (m + k)) before ∙ raised_twice (2 ^ 64 - 1) n k
 
-module _ (node : Node) (b : List ℕ) (r : Run) (sent : List Frame) (at : StandsAt node b r sent) where
+module _ (node : Node) (b : List ℕ) (r : Run) (sent : List SentFrame) (at : StandsAt node b r sent) where
   -- what the node has put, with some lines more
   put_more : (words : Words) (put : List LineWrite) → Stands words (after (durable_of node.lines.store) put) → Stands words (after b (at.put ++ put))
   put_more words put stands = subst (Stands words) (ap (λ (l : List ℕ). after l put) at.durable ∙ sym (after-append b at.put put)) stands
@@ -47,10 +47,10 @@ module _ (node : Node) (b : List ℕ) (r : Run) (sent : List Frame) (at : Stands
   current_is = ap (λ (l : List ℕ). after l node.lines.pending) at.durable ∙ sym (after-append b at.put node.lines.pending) ∙ ap (after b) at.split
 
   -- what the node does is what the run does
-  did_is : (p : Part) → did_at node p ≡ did_in b r p
+  did_is : (p : Act) → did_at node p ≡ did_in b r p
   did_is p = ap (λ (m : Machine). did (current_of node.lines) m.vehicle p) at.machine ∙ ap (λ (l : List ℕ). did l r.machine.vehicle p) current_is
 
-  module _ (p : Part) where
+  module _ (p : Act) where
     part_answers : answers_at node p ≡ numbered (did_in b r p).vehicle r.machine.sequences (deliveries_in b r p)
     part_answers =
         ap (λ (d : Did). numbered d.vehicle node.machine.sequences (deliveries d.vehicle d.told)) (did_is p)
@@ -74,7 +74,7 @@ module _ (node : Node) (b : List ℕ) (r : Run) (sent : List Frame) (at : Stands
         (put_more o.words a.put a.stands)
 
     -- and behind it
-    pub stands_answered : (frames : List Frame) (new : Node) → Answered node p frames new → StandsAt new b (part b r p) (sent ++ frames)
+    pub stands_answered : (frames : List SentFrame) (new : Node) → Answered node p frames new → StandsAt new b (part b r p) (sent ++ frames)
     stands_answered frames new a = record {
       machine = ap (λ (v : Vehicle). machine_of v new.machine.sequences) (a.vehicle ∙ ap (λ (d : Did). d.vehicle) (did_is p))
           ∙ ap (λ (l : List ℕ). machine_of (did_in b r p).vehicle l)
@@ -124,7 +124,7 @@ module _ (node : Node) (b : List ℕ) (r : Run) (sent : List Frame) (at : Stands
       enough (inr none) =
           omega (arith, ap length none, ap length w.split, ap length at.split, length-append at.put w.put, length-append at.put node.lines.pending, length-append w.put new.lines.pending)
 
-module _ (node : Node) (b : List ℕ) (events : List Received) (sent : List Frame) (m : ℕ) (stands : StandsForRun node b events sent m) where
+module _ (node : Node) (b : List ℕ) (events : List Received) (sent : List SentFrame) (m : ℕ) (stands : StandsForRun node b events sent m) where
   all_taken : take m stands.parts ≡ stands.parts
   all_taken = take_all m stands.parts (omega (arith, stands.finished, reads_long events no_rests node.rests stands.parts stands.reads))
 
@@ -135,22 +135,22 @@ module _ (node : Node) (b : List ℕ) (events : List Received) (sent : List Fram
     rests = node.rests;
     reads = stands.reads;
     count = inl stands.finished;
-    finished = omega (arith, ap (λ (l : List (List Part)). length (run_of b l).answers) all_taken, frames_long (run_of b stands.parts).answers sent stands.at.sent);
+    finished = omega (arith, ap (λ (l : List (List Act)). length (run_of b l).answers) all_taken, frames_long (run_of b stands.parts).answers sent stands.at.sent);
     at = safe_lower b (run_of b stands.parts) (floor_of b stands.parts m) (run_of b stands.parts).floor sent words
-        (omega (arith, floor_of_le b stands.parts m, ap (λ (l : List (List Part)). (run_of b l).floor) all_taken)) a;
+        (omega (arith, floor_of_le b stands.parts m, ap (λ (l : List (List Act)). (run_of b l).floor) all_taken)) a;
   }
 
   -- inside the next
-  pub safe_inside : (event : Received) (ps : List Part) (new : List (List ℕ)) (s : Run) (added : List Frame) (words : Words) → IsEvent node.rests event ps new
+  pub safe_inside : (event : Received) (ps : List Act) (new : List (List ℕ)) (s : Run) (added : List SentFrame) (words : Words) → IsEvent node.rests event ps new
       → Extends s (all_parts b (run_of b stands.parts) ps) → SafeAt b s (run_of b stands.parts).floor (sent ++ added) words → Safe b (events ++ event ∷ []) (sent ++ added) m words
   safe_inside event ps new s added words reads x a = record {
     parts = stands.parts ++ ps ∷ [];
     rests = new;
     reads = reads_push events event no_rests node.rests new stands.parts ps stands.reads reads;
     count = inr (omega (arith, stands.finished, length-append events (event ∷ [])));
-    finished = omega (arith, ap (λ (l : List (List Part)). length (run_of b l).answers) taken, frames_long (run_of b stands.parts).answers sent stands.at.sent, length-append sent added);
+    finished = omega (arith, ap (λ (l : List (List Act)). length (run_of b l).answers) taken, frames_long (run_of b stands.parts).answers sent stands.at.sent, length-append sent added);
     at = safe_lower b (run_of b (stands.parts ++ ps ∷ [])) (floor_of b (stands.parts ++ ps ∷ []) m) (run_of b stands.parts).floor (sent ++ added) words
-        (omega (arith, floor_of_le b (stands.parts ++ ps ∷ []) m, ap (λ (l : List (List Part)). (run_of b l).floor) taken))
+        (omega (arith, floor_of_le b (stands.parts ++ ps ∷ []) m, ap (λ (l : List (List Act)). (run_of b l).floor) taken))
         (subst (λ (t : Run). SafeAt b t (run_of b stands.parts).floor (sent ++ added) words) (sym (run_of_push b stands.parts ps))
         (safe_extends b s (finish (all_parts b (run_of b stands.parts) ps)) (run_of b stands.parts).floor (sent ++ added) words a (extends_finish s (all_parts b (run_of b stands.parts) ps) x)));
   }

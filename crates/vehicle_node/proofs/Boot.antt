@@ -7,7 +7,7 @@ use Rattle.std.proofs.lemmas.Slice.Eq.{bytes_eq-Decides}
 use Rattle.flash_board.specs.Words.{Words}
 use Rattle.flash_board.specs.declared.board.Board.{Ghosts}
 use Rattle.flash_board.specs.Calls.{Passes, Changes}
-use Rattle.flash_board.specs.Losses.{Frame, Outcome, After, OnWords}
+use Rattle.flash_board.specs.Losses.{SentFrame, Outcome, After, OnWords}
 use Rattle.flash_board.proofs.Moments.{weaker, elapses_of}
 use Rattle.storage_lines.specs.declared.areas.Area.TheVariants.{Param}
 use Rattle.storage_lines.specs.declared.lines.LineWrite.{LineWrite}
@@ -25,12 +25,12 @@ use Rattle.sector_switch.proofs.ImageLaws.{one_value}
 use Rattle.sector_switch.specs.FirstBad.{Place}
 use Rattle.block_store.specs.declared.OpenError.{OpenError}
 use Rattle.block_store.specs.declared.OpenError.TheVariants as open_error
-use Rattle.block_store.specs.Answers.{OnOpenForeign, OnOpenWorn}
+use Rattle.block_store.specs.Refusals.{OnOpenForeign, OnOpenWorn}
 use Rattle.block_store.specs.Store.{Store, durable_of}
 use Rattle.dirty_lines.specs.Lines.{Lines, lines_of, current_of, AreInside}
 use Rattle.vehicle_node.specs.declared.NodeError.{NodeError}
 use Rattle.vehicle_node.specs.declared.NodeError.TheVariants as node_error
-use Rattle.vehicle_node.specs.Answers.{OnForeign, OnWorn}
+use Rattle.vehicle_node.specs.Refusals.{OnForeign, OnWorn}
 use Rattle.vehicle_node.specs.Reading.{no_rests}
 use Rattle.vehicle_node.specs.Runs.{Run, boot, run_of}
 use Rattle.vehicle_node.specs.Safe.{Safe, SafeSince, Adds}
@@ -186,13 +186,13 @@ module _ {B : Type 0} (g : Ghosts B) (reads : (b : B) (o : Outcome) → g.now b 
 
 -- all pending lines are put
 pub closed : {B : Type 0} (g : Ghosts B) (node last : Node) (new : B) → Flushed (length node.lines.pending) node last → last.lines.pending ≡ [] → Fits g new last → g.tells new
-    → (b : List ℕ) (r : Run) (sent : List Frame) → StandsAt node b r sent → Stands (g.words new) (after b r.issued)
+    → (b : List ℕ) (r : Run) (sent : List SentFrame) → StandsAt node b r sent → Stands (g.words new) (after b r.issued)
 closed g node last new w none fits tells b r sent at =
     let all : w.put ≡ node.lines.pending = sym (append-nil w.put) ∙ ap (λ (l : List LineWrite). w.put ++ l) (sym none) ∙ w.split in
     subst (Stands (g.words new)) (w.durable ∙ ap (after (durable_of node.lines.store)) all ∙ current_is node b r sent at) (stands_durable g new last fits tells)
 
 pub closed_at : {B : Type 0} (g : Ghosts B) (result : Result ⊤ NodeError) (node last : Node) (new : B) → OnOk result (Flushed (length node.lines.pending) node last) → OnOk result (last.lines.pending ≡ []) → OnOk result (Fits g new last)
-    → OnOk result (g.tells new → (b : List ℕ) (r : Run) (sent : List Frame) → StandsAt node b r sent → Stands (g.words new) (after b r.issued))
+    → OnOk result (g.tells new → (b : List ℕ) (r : Run) (sent : List SentFrame) → StandsAt node b r sent → Stands (g.words new) (after b r.issued))
 closed_at g (Ok v) node last new w none fits = closed g node last new w none fits
 closed_at g (Err e) node last new w none fits = tt
 

@@ -3,11 +3,11 @@ use Rattle.std.proofs.Common.{◌≡◌, inl, inr, ℕ, ◌+◌, ◌≤◌, List
 use Rattle.std.specs.Prelude.{⊤, OnOk, IsErr}
 use Rattle.std.proofs.lemmas.List.{length-set}
 use Rattle.flash_board.specs.declared.board.Board.{Ghosts}
-use Rattle.flash_board.specs.Losses.{Received, Datagram, Idle, End, Frame, Outcome, Unchanged, Receives, Either}
+use Rattle.flash_board.specs.Losses.{Received, Datagram, Idle, End, SentFrame, Outcome, Unchanged, Receives, Either}
 use Rattle.flash_board.proofs.Moments.{weaker}
 use Rattle.sector_switch.specs.Stands.{Stands}
 use Rattle.block_store.specs.Store.{durable_of}
-use Rattle.vehicle_core.specs.Parts.{Part}
+use Rattle.vehicle_core.specs.Acts.{Act}
 use Rattle.vehicle_node.specs.declared.NodeError.{NodeError}
 use Rattle.vehicle_node.specs.Reading.{no_rests, streams, beats, IsEvent, Reads}
 use Rattle.vehicle_node.specs.Runs.{Run, all_parts, run_of}
@@ -23,7 +23,7 @@ use Rattle.vehicle_node.proofs.Passing.{any_begun, any_then, begun, going_on}
 use Rattle.vehicle_node.proofs.Parts.{at_error, stands_now, inside_more, inside_still, inside_later, answered_none, answered_then}
 
 -- where some first bytes of a datagram were heard, the whole can be read
-pub hearing_takes : FramesAreRead → (station : ℕ) (bytes : List ℕ) (rests : List (List ℕ)) (b : List ℕ) (r : Run) (sent : List Frame) (s o : Outcome) → SafeHearing station bytes rests b r sent s o → SafeTaking (Datagram station bytes) rests b r sent s o
+pub hearing_takes : FramesAreRead → (station : ℕ) (bytes : List ℕ) (rests : List (List ℕ)) (b : List ℕ) (r : Run) (sent : List SentFrame) (s o : Outcome) → SafeHearing station bytes rests b r sent s o → SafeTaking (Datagram station bytes) rests b r sent s o
 hearing_takes read station bytes rests b r sent s o x =
     let more = can_hear_more read station x.first x.more rests x.mid x.said x.heard in
     let all : IsHeard station bytes rests (x.said ++ more.said) more.new = subst (λ (l : List ℕ). IsHeard station l rests (x.said ++ more.said) more.new) x.split (heard_more station x.first x.more rests x.mid more.new x.said more.said x.heard more.heard) in
@@ -104,14 +104,14 @@ module _ {B : Type 0} (g : Ghosts B) where
     done = record { parts = []; reads = (refl, refl); answered = answered_none g node board };
   }
 
-rests_long : (events : List Received) (old new : List (List ℕ)) (parts : List (List Part)) → Reads old events parts new → length new ≡ length old
+rests_long : (events : List Received) (old new : List (List ℕ)) (parts : List (List Act)) → Reads old events parts new → length new ≡ length old
 rests_long [] old new parts a = ap length a.1
 rests_long (Datagram station bytes ∷ es) old new parts a = rests_long es a.1 new a.2 a.4 ∙ ap length a.3.new_is ∙ length-set old station a.3.new_rest
 rests_long (Idle ∷ es) old new parts a = rests_long es a.1 new a.2 a.4 ∙ ap length a.3.1
 rests_long (End ∷ es) old new parts a = rests_long es a.1 new a.2 a.4 ∙ ap length a.3.1
 
 -- what a loss leaves of the run that a node stands for
-module _ (node : Node) (b : List ℕ) (events : List Received) (sent : List Frame) (m : ℕ) (stands : StandsForRun node b events sent m) where
+module _ (node : Node) (b : List ℕ) (events : List Received) (sent : List SentFrame) (m : ℕ) (stands : StandsForRun node b events sent m) where
   -- between two events
   pub since_still : (from o : Outcome) → Adds [] [] from o → Stands o.words (durable_of node.lines.store) → SafeSince b events sent m from o
   since_still from o adds words = record {
@@ -119,7 +119,7 @@ module _ (node : Node) (b : List ℕ) (events : List Received) (sent : List Fram
     events_are = adds.events_are;
     added_frames = [];
     frames_are = adds.frames_are;
-    safe = subst (λ (l : List Received). Safe b l (sent ++ []) m o.words) (sym (append-nil events)) (subst (λ (l : List Frame). Safe b events l m o.words) (sym (append-nil sent))
+    safe = subst (λ (l : List Received). Safe b l (sent ++ []) m o.words) (sym (append-nil events)) (subst (λ (l : List SentFrame). Safe b events l m o.words) (sym (append-nil sent))
         (safe_between node b events sent m stands o.words (safe_still node b (run_of b stands.parts) sent stands.at o.words words)));
   }
 
@@ -129,7 +129,7 @@ module _ (node : Node) (b : List ℕ) (events : List Received) (sent : List Fram
     events_are = a.events ∙ sym (append-nil from.events);
     added_frames = [];
     frames_are = a.frames ∙ sym (append-nil from.frames);
-    safe = subst (λ (l : List Received). Safe b l (sent ++ []) m o.words) (sym (append-nil events)) (subst (λ (l : List Frame). Safe b events l m o.words) (sym (append-nil sent))
+    safe = subst (λ (l : List Received). Safe b l (sent ++ []) m o.words) (sym (append-nil events)) (subst (λ (l : List SentFrame). Safe b events l m o.words) (sym (append-nil sent))
         (safe_between node b events sent m stands o.words (safe_put node b (run_of b stands.parts) sent stands.at a.put a.rest o.words a.split a.stands)));
   }
 
@@ -139,7 +139,7 @@ module _ (node : Node) (b : List ℕ) (events : List Received) (sent : List Fram
     added_events = event ∷ [];
     events_are = x.inside.events_are ∙ adds.events_are;
     added_frames = x.inside.added_frames;
-    frames_are = x.inside.frames_are ∙ ap (λ (l : List Frame). l ++ x.inside.added_frames) (adds.frames_are ∙ append-nil from.frames);
+    frames_are = x.inside.frames_are ∙ ap (λ (l : List SentFrame). l ++ x.inside.added_frames) (adds.frames_are ∙ append-nil from.frames);
     safe = safe_inside node b events sent m stands event x.parts x.new_rests (all_parts b (run_of b stands.parts) x.parts) x.inside.added_frames o.words x.reads (extends_same (all_parts b (run_of b stands.parts) x.parts)) x.inside.safe;
   }
 
@@ -163,7 +163,7 @@ module _ (node : Node) (b : List ℕ) (events : List Received) (sent : List Fram
       can = event_any read event node.rests in_range (rests_long events no_rests node.rests stands.parts stands.reads)
 
   -- behind the last byte, while lines are put
-  pub since_flushing : (event : Received) (parts : List Part) (mid : Node) (frames : List Frame) → IsEvent node.rests event parts mid.rests → StandsAt mid b (all_parts b (run_of b stands.parts) parts) (sent ++ frames)
+  pub since_flushing : (event : Received) (parts : List Act) (mid : Node) (frames : List SentFrame) → IsEvent node.rests event parts mid.rests → StandsAt mid b (all_parts b (run_of b stands.parts) parts) (sent ++ frames)
       → (from between o : Outcome) → Adds (event ∷ []) frames from between → Flushing mid between o → SafeSince b events sent m from o
   since_flushing event parts mid frames reads at from between o adds a =
       let r = run_of b stands.parts in
@@ -178,7 +178,7 @@ module _ (node : Node) (b : List ℕ) (events : List Received) (sent : List Fram
       }
 
   -- the event is finished
-  pub stands_for_more : (event : Received) (parts : List Part) (mid : Node) (frames : List Frame) (new : Node) → IsEvent node.rests event parts mid.rests → StandsAt mid b (all_parts b (run_of b stands.parts) parts) (sent ++ frames)
+  pub stands_for_more : (event : Received) (parts : List Act) (mid : Node) (frames : List SentFrame) (new : Node) → IsEvent node.rests event parts mid.rests → StandsAt mid b (all_parts b (run_of b stands.parts) parts) (sent ++ frames)
       → (n : ℕ) → 8 ≤ n → Flushed n mid new → StandsForRun new b (events ++ event ∷ []) (sent ++ frames) (m + 1)
   stands_for_more event parts mid frames new reads at n eight w = record {
     parts = stands.parts ++ parts ∷ [];
@@ -188,7 +188,7 @@ module _ (node : Node) (b : List ℕ) (events : List Received) (sent : List Fram
   }
 
 -- a finished event, and what a loss then leaves
-pub since_finished : (new : Node) (b : List ℕ) (events : List Received) (sent : List Frame) (m : ℕ) (event : Received) (frames : List Frame) → StandsForRun new b (events ++ event ∷ []) (sent ++ frames) (m + 1)
+pub since_finished : (new : Node) (b : List ℕ) (events : List Received) (sent : List SentFrame) (m : ℕ) (event : Received) (frames : List SentFrame) → StandsForRun new b (events ++ event ∷ []) (sent ++ frames) (m + 1)
     → (from o : Outcome) → Adds (event ∷ []) frames from o → Stands o.words (durable_of new.lines.store) → SafeSince b events sent (m + 1) from o
 since_finished new b events sent m event frames stands from o adds words = record {
   added_events = event ∷ [];

@@ -4,7 +4,7 @@ use Rattle.std.specs.Prelude.{slice_index}
 use Rattle.std.proofs.lemmas.List.{append-nil}
 use Rattle.std.proofs.lemmas.List.Sums.{fold-append}
 use Rattle.flash_board.specs.declared.board.Board.{Ghosts}
-use Rattle.flash_board.specs.Losses.{Frame, frame, Outcome, After, Either, Unchanged, Sends, ByResult}
+use Rattle.flash_board.specs.Losses.{SentFrame, sent_frame, Outcome, After, Either, Unchanged, Sends, ByResult}
 use Rattle.flash_board.specs.Calls.{Passes}
 use Rattle.flash_board.proofs.Moments.{weaker, chained, up_to_self}
 use Rattle.vehicle_core.specs.Vehicle.{Vehicle, Content, is_version_two}
@@ -22,27 +22,27 @@ machine_is m n vehicle sequences =
     ∙ ap (λ (s : List ℕ). let a : Machine = record { vehicle = n.vehicle; sequences = s } in a) sequences
 
 -- the frames of some answers and then of others
-pub frames-append : (xs ys : List Answer) (us vs : List Frame) → AreFramesOf xs us → AreFramesOf ys vs → AreFramesOf (xs ++ ys) (us ++ vs)
+pub frames-append : (xs ys : List Answer) (us vs : List SentFrame) → AreFramesOf xs us → AreFramesOf ys vs → AreFramesOf (xs ++ ys) (us ++ vs)
 frames-append [] ys [] vs front back = back
 frames-append [] ys (u ∷ us) vs front back = absurd front
 frames-append (x ∷ xs) ys [] vs front back = absurd front
 frames-append (x ∷ xs) ys (u ∷ us) vs front back = (front.0, frames-append xs ys us vs front.1 back)
 
 -- all of some answers, and the first of others
-pub frames_over : (xs ys : List Answer) (us vs : List Frame) → AreFramesOf xs us → AreFramesOf (take (length vs) ys) vs → AreFramesOf (take (length (us ++ vs)) (xs ++ ys)) (us ++ vs)
+pub frames_over : (xs ys : List Answer) (us vs : List SentFrame) → AreFramesOf xs us → AreFramesOf (take (length vs) ys) vs → AreFramesOf (take (length (us ++ vs)) (xs ++ ys)) (us ++ vs)
 frames_over [] ys [] vs front back = back
 frames_over [] ys (u ∷ us) vs front back = absurd front
 frames_over (x ∷ xs) ys [] vs front back = absurd front
 frames_over (x ∷ xs) ys (u ∷ us) vs front back = (front.0, frames_over xs ys us vs front.1 back)
 
 -- the first of some answers, with others behind them
-pub frames_front : (xs ys : List Answer) (us : List Frame) → AreFramesOf (take (length us) xs) us → AreFramesOf (take (length us) (xs ++ ys)) us
+pub frames_front : (xs ys : List Answer) (us : List SentFrame) → AreFramesOf (take (length us) xs) us → AreFramesOf (take (length us) (xs ++ ys)) us
 frames_front xs ys [] first = tt
 frames_front [] ys (u ∷ us) first = absurd first
 frames_front (x ∷ xs) ys (u ∷ us) first = (first.0, frames_front xs ys us first.1)
 
 -- all are the first
-pub frames_all : (xs : List Answer) (us : List Frame) → AreFramesOf xs us → AreFramesOf (take (length us) xs) us
+pub frames_all : (xs : List Answer) (us : List SentFrame) → AreFramesOf xs us → AreFramesOf (take (length us) xs) us
 frames_all [] [] all = tt
 frames_all [] (u ∷ us) all = absurd all
 frames_all (x ∷ xs) [] all = absurd all
@@ -69,7 +69,7 @@ sent_as v w p q m xs ys version sequence bytes sent =
 
 -- the frame of one delivery
 pub delivered : (old node : Node) (to : ℕ) (content : Content) (m : Message) (v : Bool) (xs ys : List ℕ) → old ≡ node → Tells content m → v ≡ is_version_two old.machine.vehicle to
-    → ys ≡ xs → IsSent v (slice_index old.machine.sequences to) 1 1 m xs → AreFramesOf (answers_of node.machine (delivery to content ∷ [])) (frame to ys ∷ [])
+    → ys ≡ xs → IsSent v (slice_index old.machine.sequences to) 1 1 m xs → AreFramesOf (answers_of node.machine (delivery to content ∷ [])) (sent_frame to ys ∷ [])
 delivered old node to content m v xs ys is tells version bytes sent = (
   record {
     peer = refl;
@@ -81,7 +81,7 @@ delivered old node to content m v xs ys is tells version bytes sent = (
   tt,
 )
 
-module _ (answers : List Answer) (f : Frame) (is : AreFramesOf answers (f ∷ [])) where
+module _ (answers : List Answer) (f : SentFrame) (is : AreFramesOf answers (f ∷ [])) where
   sends_one : (s o : Outcome) → Sends f s o → SendsFirst answers s o
   sends_one s o step = record {
     words = ap (λ (o : Outcome). o.words) step;
@@ -112,7 +112,7 @@ module _ (answers : List Answer) (f : Frame) (is : AreFramesOf answers (f ∷ []
   one_losses g r time = weaker (SendsFirst answers) (SendsFirst answers) time (λ s o now step. sends_maybe s o step) (λ s o now step. sends_so r s o step)
 
 module _ {B : Type 0} (g : Ghosts B) where
-  pub one_here : (f : Frame) (a b : B) → ((o : Outcome) → g.now b o → After (g.now a) (Sends f) o) → (o : Outcome) → g.now b o → After (g.now a) (SendsFrames (f ∷ [])) o
+  pub one_here : (f : SentFrame) (a b : B) → ((o : Outcome) → g.now b o → After (g.now a) (Sends f) o) → (o : Outcome) → g.now b o → After (g.now a) (SendsFrames (f ∷ [])) o
   one_here f a b here o now =
       let at = here o now in
       record {
@@ -130,7 +130,7 @@ module _ {B : Type 0} (g : Ghosts B) where
   sent_none node b = record {
     frames = [];
     sent = record { lines = refl; machine = refl; rests = refl; frames_are = tt; frame_count = omega arith; line_count = refl };
-    lists = λ e f stood. subst (λ (l : List Frame). g.stands b e l) (sym (append-nil f)) stood;
+    lists = λ e f stood. subst (λ (l : List SentFrame). g.has_lists b e l) (sym (append-nil f)) stood;
     here = λ o now. record { from = o; was = now; steps = record { words = refl; events = refl; frames_are = sym (append-nil o.frames) } };
     receptions = refl;
   }
@@ -162,7 +162,7 @@ module _ {B : Type 0} (g : Ghosts B) where
             ∙ ap (λ (n : ℕ). raised_by old.frames n) (sym (length-append first.frames second.frames));
         line_count = second.sent.line_count ∙ first.sent.line_count;
       };
-      lists = λ e f stood. subst (λ (l : List Frame). g.stands c e l) (append_assoc f first.frames second.frames) (second.lists e (f ++ first.frames) (first.lists e f stood));
+      lists = λ e f stood. subst (λ (l : List SentFrame). g.has_lists c e l) (append_assoc f first.frames second.frames) (second.lists e (f ++ first.frames) (first.lists e f stood));
       here = λ o now.
           let n = second.here o now in
           let m = first.here n.from n.was in
@@ -172,7 +172,7 @@ module _ {B : Type 0} (g : Ghosts B) where
             steps = record {
               words = n.steps.words ∙ m.steps.words;
               events = n.steps.events ∙ m.steps.events;
-              frames_are = n.steps.frames_are ∙ ap (λ (l : List Frame). l ++ second.frames) m.steps.frames_are ∙ append_assoc m.from.frames first.frames second.frames;
+              frames_are = n.steps.frames_are ∙ ap (λ (l : List SentFrame). l ++ second.frames) m.steps.frames_are ∙ append_assoc m.from.frames first.frames second.frames;
             };
           };
       receptions = second.receptions ∙ first.receptions;
@@ -183,7 +183,7 @@ module _ {B : Type 0} (g : Ghosts B) where
       words = some.words ∙ all.words;
       events = some.events ∙ all.events;
       sent = first.frames ++ some.sent;
-      frames = some.frames ∙ ap (λ (l : List Frame). l ++ some.sent) all.frames_are ∙ append_assoc s.frames first.frames some.sent;
+      frames = some.frames ∙ ap (λ (l : List SentFrame). l ++ some.sent) all.frames_are ∙ append_assoc s.frames first.frames some.sent;
       first = subst (λ (l : List Answer). AreFramesOf (take (length (first.frames ++ some.sent)) l) (first.frames ++ some.sent)) answers_mid
           (frames_over (answers_of old.machine xs) (answers_of mid.machine ys) first.frames some.sent first.sent.frames_are some.first);
     }

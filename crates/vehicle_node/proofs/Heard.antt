@@ -3,14 +3,14 @@ use Rattle.std.proofs.Common.{◌≡◌, inl, inr, ℕ, ◌+◌, ◌<◌, arith,
 use Rattle.std.specs.Prelude.{⊤, IsOk, IsErr, MatchOption, slice_get, slice_set, option_to_list}
 use Rattle.std.proofs.lemmas.List.{take_more}
 use Rattle.flash_board.specs.declared.board.Board.{Ghosts}
-use Rattle.flash_board.specs.Losses.{Frame, Outcome}
+use Rattle.flash_board.specs.Losses.{SentFrame, Outcome}
 use Rattle.flash_board.proofs.Moments.{weaker}
 use Rattle.mav_frames.specs.Cut.{Pushes}
 use Rattle.mav_frames.specs.Frames.{is_v2, IsReadFrom}
-use Rattle.mav_frames.specs.declared.frames.Frame.{Frame as Read}
+use Rattle.mav_frames.specs.declared.frames.Frame.{SentFrame as Read}
 use Rattle.dirty_lines.specs.Lines.{Lines}
 use Rattle.vehicle_core.specs.Vehicle.{Asked}
-use Rattle.vehicle_core.specs.Parts.{Part, Said}
+use Rattle.vehicle_core.specs.Acts.{Act, Said}
 use Rattle.vehicle_node.specs.declared.NodeError.{NodeError}
 use Rattle.vehicle_node.specs.Reading.{Says, AreSaid}
 use Rattle.vehicle_node.specs.Runs.{Run, all_parts}
@@ -23,7 +23,7 @@ use Rattle.vehicle_node.proofs.Readings.{heard_nothing, heard_more}
 use Rattle.vehicle_node.proofs.Passing.{any_begun, any_of, any_then, begun, going_on}
 use Rattle.vehicle_node.proofs.Parts.{on_ok, at_error, stands_now, inside_still, inside_answering, inside_later, answered_none, answered_one, answered_then}
 
-heard_push : (station byte : ℕ) (frame : Option (List ℕ)) (old new : List (List ℕ)) (said : List Part) → Pushed station byte frame old new → AreSaid station (option_to_list frame) said → IsHeard station (byte ∷ []) old said new
+heard_push : (station byte : ℕ) (frame : Option (List ℕ)) (old new : List (List ℕ)) (said : List Act) → Pushed station byte frame old new → AreSaid station (option_to_list frame) said → IsHeard station (byte ∷ []) old said new
 heard_push station byte frame old new said p are = record {
   rest = p.rest;
   rest_is = p.rest_is;
@@ -34,10 +34,10 @@ heard_push station byte frame old new said p are = record {
   new_is = p.new_is;
 }
 
-same_stands : (old new : Node) → KeepsButRests old new → (b : List ℕ) (r : Run) (sent : List Frame) → StandsAt old b r sent → StandsAt new b r sent
+same_stands : (old new : Node) → KeepsButRests old new → (b : List ℕ) (r : Run) (sent : List SentFrame) → StandsAt old b r sent → StandsAt new b r sent
 same_stands old new same b r sent at = stands_same old b r sent at new same.machine same.lines same.frames same.issued
 
-answered_from : {B : Type 0} (g : Ghosts B) (old mid : Node) (board : B) (ps : List Part) (new : Node) (last : B) → KeepsButRests old mid → AnsweredAll g mid board ps new last → AnsweredAll g old board ps new last
+answered_from : {B : Type 0} (g : Ghosts B) (old mid : Node) (board : B) (ps : List Act) (new : Node) (last : B) → KeepsButRests old mid → AnsweredAll g mid board ps new last → AnsweredAll g old board ps new last
 answered_from g old mid board ps new last same a = record {
   frames = a.frames;
   stands = λ b r sent at. a.stands b r sent (same_stands old mid same b r sent at);
@@ -81,8 +81,8 @@ module _ {B : Type 0} (g : Ghosts B) (reads : (b : B) (o : Outcome) → g.now b 
   hear_says old mid board station byte bytes asked result new last same p says d =
       let said = Said station (is_v2 bytes) asked in
       let heard = heard_push station byte (Some bytes) old.rests mid.rests (said ∷ []) p (inr (asked, [], says, refl, refl)) in
-      let S : (b : List ℕ) (r : Run) (sent : List Frame) → Outcome → Outcome → Type 0 = λ b r sent. SafeHearing station (byte ∷ []) old.rests b r sent in
-      let inside : (b : List ℕ) (r : Run) (sent : List Frame) → StandsAt old b r sent → (s o : Outcome) → Answering mid said s o → S b r sent s o =
+      let S : (b : List ℕ) (r : Run) (sent : List SentFrame) → Outcome → Outcome → Type 0 = λ b r sent. SafeHearing station (byte ∷ []) old.rests b r sent in
+      let inside : (b : List ℕ) (r : Run) (sent : List SentFrame) → StandsAt old b r sent → (s o : Outcome) → Answering mid said s o → S b r sent s o =
       λ b r sent at s o is. record {
         first = byte ∷ [];
         more = [];
@@ -121,7 +121,7 @@ module _ {B : Type 0} (g : Ghosts B) (reads : (b : B) (o : Outcome) → g.now b 
     | inr says ↦ hear_says old mid board station byte bytes says.0 result new last same p says.1 says.2
   ]
 
-hearing_sooner : (station : ℕ) (xs ys : List ℕ) (rests : List (List ℕ)) (b : List ℕ) (r : Run) (sent : List Frame) (s o : Outcome) → SafeHearing station xs rests b r sent s o → SafeHearing station (xs ++ ys) rests b r sent s o
+hearing_sooner : (station : ℕ) (xs ys : List ℕ) (rests : List (List ℕ)) (b : List ℕ) (r : Run) (sent : List SentFrame) (s o : Outcome) → SafeHearing station xs rests b r sent s o → SafeHearing station (xs ++ ys) rests b r sent s o
 hearing_sooner station xs ys rests b r sent s o x = record {
   first = x.first;
   more = x.more ++ ys;

@@ -4,7 +4,7 @@ use Rattle.std.specs.Prelude.{⊤, IsErr}
 use Rattle.std.proofs.lemmas.List.{append-nil}
 use Rattle.flash_board.specs.declared.board.Board.{Ghosts}
 use Rattle.flash_board.specs.Words.{Words, IsSectorSize}
-use Rattle.flash_board.specs.Losses.{Frame, Outcome, KeepsWords}
+use Rattle.flash_board.specs.Losses.{SentFrame, Outcome, KeepsWords}
 use Rattle.flash_board.specs.Calls.{Passes}
 use Rattle.flash_board.proofs.Moments.{weaker, chained}
 use Rattle.storage_lines.specs.declared.lines.LineWrite.{LineWrite}
@@ -16,7 +16,7 @@ use Rattle.block_store.specs.Store.{Store, State, Alone, Spilled, Spent, durable
 use Rattle.block_store.specs.Store as store
 use Rattle.dirty_lines.specs.Lines.{Lines}
 use Rattle.vehicle_core.specs.Vehicle.{Vehicle}
-use Rattle.vehicle_core.specs.Parts.{Part}
+use Rattle.vehicle_core.specs.Acts.{Act}
 use Rattle.vehicle_node.specs.declared.NodeError.{NodeError}
 use Rattle.vehicle_node.specs.Frames.{Answer, Delivery, deliveries, AreFramesOf}
 use Rattle.vehicle_node.specs.Inside.{view_of}
@@ -94,7 +94,7 @@ module _ {B : Type 0} (g : Ghosts B) where
     sends s m o now added some = record {
       events = some.events ∙ added.events_are ∙ append-nil s.events;
       sent = some.sent;
-      frames = some.frames ∙ ap (λ (l : List Frame). l ++ some.sent) (added.frames_are ∙ append-nil s.frames);
+      frames = some.frames ∙ ap (λ (l : List SentFrame). l ++ some.sent) (added.frames_are ∙ append-nil s.frames);
       first = subst (λ (l : List Answer). AreFramesOf (take (length some.sent) l) some.sent) same some.first;
       put = i.issued.put;
       rest = mid.lines.pending;
@@ -140,7 +140,7 @@ module _ {B : Type 0} (g : Ghosts B) where
                 was = m.was;
                 steps = record {
                   events_are = n.steps.events ∙ m.steps.events_are;
-                  frames_are = n.steps.frames_are ∙ ap (λ (l : List Frame). l ++ d.frames) (m.steps.frames_are ∙ append-nil m.from.frames);
+                  frames_are = n.steps.frames_are ∙ ap (λ (l : List SentFrame). l ++ d.frames) (m.steps.frames_are ∙ append-nil m.from.frames);
                 };
               };
           receptions = d.receptions ∙ i.receptions;
@@ -150,7 +150,7 @@ module _ {B : Type 0} (g : Ghosts B) where
   abbrev pub with_vehicle : Node → Vehicle → Node
   with_vehicle node vehicle = record { lines = node.lines; machine = record { vehicle = vehicle; sequences = node.machine.sequences }; rests = node.rests; frames = node.frames; issued = node.issued }
 
-  pub part_done : (old : Node) (p : Part) (a : B) (r : Result ⊤ NodeError) (new : Node) (c : B)
+  pub part_done : (old : Node) (p : Act) (a : B) (r : Result ⊤ NodeError) (new : Node) (c : B)
       → AnswerDone g (did_at old p).writes (deliveries_at old p) (with_vehicle old (did_at old p).vehicle) a r new c → PartDone g old a p r new c
   part_done old p a r new c d = record {
     losses = weaker (Answering old p) (Answering old p) d.losses (λ s o now step. cut s o step) (λ s o now step. cut s o step);
@@ -193,7 +193,7 @@ module _ {B : Type 0} (g : Ghosts B) where
       }
 
   -- the same of what a node has inside
-  pub part_of : (s : Inside) (node : Node) (p : Part) (core : Vehicle) (writes : List LineWrite) (a : B) (r : Result ⊤ NodeError) (new : Node) (c : B)
+  pub part_of : (s : Inside) (node : Node) (p : Act) (core : Vehicle) (writes : List LineWrite) (a : B) (r : Result ⊤ NodeError) (new : Node) (c : B)
       → view_of s ≡ node → core ≡ (did_at (view_of s) p).vehicle → writes ≡ (did_at (view_of s) p).writes
       → AnswerDone g writes (deliveries core (did_at (view_of s) p).told) (view_of (record s { core = core })) a r new c
       → PartDone g node a p r new c

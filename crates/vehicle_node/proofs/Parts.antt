@@ -5,14 +5,14 @@ use Rattle.std.proofs.lemmas.List.{take_more}
 use Rattle.std.proofs.lemmas.List.FromFn.{get_or-map-range_with_len}
 use Rattle.flash_board.specs.Words.{Words}
 use Rattle.flash_board.specs.declared.board.Board.{Ghosts}
-use Rattle.flash_board.specs.Losses.{Frame, Outcome}
+use Rattle.flash_board.specs.Losses.{SentFrame, Outcome}
 use Rattle.flash_board.proofs.Moments.{weaker}
 use Rattle.storage_lines.specs.declared.lines.LineWrite.{LineWrite}
 use Rattle.sector_switch.specs.Images.{Bytes}
 use Rattle.sector_switch.specs.Stands.{Stands}
 use Rattle.sector_switch.proofs.OneLogLemmas.{stands_alone}
 use Rattle.block_store.specs.Store.{State, Alone, Spilled, Spent, FitsState, alone, durable_of}
-use Rattle.vehicle_core.specs.Parts.{Part}
+use Rattle.vehicle_core.specs.Acts.{Act}
 use Rattle.vehicle_node.specs.declared.NodeError.{NodeError}
 use Rattle.vehicle_node.specs.Frames.{stations}
 use Rattle.vehicle_node.specs.Runs.{Run, part, all_parts}
@@ -49,7 +49,7 @@ module _ {B : Type 0} (g : Ghosts B) (reads : (b : B) (o : Outcome) → g.now b 
       subst (λ (w : Words). Stands w (durable_of node.lines.store)) (sym tell.1) (stands_durable g board node fits tell.0)
 
 -- what is safe inside an event
-pub inside_more : (b : List ℕ) (r s : Run) (floor : ℕ) (sent : List Frame) (from o : Outcome) → Extends r s → SafeInside b r floor sent from o → SafeInside b s floor sent from o
+pub inside_more : (b : List ℕ) (r s : Run) (floor : ℕ) (sent : List SentFrame) (from o : Outcome) → Extends r s → SafeInside b r floor sent from o → SafeInside b s floor sent from o
 inside_more b r s floor sent from o x a = record {
   events_are = a.events_are;
   added_frames = a.added_frames;
@@ -57,15 +57,15 @@ inside_more b r s floor sent from o x a = record {
   safe = safe_extends b r s floor (sent ++ a.added_frames) o.words a.safe x;
 }
 
-pub inside_still : (node : Node) (b : List ℕ) (r : Run) (sent : List Frame) → StandsAt node b r sent → (o : Outcome) → Stands o.words (durable_of node.lines.store) → SafeInside b r r.floor sent o o
+pub inside_still : (node : Node) (b : List ℕ) (r : Run) (sent : List SentFrame) → StandsAt node b r sent → (o : Outcome) → Stands o.words (durable_of node.lines.store) → SafeInside b r r.floor sent o o
 inside_still node b r sent at o stands = record {
   events_are = refl;
   added_frames = [];
   frames_are = sym (append-nil o.frames);
-  safe = subst (λ (l : List Frame). SafeAt b r r.floor l o.words) (sym (append-nil sent)) (safe_still node b r sent at o.words stands);
+  safe = subst (λ (l : List SentFrame). SafeAt b r r.floor l o.words) (sym (append-nil sent)) (safe_still node b r sent at o.words stands);
 }
 
-pub inside_answering : (node : Node) (b : List ℕ) (r : Run) (sent : List Frame) (p : Part) → StandsAt node b r sent → (from o : Outcome) → Answering node p from o → SafeInside b (part b r p) r.floor sent from o
+pub inside_answering : (node : Node) (b : List ℕ) (r : Run) (sent : List SentFrame) (p : Act) → StandsAt node b r sent → (from o : Outcome) → Answering node p from o → SafeInside b (part b r p) r.floor sent from o
 inside_answering node b r sent p at from o a = record {
   events_are = a.events;
   added_frames = a.sent;
@@ -74,13 +74,13 @@ inside_answering node b r sent p at from o a = record {
 }
 
 -- behind parts that were answered
-pub inside_later : (b : List ℕ) (r s : Run) (floor : ℕ) (sent frames : List Frame) (from mid o : Outcome) → r.floor ≡ floor → Adds [] frames from mid → SafeInside b s r.floor (sent ++ frames) mid o → SafeInside b s floor sent from o
+pub inside_later : (b : List ℕ) (r s : Run) (floor : ℕ) (sent frames : List SentFrame) (from mid o : Outcome) → r.floor ≡ floor → Adds [] frames from mid → SafeInside b s r.floor (sent ++ frames) mid o → SafeInside b s floor sent from o
 inside_later b r s floor sent frames from mid o same adds a = record {
   events_are = a.events_are ∙ adds.events_are ∙ append-nil from.events;
   added_frames = frames ++ a.added_frames;
-  frames_are = a.frames_are ∙ ap (λ (l : List Frame). l ++ a.added_frames) adds.frames_are ∙ append_assoc from.frames frames a.added_frames;
+  frames_are = a.frames_are ∙ ap (λ (l : List SentFrame). l ++ a.added_frames) adds.frames_are ∙ append_assoc from.frames frames a.added_frames;
   safe = subst (λ (n : ℕ). SafeAt b s n (sent ++ (frames ++ a.added_frames)) o.words) same
-      (subst (λ (l : List Frame). SafeAt b s r.floor l o.words) (append_assoc sent frames a.added_frames) a.safe);
+      (subst (λ (l : List SentFrame). SafeAt b s r.floor l o.words) (append_assoc sent frames a.added_frames) a.safe);
 }
 
 empty_front : (xs ys : List LineWrite) → xs ≡ [] → xs ++ ys ≡ ys
@@ -99,7 +99,7 @@ module _ {B : Type 0} (g : Ghosts B) where
   answered_none node board = record {
     frames = [];
     stands = λ b r sent at. subst (StandsAt node b r) (sym (append-nil sent)) at;
-    lists = λ e f here. subst (g.stands board e) (sym (append-nil f)) here;
+    lists = λ e f here. subst (g.has_lists board e) (sym (append-nil f)) here;
     here = λ o is. record { from = o; was = is; steps = adds_none g o };
     receptions = refl;
     issued = [];
@@ -108,7 +108,7 @@ module _ {B : Type 0} (g : Ghosts B) where
     few = λ few. refl;
   }
 
-  pub answered_one : (old : Node) (board : B) (p : Part) (new : Node) (last : B) → Done g old board p new last → AnsweredAll g old board (p ∷ []) new last
+  pub answered_one : (old : Node) (board : B) (p : Act) (new : Node) (last : B) → Done g old board p new last → AnsweredAll g old board (p ∷ []) new last
   answered_one old board p new last d = record {
     frames = d.frames;
     stands = λ b r sent at. stands_answered old b r sent at p d.frames new d.answered;
@@ -121,7 +121,7 @@ module _ {B : Type 0} (g : Ghosts B) where
     few = λ few. d.answered.few (omega (arith, few));
   }
 
-  pub answered_then : (old : Node) (board : B) (ps : List Part) (mid : Node) (mid_board : B) (qs : List Part) (new : Node) (last : B)
+  pub answered_then : (old : Node) (board : B) (ps : List Act) (mid : Node) (mid_board : B) (qs : List Act) (new : Node) (last : B)
       → AnsweredAll g old board ps mid mid_board → AnsweredAll g mid mid_board qs new last → AnsweredAll g old board (ps ++ qs) new last
   answered_then old board ps mid mid_board qs new last first second = record {
     frames = first.frames ++ second.frames;
@@ -129,7 +129,7 @@ module _ {B : Type 0} (g : Ghosts B) where
         subst (λ (s : Run). StandsAt new b s (sent ++ (first.frames ++ second.frames))) (sym (all_parts-append b r ps qs))
         (subst (StandsAt new b (all_parts b (all_parts b r ps) qs)) (append_assoc sent first.frames second.frames)
         (second.stands b (all_parts b r ps) (sent ++ first.frames) (first.stands b r sent at)));
-    lists = λ e f here. subst (g.stands last e) (append_assoc f first.frames second.frames) (second.lists e (f ++ first.frames) (first.lists e f here));
+    lists = λ e f here. subst (g.has_lists last e) (append_assoc f first.frames second.frames) (second.lists e (f ++ first.frames) (first.lists e f here));
     here = adds_both g [] [] first.frames second.frames first.here second.here;
     receptions = second.receptions ∙ first.receptions;
     issued = first.issued ++ second.issued;
@@ -153,7 +153,7 @@ module _ {B : Type 0} (g : Ghosts B) where
     done = answered_none node board;
   }
 
-  pub parts_one : (old : Node) (board : B) (p : Part) (result : Result ⊤ NodeError) (new : Node) (last : B) → PartDone g old board p result new last → PartsDone g old board (p ∷ []) result new last
+  pub parts_one : (old : Node) (board : B) (p : Act) (result : Result ⊤ NodeError) (new : Node) (last : B) → PartDone g old board p result new last → PartsDone g old board (p ∷ []) result new last
   parts_one old board p result new last d = record {
     passes = any_of g d.losses;
     losses = λ b r sent at. weaker (SafeInside b (part b r p) r.floor sent) (SafeInside b (part b r p) r.floor sent) d.losses
@@ -162,7 +162,7 @@ module _ {B : Type 0} (g : Ghosts B) where
     done = on_ok result (Done g old board p new last) (AnsweredAll g old board (p ∷ []) new last) (answered_one old board p new last) d.done;
   }
 
-  pub parts_then : (old : Node) (board : B) (ps : List Part) (mid : Node) (mid_board : B) (qs : List Part) (result : Result ⊤ NodeError) (new : Node) (last : B)
+  pub parts_then : (old : Node) (board : B) (ps : List Act) (mid : Node) (mid_board : B) (qs : List Act) (result : Result ⊤ NodeError) (new : Node) (last : B)
       → PartsDone g old board ps (Ok tt) mid mid_board → PartsDone g mid mid_board qs result new last → PartsDone g old board (ps ++ qs) result new last
   parts_then old board ps mid mid_board qs result new last first second = record {
     passes = any_then g first.passes second.passes;
@@ -181,11 +181,11 @@ module _ {B : Type 0} (g : Ghosts B) where
   }
 
   -- some first ones of the parts
-  pub parts_front : (old : Node) (board : B) (ps qs all : List Part) (e : NodeError) (result : Result ⊤ NodeError) (new : Node) (last : B) → ps ++ qs ≡ all → IsErr result → PartsDone g old board ps (Err e) new last → PartsDone g old board all result new last
+  pub parts_front : (old : Node) (board : B) (ps qs all : List Act) (e : NodeError) (result : Result ⊤ NodeError) (new : Node) (last : B) → ps ++ qs ≡ all → IsErr result → PartsDone g old board ps (Err e) new last → PartsDone g old board all result new last
   parts_front old board ps qs all e result new last is err d = at_error (λ t. PartsDone g old board all t new last) result err (λ _. record {
     passes = d.passes;
     losses = λ b r sent at.
-        let more : Extends (all_parts b r ps) (all_parts b r all) = subst (λ (l : List Part). Extends (all_parts b r ps) (all_parts b r l)) is (extends_more b r ps qs) in
+        let more : Extends (all_parts b r ps) (all_parts b r all) = subst (λ (l : List Act). Extends (all_parts b r ps) (all_parts b r l)) is (extends_more b r ps qs) in
         weaker (SafeInside b (all_parts b r all) r.floor sent) (SafeInside b (all_parts b r all) r.floor sent) (d.losses b r sent at)
         (λ s o is. inside_more b (all_parts b r ps) (all_parts b r all) r.floor sent s o more) (λ s o is. inside_more b (all_parts b r ps) (all_parts b r all) r.floor sent s o more);
     rests = tt;
@@ -193,15 +193,15 @@ module _ {B : Type 0} (g : Ghosts B) where
   })
 
   -- each station in its turn
-  module _ (turn : ℕ → Part) (old : Node) (board : B) (at : ℕ) (lt : at < 8) (mid : Node) (mid_board : B) (result : Result ⊤ NodeError) (new : Node) (last : B) where
+  module _ (turn : ℕ → Act) (old : Node) (board : B) (at : ℕ) (lt : at < 8) (mid : Node) (mid_board : B) (result : Result ⊤ NodeError) (new : Node) (last : B) where
     more : take (at + 1) (map turn stations) ≡ take at (map turn stations) ++ turn at ∷ []
-    more = take_more (map turn stations) at (turn 0) lt ∙ ap (λ (p : Part). take at (map turn stations) ++ p ∷ []) (get_or-map-range_with_len turn 0 8 at at (turn 0) lt (omega arith))
+    more = take_more (map turn stations) at (turn 0) lt ∙ ap (λ (p : Act). take at (map turn stations) ++ p ∷ []) (get_or-map-range_with_len turn 0 8 at at (turn 0) lt (omega arith))
 
     pub turns_more : PartsDone g old board (take at (map turn stations)) (Ok tt) mid mid_board → PartDone g mid mid_board (turn at) result new last → PartsDone g old board (take (at + 1) (map turn stations)) result new last
-    turns_more first second = subst (λ (l : List Part). PartsDone g old board l result new last) (sym more)
+    turns_more first second = subst (λ (l : List Act). PartsDone g old board l result new last) (sym more)
         (parts_then old board (take at (map turn stations)) mid mid_board (turn at ∷ []) result new last first (parts_one mid mid_board (turn at) result new last second))
 
-  pub turns_cut : (turn : ℕ → Part) (old : Node) (board : B) (at : ℕ) → at < 8 → (mid : Node) (mid_board : B) (e : NodeError) (result : Result ⊤ NodeError) (new : Node) (last : B) → IsErr result
+  pub turns_cut : (turn : ℕ → Act) (old : Node) (board : B) (at : ℕ) → at < 8 → (mid : Node) (mid_board : B) (e : NodeError) (result : Result ⊤ NodeError) (new : Node) (last : B) → IsErr result
       → PartsDone g old board (take at (map turn stations)) (Ok tt) mid mid_board → PartDone g mid mid_board (turn at) (Err e) new last → PartsDone g old board (map turn stations) result new last
   turns_cut turn old board at lt mid mid_board e result new last err first second =
       parts_front old board (take (at + 1) (map turn stations)) (drop (at + 1) (map turn stations)) (map turn stations) e result new last (take-append-drop (at + 1) (map turn stations)) err

@@ -2,7 +2,7 @@
 use Rattle.std.proofs.Common.{◌≡◌, inl, ⊎_elim, List, [], ◌++◌, sym, ◌∙◌, ap, append_assoc, append-nil}
 use Rattle.flash_board.specs.declared.board.Board.{Ghosts}
 use Rattle.flash_board.specs.Calls.{Passes}
-use Rattle.flash_board.specs.Losses.{Received, Frame, Outcome, After}
+use Rattle.flash_board.specs.Losses.{Received, SentFrame, Outcome, After}
 use Rattle.flash_board.proofs.Moments.{up_to_self, chained, weaker}
 use Rattle.vehicle_node.specs.Safe.{Adds, Anything}
 
@@ -21,7 +21,7 @@ module _ {B : Type 0} (g : Ghosts B) where
   ending step first here = record { later = first.later; inside = first.inside; here = here; keeps = first.keeps }
 
   -- calls that have added so much, and one more
-  pub going_on : {a b c : B} {done lost : Outcome → Outcome → Type 0} (step : Outcome → Outcome → Type 0) (events : List Received) (frames : List Frame)
+  pub going_on : {a b c : B} {done lost : Outcome → Outcome → Type 0} (step : Outcome → Outcome → Type 0) (events : List Received) (frames : List SentFrame)
       → Passes g a b step done → ((o : Outcome) → g.now b o → After (g.now a) (Adds events frames) o) → Passes g b c lost lost
       → ((s m o : Outcome) → g.now b m → Adds events frames s m → lost m o → step s o)
       → Passes g a c step step
@@ -50,7 +50,7 @@ module _ {B : Type 0} (g : Ghosts B) where
   adds_none s = record { events_are = sym (append-nil s.events); frames_are = sym (append-nil s.frames) }
 
   -- what two calls add
-  pub adds_both : {a b c : B} (es fs : List Received) (gs hs : List Frame)
+  pub adds_both : {a b c : B} (es fs : List Received) (gs hs : List SentFrame)
       → ((o : Outcome) → g.now b o → After (g.now a) (Adds es gs) o) → ((o : Outcome) → g.now c o → After (g.now b) (Adds fs hs) o)
       → (o : Outcome) → g.now c o → After (g.now a) (Adds (es ++ fs) (gs ++ hs)) o
   adds_both es fs gs hs first second o is =
@@ -61,6 +61,6 @@ module _ {B : Type 0} (g : Ghosts B) where
         was = s.was;
         steps = record {
           events_are = m.steps.events_are ∙ ap (λ (l : List Received). l ++ fs) s.steps.events_are ∙ append_assoc s.from.events es fs;
-          frames_are = m.steps.frames_are ∙ ap (λ (l : List Frame). l ++ hs) s.steps.frames_are ∙ append_assoc s.from.frames gs hs;
+          frames_are = m.steps.frames_are ∙ ap (λ (l : List SentFrame). l ++ hs) s.steps.frames_are ∙ append_assoc s.from.frames gs hs;
         };
       }

@@ -10,7 +10,7 @@ use Rattle.mav_frames.specs.Frames.{IsMessageOf, is_v2}
 use Rattle.mav_messages.specs.declared.messages.Message.{Message}
 use Rattle.mav_messages.specs.Messages.{FitsTypes}
 use Rattle.vehicle_core.specs.Vehicle.{Asked, Asks}
-use Rattle.vehicle_core.specs.Parts.{Part, Said}
+use Rattle.vehicle_core.specs.Acts.{Act, Said}
 use Rattle.vehicle_node.specs.Reading.{no_rests, IsSilent, AreSaid, streams, beats, IsEvent, Reads}
 use Rattle.vehicle_node.specs.Hearing.{IsHeard}
 use Rattle.vehicle_node.specs.Laws.{FramesAreRead, IsInRange, EventsAreRead, EventsAreReadOnce}
@@ -21,11 +21,11 @@ frames_in-append [] qs = refl
 frames_in-append (Skipped byte ∷ ps) qs = frames_in-append ps qs
 frames_in-append (Whole f ∷ ps) qs = ap (λ (l : List (List ℕ)). f ∷ l) (frames_in-append ps qs)
 
-said-append : (station : ℕ) (xs ys : List (List ℕ)) (ps qs : List Part) → AreSaid station xs ps → AreSaid station ys qs → AreSaid station (xs ++ ys) (ps ++ qs)
-said-append station [] ys ps qs a c = subst (λ (l : List Part). AreSaid station ys (l ++ qs)) (sym a) c
+said-append : (station : ℕ) (xs ys : List (List ℕ)) (ps qs : List Act) → AreSaid station xs ps → AreSaid station ys qs → AreSaid station (xs ++ ys) (ps ++ qs)
+said-append station [] ys ps qs a c = subst (λ (l : List Act). AreSaid station ys (l ++ qs)) (sym a) c
 said-append station (x ∷ xs) ys ps qs a c = elim a [
   | inl silent ↦ inl (silent.0, said-append station xs ys ps qs silent.1 c)
-  | inr says ↦ inr (says.0, says.1 ++ qs, says.2, said-append station xs ys says.1 qs says.3 c, ap (λ (l : List Part). l ++ qs) says.4)
+  | inr says ↦ inr (says.0, says.1 ++ qs, says.2, said-append station xs ys says.1 qs says.3 c, ap (λ (l : List Act). l ++ qs) says.4)
 ]
 
 -- a station's rest in the list of all
@@ -52,7 +52,7 @@ heard_nothing rests station rest is cut = record {
 some_is : (x y : List ℕ) → Some x ≡ Some y → x ≡ y
 some_is x y is = cc
 
-pub heard_more : (station : ℕ) (xs ys : List ℕ) (old mid new : List (List ℕ)) (ps qs : List Part) → IsHeard station xs old ps mid → IsHeard station ys mid qs new → IsHeard station (xs ++ ys) old (ps ++ qs) new
+pub heard_more : (station : ℕ) (xs ys : List ℕ) (old mid new : List (List ℕ)) (ps qs : List Act) → IsHeard station xs old ps mid → IsHeard station ys mid qs new → IsHeard station (xs ++ ys) old (ps ++ qs) new
 heard_more station xs ys old mid new ps qs h k = record {
   rest = h.rest;
   rest_is = h.rest_is;
@@ -67,7 +67,7 @@ heard_more station xs ys old mid new ps qs h k = record {
     same : h.new_rest ≡ k.rest
     same = some_is h.new_rest k.rest (sym (rest_set old station h.rest h.new_rest h.rest_is) ∙ ap (λ (l : List (List ℕ)). slice_get l station) (sym h.new_is) ∙ k.rest_is)
 
-pub heard_datagram : (station : ℕ) (bytes : List ℕ) (old new : List (List ℕ)) (said : List Part) → IsHeard station bytes old said new → IsEvent old (Datagram station bytes) (said ++ streams) new
+pub heard_datagram : (station : ℕ) (bytes : List ℕ) (old new : List (List ℕ)) (said : List Act) → IsHeard station bytes old said new → IsEvent old (Datagram station bytes) (said ++ streams) new
 heard_datagram station bytes old new said h = record {
   rest = h.rest;
   rest_is = h.rest_is;
@@ -81,7 +81,7 @@ heard_datagram station bytes old new said h = record {
 }
 
 -- all frames are read
-said_any : FramesAreRead → (station : ℕ) (frames : List (List ℕ)) → (said : List Part) × AreSaid station frames said
+said_any : FramesAreRead → (station : ℕ) (frames : List (List ℕ)) → (said : List Act) × AreSaid station frames said
 said_any read station [] = ([], refl)
 said_any read station (bytes ∷ frames) =
     let more = said_any read station frames in
@@ -91,7 +91,7 @@ said_any read station (bytes ∷ frames) =
     ]
 
 pub record CanHear (station : ℕ) (bytes : List ℕ) (old : List (List ℕ)) : Type 0 where
-  pub said : List Part
+  pub said : List Act
   pub new : List (List ℕ)
   pub heard : IsHeard station bytes old said new
 
@@ -106,12 +106,12 @@ can_hear read station bytes old rest is =
     }
 
 -- where some first bytes were heard, all can be
-pub can_hear_more : FramesAreRead → (station : ℕ) (first more : List ℕ) (old mid : List (List ℕ)) (said : List Part) → IsHeard station first old said mid → CanHear station more mid
+pub can_hear_more : FramesAreRead → (station : ℕ) (first more : List ℕ) (old mid : List (List ℕ)) (said : List Act) → IsHeard station first old said mid → CanHear station more mid
 can_hear_more read station first more old mid said h =
     can_hear read station more mid h.new_rest (ap (λ (l : List (List ℕ)). slice_get l station) h.new_is ∙ rest_set old station h.rest h.new_rest h.rest_is)
 
 pub record CanRead (event : Received) (old : List (List ℕ)) : Type 0 where
-  pub parts : List Part
+  pub parts : List Act
   pub new : List (List ℕ)
   pub reads : IsEvent old event parts new
   pub size : length new ≡ length old
@@ -131,7 +131,7 @@ event_any read (Datagram station bytes) old in_range size =
 event_any read Idle old in_range size = record { parts = beats ++ streams; new = old; reads = (refl, refl); size = refl }
 event_any read End old in_range size = record { parts = []; new = old; reads = (refl, refl); size = refl }
 
-any_from : FramesAreRead → (events : List Received) (old : List (List ℕ)) → All IsInRange events → length old ≡ 8 → (parts : List (List Part)) × (rests : List (List ℕ)) × Reads old events parts rests
+any_from : FramesAreRead → (events : List Received) (old : List (List ℕ)) → All IsInRange events → length old ≡ 8 → (parts : List (List Act)) × (rests : List (List ℕ)) × Reads old events parts rests
 any_from read [] old in_range size = ([], old, (refl, refl))
 any_from read (e ∷ es) old in_range size =
     let one = event_any read e old (All-head IsInRange e es in_range) size in
@@ -142,7 +142,7 @@ pub events_are_read : FramesAreRead → EventsAreRead
 events_are_read read events in_range = any_from read events no_rests in_range refl
 
 -- frames are read in one way
-said_once : FramesAreRead → (station : ℕ) (frames : List (List ℕ)) (ps qs : List Part) → AreSaid station frames ps → AreSaid station frames qs → ps ≡ qs
+said_once : FramesAreRead → (station : ℕ) (frames : List (List ℕ)) (ps qs : List Act) → AreSaid station frames ps → AreSaid station frames qs → ps ≡ qs
 said_once read station [] ps qs a c = a ∙ sym c
 said_once read station (bytes ∷ frames) ps qs a c = elim a [
   | inl silent ↦ elim c [
@@ -160,23 +160,23 @@ said_once read station (bytes ∷ frames) ps qs a c = elim a [
   ]
 ]
 
-event_once : FramesAreRead → (event : Received) (old : List (List ℕ)) (ps qs : List Part) (new left : List (List ℕ)) → IsEvent old event ps new → IsEvent old event qs left → (ps ≡ qs) × (new ≡ left)
+event_once : FramesAreRead → (event : Received) (old : List (List ℕ)) (ps qs : List Act) (new left : List (List ℕ)) → IsEvent old event ps new → IsEvent old event qs left → (ps ≡ qs) × (new ≡ left)
 event_once read (Datagram station bytes) old ps qs new left a c =
     let same : a.rest ≡ c.rest = some_is a.rest c.rest (sym a.rest_is ∙ c.rest_is) in
     let cuts = cut_once (a.rest ++ bytes) a.pieces c.pieces a.new_rest c.new_rest a.cut (subst (λ (l : List ℕ). Cut (l ++ bytes) c.pieces c.new_rest) (sym same) c.cut) in
     let said = said_once read station (frames_in a.pieces) a.said c.said a.are_said (subst (λ (l : List Piece). AreSaid station (frames_in l) c.said) (sym cuts.0) c.are_said) in (
-      a.parts_are ∙ ap (λ (l : List Part). l ++ streams) said ∙ sym c.parts_are,
+      a.parts_are ∙ ap (λ (l : List Act). l ++ streams) said ∙ sym c.parts_are,
       a.new_is ∙ ap (λ (l : List ℕ). slice_set old station l) cuts.1 ∙ sym c.new_is,
     )
 event_once read Idle old ps qs new left a c = (a.0 ∙ sym c.0, a.1 ∙ sym c.1)
 event_once read End old ps qs new left a c = (a.0 ∙ sym c.0, a.1 ∙ sym c.1)
 
-once_from : FramesAreRead → (events : List Received) (old : List (List ℕ)) (parts others : List (List Part)) (rests left : List (List ℕ)) → Reads old events parts rests → Reads old events others left → (parts ≡ others) × (rests ≡ left)
+once_from : FramesAreRead → (events : List Received) (old : List (List ℕ)) (parts others : List (List Act)) (rests left : List (List ℕ)) → Reads old events parts rests → Reads old events others left → (parts ≡ others) × (rests ≡ left)
 once_from read [] old parts others rests left a c = (a.0 ∙ sym c.0, a.1 ∙ sym c.1)
 once_from read (e ∷ es) old parts others rests left a c =
     let one = event_once read e old a.0 c.0 a.1 c.1 a.3 c.3 in
     let more = once_from read es a.1 a.2 c.2 rests left a.4 (subst (λ (l : List (List ℕ)). Reads l es c.2 left) (sym one.1) c.4) in (
-      a.5 ∙ ap (λ (l : List Part). l ∷ a.2) one.0 ∙ ap (λ (l : List (List Part)). c.0 ∷ l) more.0 ∙ sym c.5,
+      a.5 ∙ ap (λ (l : List Act). l ∷ a.2) one.0 ∙ ap (λ (l : List (List Act)). c.0 ∷ l) more.0 ∙ sym c.5,
       more.1,
     )
 
@@ -184,13 +184,13 @@ pub events_are_read_once : FramesAreRead → EventsAreReadOnce
 events_are_read_once read events parts others rests left a c = once_from read events no_rests parts others rests left a c
 
 -- one event more
-pub reads_push : (es : List Received) (e : Received) (old mid new : List (List ℕ)) (events : List (List Part)) (parts : List Part) → Reads old es events mid → IsEvent mid e parts new → Reads old (es ++ e ∷ []) (events ++ parts ∷ []) new
+pub reads_push : (es : List Received) (e : Received) (old mid new : List (List ℕ)) (events : List (List Act)) (parts : List Act) → Reads old es events mid → IsEvent mid e parts new → Reads old (es ++ e ∷ []) (events ++ parts ∷ []) new
 reads_push [] e old mid new events parts a one =
-    (parts, new, [], subst (λ (l : List (List ℕ)). IsEvent l e parts new) a.1 one, (refl, refl), ap (λ (l : List (List Part)). l ++ parts ∷ []) a.0)
+    (parts, new, [], subst (λ (l : List (List ℕ)). IsEvent l e parts new) a.1 one, (refl, refl), ap (λ (l : List (List Act)). l ++ parts ∷ []) a.0)
 reads_push (x ∷ es) e old mid new events parts a one =
-    (a.0, a.1, a.2 ++ parts ∷ [], a.3, reads_push es e a.1 mid new a.2 parts a.4 one, ap (λ (l : List (List Part)). l ++ parts ∷ []) a.5)
+    (a.0, a.1, a.2 ++ parts ∷ [], a.3, reads_push es e a.1 mid new a.2 parts a.4 one, ap (λ (l : List (List Act)). l ++ parts ∷ []) a.5)
 
-pub reads_long : (es : List Received) (old new : List (List ℕ)) (events : List (List Part)) → Reads old es events new → length events ≡ length es
+pub reads_long : (es : List Received) (old new : List (List ℕ)) (events : List (List Act)) → Reads old es events new → length events ≡ length es
 reads_long [] old new events a = ap length a.0
 reads_long (e ∷ es) old new events a = omega (arith, ap length a.5, reads_long es a.1 new a.2 a.4)
 

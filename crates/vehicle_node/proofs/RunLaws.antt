@@ -4,16 +4,16 @@ use Rattle.std.proofs.lemmas.List.{take_at, take-append-le, take_all, length-tak
 use Rattle.std.proofs.lemmas.Slice.Zip.{AllZip-long}
 use Rattle.std.proofs.Math.Seq.{take-append-add}
 use Rattle.flash_board.specs.Words.{Words}
-use Rattle.flash_board.specs.Losses.{Frame}
+use Rattle.flash_board.specs.Losses.{SentFrame}
 use Rattle.storage_lines.specs.declared.lines.LineWrite.{LineWrite}
 use Rattle.storage_lines.specs.Lines.{put_line, after}
 use Rattle.sector_switch.specs.Stands.{Stands}
-use Rattle.vehicle_core.specs.Parts.{Part}
+use Rattle.vehicle_core.specs.Acts.{Act}
 use Rattle.vehicle_node.specs.Frames.{Answer, IsFrameOf, AreFramesOf, numbered}
 use Rattle.vehicle_node.specs.Runs.{Run, did_in, deliveries_in, part, all_parts, finish, turn, start, run_from, run_of, floor_of}
 use Rattle.vehicle_node.specs.Safe.{SafeAt}
 
-run_from_push : (b : List ℕ) (r : Run) (events : List (List Part)) (ps : List Part) → run_from b r (events ++ ps ∷ []) ≡ turn b (run_from b r events) ps
+run_from_push : (b : List ℕ) (r : Run) (events : List (List Act)) (ps : List Act) → run_from b r (events ++ ps ∷ []) ≡ turn b (run_from b r events) ps
 run_from_push b r [] ps = refl
 run_from_push b r (x ∷ events) ps = run_from_push b (turn b r x) events ps
 
@@ -21,19 +21,19 @@ pub run_of_none : (b : List ℕ) → run_of b [] ≡ start b
 unfolding run_of
 run_of_none b = refl
 
-pub run_of_push : (b : List ℕ) (events : List (List Part)) (ps : List Part) → run_of b (events ++ ps ∷ []) ≡ turn b (run_of b events) ps
+pub run_of_push : (b : List ℕ) (events : List (List Act)) (ps : List Act) → run_of b (events ++ ps ∷ []) ≡ turn b (run_of b events) ps
 unfolding run_of
 run_of_push b events ps = run_from_push b (start b) events ps
 
-pub floor_of_le : (b : List ℕ) (events : List (List Part)) (m : ℕ) → floor_of b events m ≤ (run_of b (take m events)).floor
+pub floor_of_le : (b : List ℕ) (events : List (List Act)) (m : ℕ) → floor_of b events m ≤ (run_of b (take m events)).floor
 floor_of_le b [] m = omega arith
 floor_of_le b (ps ∷ events) m = omega arith
 
-pub all_parts_floor : (b : List ℕ) (r : Run) (ps : List Part) → (all_parts b r ps).floor ≡ r.floor
+pub all_parts_floor : (b : List ℕ) (r : Run) (ps : List Act) → (all_parts b r ps).floor ≡ r.floor
 all_parts_floor b r [] = refl
 all_parts_floor b r (p ∷ ps) = all_parts_floor b (part b r p) ps
 
-pub all_parts-append : (b : List ℕ) (r : Run) (xs ys : List Part) → all_parts b r (xs ++ ys) ≡ all_parts b (all_parts b r xs) ys
+pub all_parts-append : (b : List ℕ) (r : Run) (xs ys : List Act) → all_parts b r (xs ++ ys) ≡ all_parts b (all_parts b r xs) ys
 all_parts-append b r [] ys = refl
 all_parts-append b r (x ∷ xs) ys = all_parts-append b (part b r x) xs ys
 
@@ -66,31 +66,31 @@ extends_finish r s x = record { issued = x.issued; answers = x.answers }
 pub extends_then : (r s t : Run) → Extends r s → Extends s t → Extends r t
 extends_then r s t x y = record { issued = front_then r.issued s.issued t.issued x.issued y.issued; answers = front_then r.answers s.answers t.answers x.answers y.answers }
 
-extends_part : (b : List ℕ) (r : Run) (p : Part) → Extends r (part b r p)
+extends_part : (b : List ℕ) (r : Run) (p : Act) → Extends r (part b r p)
 extends_part b r p = record {
   issued = record { rest = (did_in b r p).writes; whole = refl };
   answers = record { rest = numbered (did_in b r p).vehicle r.machine.sequences (deliveries_in b r p); whole = refl };
 }
 
-pub extends_all : (b : List ℕ) (r : Run) (ps : List Part) → Extends r (all_parts b r ps)
+pub extends_all : (b : List ℕ) (r : Run) (ps : List Act) → Extends r (all_parts b r ps)
 extends_all b r [] = extends_same r
 extends_all b r (p ∷ ps) = extends_then r (part b r p) (all_parts b (part b r p) ps) (extends_part b r p) (extends_all b (part b r p) ps)
 
-pub extends_more : (b : List ℕ) (r : Run) (ps qs : List Part) → Extends (all_parts b r ps) (all_parts b r (ps ++ qs))
+pub extends_more : (b : List ℕ) (r : Run) (ps qs : List Act) → Extends (all_parts b r ps) (all_parts b r (ps ++ qs))
 extends_more b r ps qs = subst (Extends (all_parts b r ps)) (sym (all_parts-append b r ps qs)) (extends_all b (all_parts b r ps) qs)
 
 take_front : {X : Type 0} (n : ℕ) (xs ys : List X) → (f : Front xs ys) → n ≤ length xs → take n ys ≡ take n xs
 take_front {X} n xs ys f le = ap (λ (l : List X). take n l) (sym f.whole) ∙ take-append-le n xs f.rest le
 
 -- as many as there are frames
-pub frames_long : (answers : List Answer) (frames : List Frame) → AreFramesOf answers frames → length frames ≡ length answers
+pub frames_long : (answers : List Answer) (frames : List SentFrame) → AreFramesOf answers frames → length frames ≡ length answers
 frames_long answers frames are = AllZip-long IsFrameOf answers frames are
 
-front_long : (n : ℕ) (xs : List Answer) (frames : List Frame) → n ≡ length frames → AreFramesOf (take n xs) frames → n ≤ length xs
+front_long : (n : ℕ) (xs : List Answer) (frames : List SentFrame) → n ≡ length frames → AreFramesOf (take n xs) frames → n ≤ length xs
 front_long n xs frames is are = omega (arith, is, frames_long (take n xs) frames are, length-take n xs)
 
 -- what is safe in a run is safe where it goes on
-pub safe_extends : (b : List ℕ) (r s : Run) (floor : ℕ) (frames : List Frame) (words : Words) → SafeAt b r floor frames words → Extends r s → SafeAt b s floor frames words
+pub safe_extends : (b : List ℕ) (r s : Run) (floor : ℕ) (frames : List SentFrame) (words : Words) → SafeAt b r floor frames words → Extends r s → SafeAt b s floor frames words
 safe_extends b r s floor frames words a x = record {
   first = subst (λ (l : List Answer). AreFramesOf l frames) (sym (take_front (length frames) r.answers s.answers x.answers (front_long (length frames) r.answers frames refl a.first))) a.first;
   kept = a.kept;
@@ -99,11 +99,11 @@ safe_extends b r s floor frames words a x = record {
   stands = subst (λ (l : List LineWrite). Stands words (after b l)) (sym (take_front a.kept r.issued s.issued x.issued a.few)) a.stands;
 }
 
-pub safe_lower : (b : List ℕ) (r : Run) (low floor : ℕ) (frames : List Frame) (words : Words) → low ≤ floor → SafeAt b r floor frames words → SafeAt b r low frames words
+pub safe_lower : (b : List ℕ) (r : Run) (low floor : ℕ) (frames : List SentFrame) (words : Words) → low ≤ floor → SafeAt b r floor frames words → SafeAt b r low frames words
 safe_lower b r low floor frames words le a = record { first = a.first; kept = a.kept; enough = omega (arith, le, a.enough); few = a.few; stands = a.stands }
 
 -- by the lines that were put and those that were not
-pub safe_by : (b : List ℕ) (r : Run) (floor : ℕ) (frames : List Frame) (words : Words) (put rest : List LineWrite)
+pub safe_by : (b : List ℕ) (r : Run) (floor : ℕ) (frames : List SentFrame) (words : Words) (put rest : List LineWrite)
     → AreFramesOf (take (length frames) r.answers) frames → put ++ rest ≡ r.issued → floor ≤ length put → Stands words (after b put) → SafeAt b r floor frames words
 safe_by b r floor frames words put rest first split enough stands = record {
   first = first;
@@ -114,17 +114,17 @@ safe_by b r floor frames words put rest first split enough stands = record {
 }
 
 -- all frames of a run
-pub all_sent : (answers : List Answer) (frames : List Frame) → AreFramesOf answers frames → AreFramesOf (take (length frames) answers) frames
+pub all_sent : (answers : List Answer) (frames : List SentFrame) → AreFramesOf answers frames → AreFramesOf (take (length frames) answers) frames
 all_sent answers frames are = subst (λ (l : List Answer). AreFramesOf l frames) (sym (take_all (length frames) answers (omega (arith, frames_long answers frames are)))) are
 
-pub frames-append : (xs ys : List Answer) (fs gs : List Frame) → AreFramesOf xs fs → AreFramesOf ys gs → AreFramesOf (xs ++ ys) (fs ++ gs)
+pub frames-append : (xs ys : List Answer) (fs gs : List SentFrame) → AreFramesOf xs fs → AreFramesOf ys gs → AreFramesOf (xs ++ ys) (fs ++ gs)
 frames-append [] ys [] gs a c = c
 frames-append [] ys (f ∷ fs) gs a c = absurd a
 frames-append (x ∷ xs) ys [] gs a c = absurd a
 frames-append (x ∷ xs) ys (f ∷ fs) gs a c = (a.0, frames-append xs ys fs gs a.1 c)
 
 -- all frames of a run, and some first ones behind them
-pub first_sent : (xs ys : List Answer) (fs gs : List Frame) → AreFramesOf xs fs → AreFramesOf (take (length gs) ys) gs → AreFramesOf (take (length (fs ++ gs)) (xs ++ ys)) (fs ++ gs)
+pub first_sent : (xs ys : List Answer) (fs gs : List SentFrame) → AreFramesOf xs fs → AreFramesOf (take (length gs) ys) gs → AreFramesOf (take (length (fs ++ gs)) (xs ++ ys)) (fs ++ gs)
 first_sent xs ys fs gs a c =
     let n : length (fs ++ gs) ≡ length xs + length gs = omega (arith, length-append fs gs, frames_long xs fs a) in
     subst (λ (l : List Answer). AreFramesOf l (fs ++ gs)) (sym (ap (λ (k : ℕ). take k (xs ++ ys)) n ∙ take-append-add xs ys (length gs))) (frames-append xs (take (length gs) ys) fs gs a c)

@@ -15,7 +15,7 @@ use Rattle.mav_messages.specs.declared.messages.To.TheVariants.{Station}
 use Rattle.mav_messages.specs.declared.messages.To.TheVariants as to
 use Rattle.mav_messages.specs.declared.messages.Reply.{Reply}
 use Rattle.vehicle_core.specs.Vehicle.{Vehicle, Parameters, Told, Alive, tells_value, is_heard}
-use Rattle.vehicle_core.specs.Parts.{Part, Said, Beat, Stream, did, nothing, by_parameters}
+use Rattle.vehicle_core.specs.Acts.{Act, Said, Beat, Stream, did, nothing, by_parameters}
 use Rattle.vehicle_core.specs.Replies.{AreRepliesOf}
 use Rattle.vehicle_node.specs.Sending.{IsInside}
 
@@ -27,7 +27,7 @@ are-append : (xs ys : List Told) → AreTold xs → AreTold ys → AreTold (xs +
 are-append [] ys front back = back
 are-append (x ∷ xs) ys front back = (front.0, are-append xs ys front.1 back)
 
-abbrev pub station_of : Part → ℕ
+abbrev pub station_of : Act → ℕ
 station_of (Said station version_two asked) = station
 station_of (Beat station) = station
 station_of (Stream station) = station
@@ -50,7 +50,7 @@ answer_told bytes next_rows station (Show index) lt = row_told (Station station)
 answer_told bytes next_rows station ShowAll lt = tt
 answer_told bytes next_rows station (Set index number) lt = row_told to.All (after bytes (set_writes bytes index number)) index (slice_get vehicle_rows index) tt
 
-pub part_told : (bytes : List ℕ) (vehicle : Vehicle) (p : Part) → station_of p < 8 → AreTold (did bytes vehicle p).told
+pub part_told : (bytes : List ℕ) (vehicle : Vehicle) (p : Act) → station_of p < 8 → AreTold (did bytes vehicle p).told
 unfolding did
 part_told bytes vehicle (Said station version_two None) lt = tt
 part_told bytes vehicle (Said station version_two (Some (Parameters request))) lt = answer_told bytes vehicle.next_rows station request lt

@@ -5,7 +5,7 @@ use Rattle.flash_board.specs.declared.board.Board.{Ghosts}
 use Rattle.flash_board.specs.declared.board.Event.{Event}
 use Rattle.flash_board.specs.declared.board.Event.TheVariants as event
 use Rattle.flash_board.specs.Calls.{Passes}
-use Rattle.flash_board.specs.Losses.{Received, received, IsEventInRange, End, after_recv, ByResult, Frame, Outcome, After, Unchanged, Receives, Either, KeepsWords}
+use Rattle.flash_board.specs.Losses.{Received, received, IsEventInRange, End, after_recv, ByResult, SentFrame, Outcome, After, Unchanged, Receives, Either, KeepsWords}
 use Rattle.flash_board.proofs.Moments.{weaker}
 use Rattle.storage_lines.specs.declared.lines.LineWrite.{LineWrite}
 use Rattle.sector_switch.specs.declared.kept.Shape.TheVariants as shape
@@ -55,7 +55,7 @@ turn_few put more mid last pending issued first second = append_assoc put more l
 
 module _ {B : Type 0} (g : Ghosts B) (reads : (b : B) (o : Outcome) → g.now b o → g.tells b × (o.words ≡ g.words b)) (old : Node) (board : B) (fits : Fits g board old) where
   -- the reception failed
-  pub failed_losses : (last : B) → Passes g board last Unchanged Unchanged → (b : List ℕ) (events : List Received) (sent : List Frame) (m : ℕ) → StandsForRun old b events sent m
+  pub failed_losses : (last : B) → Passes g board last Unchanged Unchanged → (b : List ℕ) (events : List Received) (sent : List SentFrame) (m : ℕ) → StandsForRun old b events sent m
       → Passes g board last (SafeSince b events sent m) (SafeSince b events sent m)
   failed_losses last passes b events sent m stands = weaker (SafeSince b events sent m) (SafeSince b events sent m) passes still still
     where
@@ -79,10 +79,10 @@ module _ {B : Type 0} (g : Ghosts B) (reads : (b : B) (o : Outcome) → g.now b 
     pub flushed_here : (mid : Node) (between : B) (t : TakenAll g got old next mid between) (n : ℕ) (result : Result ⊤ NodeError) (new : Node) (last : B) → FlushDone g n mid between result new last
         → (o : Outcome) → g.now last o → After (g.now board) (Adds (got ∷ []) t.answered.frames) o
     flushed_here mid between t n result new last f o is =
-        subst (λ (l : List Frame). After (g.now board) (Adds (got ∷ []) l) o) (append-nil t.answered.frames)
+        subst (λ (l : List SentFrame). After (g.now board) (Adds (got ∷ []) l) o) (append-nil t.answered.frames)
         (adds_both g (got ∷ []) [] t.answered.frames [] (taken_here mid between t) f.here o is)
 
-    module _ (b : List ℕ) (events : List Received) (sent : List Frame) (m : ℕ) (stands : StandsForRun old b events sent m) where
+    module _ (b : List ℕ) (events : List Received) (sent : List SentFrame) (m : ℕ) (stands : StandsForRun old b events sent m) where
       got_losses : Passes g board next (SafeSince b events sent m) (Adds (got ∷ []) [])
       got_losses = ending g (Adds (got ∷ []) [])
           (weaker (SafeSince b events sent m) (Receives got) passes (λ s o is x. since_receiving old b events sent m stands read got in_range s o (stands_now g reads board old fits s is) x) (λ s o is x. x))
@@ -124,7 +124,7 @@ passes_err g old new (Err e) lost done err passes = passes
 -- the event is finished
 pub turn_finished : {B : Type 0} (g : Ghosts B) (reads : (b : B) (o : Outcome) → g.now b o → g.tells b × (o.words ≡ g.words b)) (old : Node) (board : B) → Fits g board old
     → FramesAreRead → (got : Received) → IsInRange got → (next : B) → Passes g board next (Either Unchanged (Receives got)) (Receives got)
-    → ((e : List Received) (f : List Frame) → g.stands board e f → g.stands next (e ++ got ∷ []) f) → (g.moment next).receptions ≡ (after_recv (g.moment board)).receptions
+    → ((e : List Received) (f : List SentFrame) → g.has_lists board e f → g.has_lists next (e ++ got ∷ []) f) → (g.moment next).receptions ≡ (after_recv (g.moment board)).receptions
     → (mid : Node) (between : B) → TakeDone g got old next (Ok tt) mid between → (new : Node) (last : B) (n : ℕ) → 8 ≤ n → n ≤ 8 → FlushDone g n mid between (Ok tt) new last
     → (answer : Turn) → ((answer ≡ turn.End) ↔ (got ≡ End)) → Finished g old board new last answer
 turn_finished g reads old board fits read got in_range next passes lists moment mid between d new last n eight most f answer is =

@@ -2,7 +2,7 @@
 use Rattle.std.specs.Prelude.{◌≡◌, ◌⊎◌, ◌≤◌, ◌<◌, ℕ, ◌+◌, List, [], ◌++◌, length, take, Option, Result, ⊤, OnOk, IsOk}
 use Rattle.flash_board.specs.declared.board.Board.{Ghosts}
 use Rattle.flash_board.specs.Calls.{Passes}
-use Rattle.flash_board.specs.Losses.{Received, Frame, Outcome, After}
+use Rattle.flash_board.specs.Losses.{Received, SentFrame, Outcome, After}
 use Rattle.storage_lines.specs.declared.lines.LineWrite.{LineWrite}
 use Rattle.storage_lines.specs.Lines.{after}
 use Rattle.sector_switch.specs.Stands.{Stands}
@@ -10,7 +10,7 @@ use Rattle.block_store.specs.Store.{durable_of}
 use Rattle.dirty_lines.specs.Lines.{current_of}
 use Rattle.mav_frames.specs.Frames.{is_v2}
 use Rattle.vehicle_core.specs.Vehicle.{Asked}
-use Rattle.vehicle_core.specs.Parts.{Part, Said, Did, did}
+use Rattle.vehicle_core.specs.Acts.{Act, Said, Did, did}
 use Rattle.vehicle_node.specs.Frames.{Answer, Delivery, deliveries, numbered, counted_all, AreFramesOf}
 use Rattle.vehicle_node.specs.Reading.{Says, IsSilent}
 use Rattle.vehicle_node.specs.Safe.{Adds}
@@ -18,18 +18,18 @@ use Rattle.vehicle_node.specs.Standing.{Node, counts}
 use Rattle.vehicle_node.specs.declared.NodeError.{NodeError}
 
 -- what the vehicle does at a node
-abbrev pub did_at : Node → Part → Did
+abbrev pub did_at : Node → Act → Did
 did_at node p = did (current_of node.lines) node.machine.vehicle p
 
-abbrev pub deliveries_at : Node → Part → List Delivery
+abbrev pub deliveries_at : Node → Act → List Delivery
 deliveries_at node p = deliveries (did_at node p).vehicle (did_at node p).told
 
-abbrev pub answers_at : Node → Part → List Answer
+abbrev pub answers_at : Node → Act → List Answer
 answers_at node p = numbered (did_at node p).vehicle node.machine.sequences (deliveries_at node p)
 
 -- The part was answered: its lines are issued behind those that were pending, of which some first ones were put, and its
 -- answers are sent by these frames.
-pub record Answered (old : Node) (p : Part) (frames : List Frame) (new : Node) : Type 0 where
+pub record Answered (old : Node) (p : Act) (frames : List SentFrame) (new : Node) : Type 0 where
   pub vehicle : new.machine.vehicle ≡ (did_at old p).vehicle
   pub sequences : new.machine.sequences ≡ counted_all old.machine.sequences (deliveries_at old p)
   pub rests : new.rests ≡ old.rests
@@ -42,9 +42,9 @@ pub record Answered (old : Node) (p : Part) (frames : List Frame) (new : Node) :
   pub line_count : new.issued ≡ counts (old.issued + length (did_at old p).writes)
 
 -- Some first frames of the answers were sent, and some first lines were put.
-pub record Answering (node : Node) (p : Part) (from o : Outcome) : Type 0 where
+pub record Answering (node : Node) (p : Act) (from o : Outcome) : Type 0 where
   pub events : o.events ≡ from.events
-  pub sent : List Frame
+  pub sent : List SentFrame
   pub frames : o.frames ≡ from.frames ++ sent
   pub first : AreFramesOf (take (length sent) (answers_at node p)) sent
   pub put : List LineWrite
@@ -53,15 +53,15 @@ pub record Answering (node : Node) (p : Part) (from o : Outcome) : Type 0 where
   pub stands : Stands o.words (after (durable_of node.lines.store) put)
 
 -- what the board then tells
-pub record Done {B : Type 0} (g : Ghosts B) (old : Node) (board : B) (p : Part) (new : Node) (after_board : B) : Type 0 where
-  pub frames : List Frame
+pub record Done {B : Type 0} (g : Ghosts B) (old : Node) (board : B) (p : Act) (new : Node) (after_board : B) : Type 0 where
+  pub frames : List SentFrame
   pub answered : Answered old p frames new
-  pub lists : (e : List Received) (f : List Frame) → g.stands board e f → g.stands after_board e (f ++ frames)
+  pub lists : (e : List Received) (f : List SentFrame) → g.has_lists board e f → g.has_lists after_board e (f ++ frames)
   pub here : (o : Outcome) → g.now after_board o → After (g.now board) (Adds [] frames) o
   pub receptions : (g.moment after_board).receptions ≡ (g.moment board).receptions
 
 -- the part was answered, or the answer was cut short
-pub record PartDone {B : Type 0} (g : Ghosts B) (old : Node) (board : B) (p : Part) (result : Result ⊤ NodeError) (new : Node) (after_board : B) : Type 0 where
+pub record PartDone {B : Type 0} (g : Ghosts B) (old : Node) (board : B) (p : Act) (result : Result ⊤ NodeError) (new : Node) (after_board : B) : Type 0 where
   pub losses : Passes g board after_board (Answering old p) (Answering old p)
   pub done : OnOk result (Done g old board p new after_board)
 
@@ -95,6 +95,6 @@ pub record Flushing (node : Node) (from o : Outcome) : Type 0 where
 pub record FlushDone {B : Type 0} (g : Ghosts B) (n : ℕ) (old : Node) (board : B) (result : Result ⊤ NodeError) (new : Node) (after_board : B) : Type 0 where
   pub losses : Passes g board after_board (Flushing old) (Flushing old)
   pub flushed : OnOk result (Flushed n old new)
-  pub lists : (e : List Received) (f : List Frame) → g.stands board e f → g.stands after_board e f
+  pub lists : (e : List Received) (f : List SentFrame) → g.has_lists board e f → g.has_lists after_board e f
   pub here : (o : Outcome) → g.now after_board o → After (g.now board) (Adds [] []) o
   pub receptions : (g.moment after_board).receptions ≡ (g.moment board).receptions

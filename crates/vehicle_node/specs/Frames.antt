@@ -1,7 +1,7 @@
 -- What the vehicle sends: which frames go to whom.
 use Rattle.std.specs.Prelude.{◌≡◌, ℕ, ◌+◌, ◌%◌, Bool, List, [], ◌∷◌, map, filter, slice_index, slice_set}
 use Rattle.std.specs.List.{AllZip, flat_map, fold, range_with_len}
-use Rattle.flash_board.specs.Losses.{Frame}
+use Rattle.flash_board.specs.Losses.{SentFrame}
 use Rattle.mav_messages.specs.declared.messages.Message.{Message}
 use Rattle.mav_messages.specs.declared.messages.To.{To}
 use Rattle.mav_messages.specs.declared.messages.To.TheVariants.{Station, All}
@@ -51,12 +51,12 @@ numbered vehicle sequences (d ∷ ds) =
     ∷ numbered vehicle (counted sequences d) ds
 
 -- The frame of an answer goes to its station, from system 1, component 1, and its message says what is told.
-pub record IsFrameOf (answer : Answer) (frame : Frame) : Type 0 where
+pub record IsFrameOf (answer : Answer) (frame : SentFrame) : Type 0 where
   pub peer : frame.peer ≡ answer.station
   pub message : Message
   pub tells : Tells answer.content message
   pub sent : IsSent answer.version_two answer.sequence 1 1 message frame.bytes
 
 -- the frames are those of these answers, in order
-abbrev pub AreFramesOf : List Answer → List Frame → Type 0
+abbrev pub AreFramesOf : List Answer → List SentFrame → Type 0
 AreFramesOf answers frames = AllZip IsFrameOf answers frames

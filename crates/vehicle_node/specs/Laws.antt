@@ -2,7 +2,7 @@
 use Rattle.std.specs.Prelude.{◌≡◌, ◌⊎◌, ◌<◌, ℕ, List, All, Option}
 use Rattle.flash_board.specs.Losses.{Received, Datagram, Idle, End}
 use Rattle.vehicle_core.specs.Vehicle.{Asked}
-use Rattle.vehicle_core.specs.Parts.{Part}
+use Rattle.vehicle_core.specs.Acts.{Act}
 use Rattle.vehicle_node.specs.Reading.{Says, IsSilent, Reads, no_rests}
 
 -- A frame is silent or says something, and never more than one thing.
@@ -18,9 +18,9 @@ IsInRange End = Unit {0}
 
 -- every list of events in range can be read
 abbrev pub EventsAreRead : Type 0
-EventsAreRead = (events : List Received) → All IsInRange events → (parts : List (List Part)) × (rests : List (List ℕ)) × Reads no_rests events parts rests
+EventsAreRead = (events : List Received) → All IsInRange events → (parts : List (List Act)) × (rests : List (List ℕ)) × Reads no_rests events parts rests
 
 -- events are read in one way
 abbrev pub EventsAreReadOnce : Type 0
-EventsAreReadOnce = (events : List Received) (parts others : List (List Part)) (rests left : List (List ℕ))
+EventsAreReadOnce = (events : List Received) (parts others : List (List Act)) (rests left : List (List ℕ))
     → Reads no_rests events parts rests → Reads no_rests events others left → (parts ≡ others) × (rests ≡ left)

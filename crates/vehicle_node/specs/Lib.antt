@@ -3,7 +3,7 @@ pub mod Reading
 pub mod Runs
 pub mod Safe
 pub mod Standing
-pub mod Answers
+pub mod Refusals
 pub mod Inside
 pub mod Answering
 pub mod Hearing

@@ -7,7 +7,7 @@ use Rattle.mav_messages.specs.Messages.{FitsTypes}
 use Rattle.mav_frames.specs.Cut.{Piece, Cut, frames_in}
 use Rattle.mav_frames.specs.Frames.{IsMessageOf, is_v2}
 use Rattle.vehicle_core.specs.Vehicle.{Asked, Asks}
-use Rattle.vehicle_core.specs.Parts.{Part, Said, Beat, Stream}
+use Rattle.vehicle_core.specs.Acts.{Act, Said, Beat, Stream}
 use Rattle.vehicle_node.specs.Frames.{stations}
 
 -- the bytes of each station that don't make a whole frame yet; none at the start
@@ -26,39 +26,39 @@ pub record Says (bytes : List ℕ) (asked : Option Asked) : Type 0 where
   pub asks : Asks message asked
 
 -- what a station says by these frames, in order
-abbrev pub AreSaid : ℕ → List (List ℕ) → List Part → Type 0
+abbrev pub AreSaid : ℕ → List (List ℕ) → List Act → Type 0
 AreSaid station [] parts = parts ≡ []
 AreSaid station (bytes ∷ frames) parts =
     (IsSilent bytes × AreSaid station frames parts)
-    ⊎ ((asked : Option Asked) × (more : List Part) × Says bytes asked × AreSaid station frames more × (parts ≡ Said station (is_v2 bytes) asked ∷ more))
+    ⊎ ((asked : Option Asked) × (more : List Act) × Says bytes asked × AreSaid station frames more × (parts ≡ Said station (is_v2 bytes) asked ∷ more))
 
 -- behind the messages of an event each station's list goes on
-abbrev pub streams : List Part
+abbrev pub streams : List Act
 streams = map Stream stations
 
 -- at an idle turn each station is told that the vehicle is there
-abbrev pub beats : List Part
+abbrev pub beats : List Act
 beats = map Beat stations
 
 -- A datagram lengthens its station's stream.
-pub record IsDatagram (station : ℕ) (bytes : List ℕ) (old : List (List ℕ)) (parts : List Part) (new : List (List ℕ)) : Type 0 where
+pub record IsDatagram (station : ℕ) (bytes : List ℕ) (old : List (List ℕ)) (parts : List Act) (new : List (List ℕ)) : Type 0 where
   pub rest : List ℕ
   pub rest_is : slice_get old station ≡ Some rest
   pub pieces : List Piece
   pub new_rest : List ℕ
   pub cut : Cut (rest ++ bytes) pieces new_rest
-  pub said : List Part
+  pub said : List Act
   pub are_said : AreSaid station (frames_in pieces) said
   pub parts_are : parts ≡ said ++ streams
   pub new_is : new ≡ slice_set old station new_rest
 
 -- the parts of an event, and each station's rest before and behind it
-abbrev pub IsEvent : List (List ℕ) → Received → List Part → List (List ℕ) → Type 0
+abbrev pub IsEvent : List (List ℕ) → Received → List Act → List (List ℕ) → Type 0
 IsEvent old (Datagram station bytes) parts new = IsDatagram station bytes old parts new
 IsEvent old Idle parts new = (parts ≡ beats ++ streams) × (new ≡ old)
 IsEvent old End parts new = (parts ≡ []) × (new ≡ old)
 
 -- the parts of each of these events, one after another
-abbrev pub Reads : List (List ℕ) → List Received → List (List Part) → List (List ℕ) → Type 0
+abbrev pub Reads : List (List ℕ) → List Received → List (List Act) → List (List ℕ) → Type 0
 Reads old [] events new = (events ≡ []) × (new ≡ old)
-Reads old (e ∷ es) events new = (parts : List Part) × (mid : List (List ℕ)) × (more : List (List Part)) × IsEvent old e parts mid × Reads mid es more new × (events ≡ parts ∷ more)
+Reads old (e ∷ es) events new = (parts : List Act) × (mid : List (List ℕ)) × (more : List (List Act)) × IsEvent old e parts mid × Reads mid es more new × (events ≡ parts ∷ more)

@@ -1,17 +1,17 @@
 -- What a loss of power leaves of a run.
 use Rattle.std.specs.Prelude.{◌≡◌, ◌⊎◌, ◌≤◌, ℕ, ◌+◌, List, ◌++◌, length, take}
 use Rattle.flash_board.specs.Words.{Words}
-use Rattle.flash_board.specs.Losses.{Received, Frame, Outcome}
+use Rattle.flash_board.specs.Losses.{Received, SentFrame, Outcome}
 use Rattle.storage_lines.specs.Lines.{after}
 use Rattle.sector_switch.specs.Stands.{Stands}
-use Rattle.vehicle_core.specs.Parts.{Part}
+use Rattle.vehicle_core.specs.Acts.{Act}
 use Rattle.vehicle_node.specs.Frames.{AreFramesOf}
 use Rattle.vehicle_node.specs.Reading.{Reads, no_rests}
 use Rattle.vehicle_node.specs.Runs.{Run, run_of, floor_of}
 
 -- The frames are those of the run's first answers, and the words stand for the bytes of the start with the first of
 -- its lines: at least as many as were flushed.
-pub record SafeAt (b : List ℕ) (r : Run) (floor : ℕ) (frames : List Frame) (words : Words) : Type 0 where
+pub record SafeAt (b : List ℕ) (r : Run) (floor : ℕ) (frames : List SentFrame) (words : Words) : Type 0 where
   pub first : AreFramesOf (take (length frames) r.answers) frames
   pub kept : ℕ
   pub enough : floor ≤ kept
@@ -20,8 +20,8 @@ pub record SafeAt (b : List ℕ) (r : Run) (floor : ℕ) (frames : List Frame) (
 
 -- Of the run over these events from these bytes, m events are finished, and the frames of these were all sent. At most
 -- one event isn't finished.
-pub record Safe (b : List ℕ) (events : List Received) (frames : List Frame) (m : ℕ) (words : Words) : Type 0 where
-  pub parts : List (List Part)
+pub record Safe (b : List ℕ) (events : List Received) (frames : List SentFrame) (m : ℕ) (words : Words) : Type 0 where
+  pub parts : List (List Act)
   pub rests : List (List ℕ)
   pub reads : Reads no_rests events parts rests
   pub count : (m ≡ length events) ⊎ (m + 1 ≡ length events)
@@ -29,10 +29,10 @@ pub record Safe (b : List ℕ) (events : List Received) (frames : List Frame) (m
   pub at : SafeAt b (run_of b parts) (floor_of b parts m) frames words
 
 -- the same of what has been added since an outcome
-pub record SafeSince (b : List ℕ) (events : List Received) (frames : List Frame) (m : ℕ) (from o : Outcome) : Type 0 where
+pub record SafeSince (b : List ℕ) (events : List Received) (frames : List SentFrame) (m : ℕ) (from o : Outcome) : Type 0 where
   pub added_events : List Received
   pub events_are : o.events ≡ from.events ++ added_events
-  pub added_frames : List Frame
+  pub added_frames : List SentFrame
   pub frames_are : o.frames ≡ from.frames ++ added_frames
   pub safe : Safe b (events ++ added_events) (frames ++ added_frames) m o.words
 
@@ -41,6 +41,6 @@ abbrev pub Anything : Outcome → Outcome → Type 0
 Anything from o = Unit {0}
 
 -- these events and these frames have been added
-pub record Adds (events : List Received) (frames : List Frame) (from o : Outcome) : Type 0 where
+pub record Adds (events : List Received) (frames : List SentFrame) (from o : Outcome) : Type 0 where
   pub events_are : o.events ≡ from.events ++ events
   pub frames_are : o.frames ≡ from.frames ++ frames

@@ -2,7 +2,7 @@
 use Rattle.std.specs.Prelude.{◌≡◌, ◌≤◌, ◌<◌, ℕ, ◌+◌, ◌%◌, List, [], ◌++◌, max, length, take, map, filter, slice_index, slice_set, Result, ⊤, OnOk}
 use Rattle.flash_board.specs.declared.board.Board.{Ghosts}
 use Rattle.flash_board.specs.Calls.{Passes}
-use Rattle.flash_board.specs.Losses.{Received, Frame, Outcome, After}
+use Rattle.flash_board.specs.Losses.{Received, SentFrame, Outcome, After}
 use Rattle.storage_lines.specs.declared.lines.LineWrite.{LineWrite}
 use Rattle.storage_lines.specs.Lines.{after}
 use Rattle.sector_switch.specs.Stands.{Stands}
@@ -45,7 +45,7 @@ pub record Issued (old : Node) (writes : List LineWrite) (new : Node) : Type 0 w
 pub record IssueDone {B : Type 0} (g : Ghosts B) (writes : List LineWrite) (old : Node) (board : B) (result : Result ⊤ NodeError) (new : Node) (after_board : B) : Type 0 where
   pub losses : Passes g board after_board (Flushing old) (Flushing old)
   pub issued : OnOk result (Issued old writes new)
-  pub lists : (e : List Received) (f : List Frame) → g.stands board e f → g.stands after_board e f
+  pub lists : (e : List Received) (f : List SentFrame) → g.has_lists board e f → g.has_lists after_board e f
   pub here : (o : Outcome) → g.now after_board o → After (g.now board) (Adds [] []) o
   pub receptions : (g.moment after_board).receptions ≡ (g.moment board).receptions
 
@@ -63,7 +63,7 @@ pub record Counted (station : ℕ) (old new : Node) : Type 0 where
   pub line_count : new.issued ≡ old.issued
 
 -- these frames were sent, and nothing else happened
-pub record SendsFrames (frames : List Frame) (from o : Outcome) : Type 0 where
+pub record SendsFrames (frames : List SentFrame) (from o : Outcome) : Type 0 where
   pub words : o.words ≡ from.words
   pub events : o.events ≡ from.events
   pub frames_are : o.frames ≡ from.frames ++ frames
@@ -72,7 +72,7 @@ pub record SendsFrames (frames : List Frame) (from o : Outcome) : Type 0 where
 pub record SendsFirst (answers : List Answer) (from o : Outcome) : Type 0 where
   pub words : o.words ≡ from.words
   pub events : o.events ≡ from.events
-  pub sent : List Frame
+  pub sent : List SentFrame
   pub frames : o.frames ≡ from.frames ++ sent
   pub first : AreFramesOf (take (length sent) answers) sent
 
@@ -93,7 +93,7 @@ abbrev pub answers_of : Machine → List Delivery → List Answer
 answers_of machine ds = numbered machine.vehicle machine.sequences ds
 
 -- These deliveries are sent by these frames, and nothing else is done.
-pub record Sent (old : Node) (ds : List Delivery) (frames : List Frame) (new : Node) : Type 0 where
+pub record Sent (old : Node) (ds : List Delivery) (frames : List SentFrame) (new : Node) : Type 0 where
   pub lines : new.lines ≡ old.lines
   pub machine : new.machine ≡ machine_after old.machine ds
   pub rests : new.rests ≡ old.rests
@@ -103,9 +103,9 @@ pub record Sent (old : Node) (ds : List Delivery) (frames : List Frame) (new : N
 
 -- what the board then tells
 pub record SentAll {B : Type 0} (g : Ghosts B) (ds : List Delivery) (old : Node) (board : B) (new : Node) (after_board : B) : Type 0 where
-  pub frames : List Frame
+  pub frames : List SentFrame
   pub sent : Sent old ds frames new
-  pub lists : (e : List Received) (f : List Frame) → g.stands board e f → g.stands after_board e (f ++ frames)
+  pub lists : (e : List Received) (f : List SentFrame) → g.has_lists board e f → g.has_lists after_board e (f ++ frames)
   pub here : (o : Outcome) → g.now after_board o → After (g.now board) (SendsFrames frames) o
   pub receptions : (g.moment after_board).receptions ≡ (g.moment board).receptions
 
@@ -117,7 +117,7 @@ pub record SendDone {B : Type 0} (g : Ghosts B) (ds : List Delivery) (old : Node
 -- Some first lines of those pending and issued were put, and some first frames of these answers were sent.
 pub record CutShort (node : Node) (writes : List LineWrite) (answers : List Answer) (from o : Outcome) : Type 0 where
   pub events : o.events ≡ from.events
-  pub sent : List Frame
+  pub sent : List SentFrame
   pub frames : o.frames ≡ from.frames ++ sent
   pub first : AreFramesOf (take (length sent) answers) sent
   pub put : List LineWrite
@@ -126,7 +126,7 @@ pub record CutShort (node : Node) (writes : List LineWrite) (answers : List Answ
   pub stands : Stands o.words (after (durable_of node.lines.store) put)
 
 -- these lines are issued, and then these deliveries are sent by these frames
-pub record IssuedAndSent (old : Node) (writes : List LineWrite) (ds : List Delivery) (frames : List Frame) (new : Node) : Type 0 where
+pub record IssuedAndSent (old : Node) (writes : List LineWrite) (ds : List Delivery) (frames : List SentFrame) (new : Node) : Type 0 where
   pub machine : new.machine ≡ machine_after old.machine ds
   pub rests : new.rests ≡ old.rests
   pub put : List LineWrite
@@ -139,9 +139,9 @@ pub record IssuedAndSent (old : Node) (writes : List LineWrite) (ds : List Deliv
 
 -- what the board then tells
 pub record AnswerTold {B : Type 0} (g : Ghosts B) (writes : List LineWrite) (ds : List Delivery) (old : Node) (board : B) (new : Node) (after_board : B) : Type 0 where
-  pub frames : List Frame
+  pub frames : List SentFrame
   pub answered : IssuedAndSent old writes ds frames new
-  pub lists : (e : List Received) (f : List Frame) → g.stands board e f → g.stands after_board e (f ++ frames)
+  pub lists : (e : List Received) (f : List SentFrame) → g.has_lists board e f → g.has_lists after_board e (f ++ frames)
   pub here : (o : Outcome) → g.now after_board o → After (g.now board) (Adds [] frames) o
   pub receptions : (g.moment after_board).receptions ≡ (g.moment board).receptions
 

@@ -1,13 +1,13 @@
 -- When a node stands for a run.
 use Rattle.std.specs.Prelude.{◌≡◌, ◌≤◌, ◌↔◌, ℕ, ◌+◌, ◌-◌, ◌^◌, min, List, [], ◌∷◌, ◌++◌, length, IsTrue}
 use Rattle.flash_board.specs.declared.board.Board.{Ghosts}
-use Rattle.flash_board.specs.Losses.{Received, End, Frame, Outcome, After, after_recv}
+use Rattle.flash_board.specs.Losses.{Received, End, SentFrame, Outcome, After, after_recv}
 use Rattle.storage_lines.specs.declared.lines.LineWrite.{LineWrite}
 use Rattle.storage_lines.specs.Lines.{after}
 use Rattle.block_store.specs.Store as store
 use Rattle.block_store.specs.Store.{durable_of, is_alone}
 use Rattle.dirty_lines.specs.Lines.{Lines}
-use Rattle.vehicle_core.specs.Parts.{Part}
+use Rattle.vehicle_core.specs.Acts.{Act}
 use Rattle.vehicle_node.specs.Frames.{AreFramesOf}
 use Rattle.vehicle_node.specs.Reading.{Reads, no_rests}
 use Rattle.vehicle_node.specs.Runs.{Run, Machine, run_of}
@@ -34,7 +34,7 @@ abbrev pub counts : ℕ → ℕ
 counts n = min n (2 ^ 64 - 1)
 
 -- The node is where this run is, whether inside an event or between two, and these frames were sent.
-pub record StandsAt (node : Node) (b : List ℕ) (r : Run) (frames : List Frame) : Type 0 where
+pub record StandsAt (node : Node) (b : List ℕ) (r : Run) (frames : List SentFrame) : Type 0 where
   pub machine : node.machine ≡ r.machine
   pub sent : AreFramesOf r.answers frames
   -- the issued lines that aren't pending
@@ -46,8 +46,8 @@ pub record StandsAt (node : Node) (b : List ℕ) (r : Run) (frames : List Frame)
   pub line_count : node.issued ≡ counts (length r.issued)
 
 -- From the storage bytes b the node has taken these events, sent these frames and finished m events.
-pub record StandsForRun (node : Node) (b : List ℕ) (events : List Received) (frames : List Frame) (m : ℕ) : Type 0 where
-  pub parts : List (List Part)
+pub record StandsForRun (node : Node) (b : List ℕ) (events : List Received) (frames : List SentFrame) (m : ℕ) : Type 0 where
+  pub parts : List (List Act)
   pub reads : Reads no_rests events parts node.rests
   pub finished : m ≡ length events
   pub at : StandsAt node b (run_of b parts) frames
@@ -57,12 +57,12 @@ pub record StandsForRun (node : Node) (b : List ℕ) (events : List Received) (f
 -- than it takes to put at least eight in entries of up to eight lines.
 pub record Finished {B : Type 0} (g : Ghosts B) (old : Node) (board : B) (new : Node) (after_board : B) (answer : Turn) : Type 0 where
   pub event : Received
-  pub frames : List Frame
+  pub frames : List SentFrame
   pub last : (answer ≡ turn.End) ↔ (event ≡ End)
-  pub lists : (e : List Received) (f : List Frame) → g.stands board e f → g.stands after_board (e ++ event ∷ []) (f ++ frames)
+  pub lists : (e : List Received) (f : List SentFrame) → g.has_lists board e f → g.has_lists after_board (e ++ event ∷ []) (f ++ frames)
   pub here : (o : Outcome) → g.now after_board o → After (g.now board) (Adds (event ∷ []) frames) o
   pub one_reception : (g.moment after_board).receptions ≡ (after_recv (g.moment board)).receptions
-  pub stands : (b : List ℕ) (events : List Received) (sent : List Frame) (m : ℕ) → StandsForRun old b events sent m → StandsForRun new b (events ++ event ∷ []) (sent ++ frames) (m + 1)
+  pub stands : (b : List ℕ) (events : List Received) (sent : List SentFrame) (m : ℕ) → StandsForRun old b events sent m → StandsForRun new b (events ++ event ∷ []) (sent ++ frames) (m + 1)
   pub issued : List LineWrite
   pub put : List LineWrite
   pub split : put ++ new.lines.pending ≡ old.lines.pending ++ issued

@@ -5,11 +5,11 @@ ghost use Rattle.flash_board.specs.declared.board.Fault.TheVariants.{Read, Flash
 ghost use Rattle.flash_board.specs.Losses.{received, IsEventInRange, Datagram, Idle};
 ghost use Rattle.flash_board.specs.Causes.{Rose};
 ghost use Rattle.mav_frames.specs.Frames.{IsReadFrom};
-ghost use Rattle.block_store.specs.Answers.{IsWorn};
+ghost use Rattle.block_store.specs.Refusals.{IsWorn};
 ghost use Rattle.vehicle_node.specs.Reading.{beats, streams};
 ghost use Rattle.vehicle_node.specs.Standing.{Fits};
 ghost use Rattle.vehicle_node.specs.Hearing.{Pushed, KeepsButRests, HasRest, HearDone, PartsDone, TakeDone};
-ghost use Rattle.vehicle_node.specs.Answers.{OnMemory, OnFault, OnForeign, OnWorn};
+ghost use Rattle.vehicle_node.specs.Refusals.{OnMemory, OnFault, OnForeign, OnWorn};
 
 use crate::laws::frames_are_read;
 use crate::{Node, NodeError};

@@ -8,18 +8,18 @@ ghost use Rattle.std.specs.Prelude.{◌≡◌, ◌⊎◌, ◌+◌, ◌≤◌, �
 ghost use Rattle.flash_board.specs.Words.{IsSectorSize};
 ghost use Rattle.flash_board.specs.declared.board.Fault.{Fault};
 ghost use Rattle.flash_board.specs.declared.board.Fault.TheVariants.{Read, Flash, Recv, Send};
-ghost use Rattle.flash_board.specs.Losses.{Received, received, End, Frame, Outcome, After, ByResult};
+ghost use Rattle.flash_board.specs.Losses.{Received, received, End, SentFrame, Outcome, After, ByResult};
 ghost use Rattle.flash_board.specs.Calls.{Passes};
 ghost use Rattle.flash_board.specs.Causes.{Rose};
 ghost use Rattle.storage_lines.specs.Lines.{after};
 ghost use Rattle.sector_switch.specs.FirstBad.{FirstBad};
 ghost use Rattle.sector_switch.specs.Stands.{Stands, Reads, is_due, count_in};
-ghost use Rattle.block_store.specs.Answers.{IsWorn};
+ghost use Rattle.block_store.specs.Refusals.{IsWorn};
 ghost use Rattle.vehicle_node.specs.Runs.{Run};
 ghost use Rattle.vehicle_node.specs.Safe.{SafeSince, Adds};
 ghost use Rattle.vehicle_node.specs.Standing.{Fits, StandsAt, StandsForRun, Finished, Node};
 ghost use Rattle.vehicle_node.specs.Answering.{FlushDone};
-ghost use Rattle.vehicle_node.specs.Answers.{OnMemory, OnFault, OnForeign, OnWorn};
+ghost use Rattle.vehicle_node.specs.Refusals.{OnMemory, OnFault, OnForeign, OnWorn};
 
 mod answering;
 mod hearing;
@@ -98,7 +98,7 @@ impl Node {
 
         ensures fits { IfOk result (λ node. Fits B.Board board.new node) }
         ensures stands { IfOk result (λ node. B.tells board.new → (b : List ℕ) → Stands (B.words board.old) b → StandsForRun node b [] [] 0) }
-        ensures lists { (e : List Received) (f : List Frame) → B.stands board.old e f → B.stands board.new e f }
+        ensures lists { (e : List Received) (f : List SentFrame) → B.has_lists board.old e f → B.has_lists board.new e f }
         ensures losses { (b : List ℕ) → (B.tells board.old → Stands (B.words board.old) b) → Passes B.Board board.old board.new (SafeSince b [] [] 0) (SafeSince b [] [] 0) }
         ensures here { OnOk result ((o : Outcome) → B.now board.new o → After (B.now board.old) (Adds [] []) o) }
         ensures geometry { B.sector_bytes board.new ≡ B.sector_bytes board.old }
@@ -130,7 +130,7 @@ impl Node {
 
         ensures fits { OnOk result (Fits B.Board board.new self.new) }
         ensures finished { IfOk result (λ turn. Finished B.Board self.old board.old self.new board.new turn) }
-        ensures losses { (b : List ℕ) (events : List Received) (frames : List Frame) (m : ℕ) → (B.tells board.old → StandsForRun self.old b events frames m) →
+        ensures losses { (b : List ℕ) (events : List Received) (frames : List SentFrame) (m : ℕ) → (B.tells board.old → StandsForRun self.old b events frames m) →
             Passes B.Board board.old board.new (SafeSince b events frames m) (ByResult result (SafeSince b events frames (m + 1)) (SafeSince b events frames m)) }
         ensures geometry { B.sector_bytes board.new ≡ B.sector_bytes board.old }
         ensures told { B.tells board.new → B.tells board.old }
@@ -156,9 +156,9 @@ impl Node {
     pub fn close<B: Board>(mut self, board: &mut B) -> Result<(), NodeError>
         requires fits { Fits B.Board board.old self }
 
-        ensures done { OnOk result (B.tells board.new → (b : List ℕ) (r : Run) (frames : List Frame) → StandsAt self b r frames → Stands (B.words board.new) (after b r.issued)) }
-        ensures lists { (e : List Received) (f : List Frame) → B.stands board.old e f → B.stands board.new e f }
-        ensures losses { (b : List ℕ) (events : List Received) (frames : List Frame) (m : ℕ) → (B.tells board.old → StandsForRun self b events frames m) →
+        ensures done { OnOk result (B.tells board.new → (b : List ℕ) (r : Run) (frames : List SentFrame) → StandsAt self b r frames → Stands (B.words board.new) (after b r.issued)) }
+        ensures lists { (e : List Received) (f : List SentFrame) → B.has_lists board.old e f → B.has_lists board.new e f }
+        ensures losses { (b : List ℕ) (events : List Received) (frames : List SentFrame) (m : ℕ) → (B.tells board.old → StandsForRun self b events frames m) →
             Passes B.Board board.old board.new (SafeSince b events frames m) (SafeSince b events frames m) }
         ensures geometry { B.sector_bytes board.new ≡ B.sector_bytes board.old }
         ensures told { B.tells board.new → B.tells board.old }

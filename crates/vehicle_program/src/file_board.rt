@@ -230,7 +230,7 @@ impl<'a, R: Files<File = File> + Net> Board for FileBoard<'a, R> {
 
     ghost words = { λ _. untold };
 
-    ghost stands = { λ _ _ _. Unit {0} };
+    ghost has_lists = { λ _ _ _. Unit {0} };
 
     ghost moment = { λ b. record { programs = b.counts.programs; erases = b.counts.erases; receptions = b.counts.receptions; sendings = b.counts.sendings } };
 

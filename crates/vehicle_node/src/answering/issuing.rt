@@ -3,12 +3,12 @@ ghost use Rattle.std.specs.Prelude.{◌≡◌, ◌⊎◌, ◌<◌, ◌≤◌, �
 ghost use Rattle.flash_board.specs.declared.board.Fault.{Fault};
 ghost use Rattle.flash_board.specs.declared.board.Fault.TheVariants.{Read, Flash};
 ghost use Rattle.flash_board.specs.Causes.{Rose};
-ghost use Rattle.block_store.specs.Answers.{IsWorn, OnNoRoom};
+ghost use Rattle.block_store.specs.Refusals.{IsWorn, OnNoRoom};
 ghost use Rattle.dirty_lines.specs.Lines.{AreInside};
 ghost use Rattle.vehicle_node.specs.Standing.{Fits};
 ghost use Rattle.vehicle_node.specs.Answering.{FlushDone};
 ghost use Rattle.vehicle_node.specs.Sending.{IsErrorOf, Issued, IssueDone};
-ghost use Rattle.vehicle_node.specs.Answers.{OnMemory, OnFault, OnForeign, OnWorn};
+ghost use Rattle.vehicle_node.specs.Refusals.{OnMemory, OnFault, OnForeign, OnWorn};
 
 use crate::{Node, NodeError};
 use block_store::PutError;

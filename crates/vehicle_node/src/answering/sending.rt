@@ -9,7 +9,7 @@ ghost use Rattle.vehicle_core.specs.Vehicle.{Content, Told};
 ghost use Rattle.vehicle_core.specs.Replies.{Tells, IsReplyOf, AreRepliesOf};
 ghost use Rattle.vehicle_node.specs.Frames.{stations, deliveries_of, deliveries};
 ghost use Rattle.vehicle_node.specs.Sending.{IsInside, SendDone, delivery, deliveries_to, Counted};
-ghost use Rattle.vehicle_node.specs.Answers.{OnMemory, OnFault, OnForeign, OnWorn};
+ghost use Rattle.vehicle_node.specs.Refusals.{OnMemory, OnFault, OnForeign, OnWorn};
 
 use crate::{Node, NodeError};
 use flash_board::{Board, Fault};

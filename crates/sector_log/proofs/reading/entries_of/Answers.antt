@@ -1,5 +1,5 @@
 use Rattle.std.proofs.Common.{◌≡◌, List, ℕ, ◌∷◌, ◌++◌, [], ap, ◌∙◌, subst, arith}
-use Rattle.flash_board.specs.Words.{Words, row}
+use Rattle.flash_board.specs.Words.{Words, halfwords_in}
 use Rattle.flash_board.specs.declared.board.Region.{Region}
 use Rattle.sector_log.specs.Walks.{Adds}
 use Rattle.sector_log.proofs.ReadLemmas.{reads_then}
@@ -8,7 +8,7 @@ use Rattle.sector_log.proofs.reading.entries_of.Goals as goal
 
 pub loop-next-preserved : goal.loop-next-preserved
 loop-next-preserved g c =
-    let W = row (g.B.Board.words c.args.board.now) c.args.region in
+    let W = halfwords_in (g.B.Board.words c.args.board.now) c.args.region in
     let inv = c.loop-next.invariant in
     let read = c.next_entry.ensures.reads in
     let next = rw c.in-Some.is at c.in_ok-next.ensures.next in
@@ -22,8 +22,8 @@ loop-next-preserved g c =
       size = c.next_entry.ensures.size;
       walked = λ told.
           let told_then = read.changes.told told in
-          let same : row (g.B.Board.words c.loop-next.board) c.loop-next.log.region ≡ W =
-          ap (λ (r : Region). row (g.B.Board.words c.loop-next.board) r) inv.region ∙ ap (λ (w : Words). row w c.args.region) (inv.reads.changes.content told_then) in
+          let same : halfwords_in (g.B.Board.words c.loop-next.board) c.loop-next.log.region ≡ W =
+          ap (λ (r : Region). halfwords_in (g.B.Board.words c.loop-next.board) r) inv.region ∙ ap (λ (w : Words). halfwords_in w c.args.region) (inv.reads.changes.content told_then) in
           let walked = inv.walked told_then in
           let found = next told in
           let adds : Adds W c.loop-next.log c.in-Some.next c.loop-next.into c.next_entry.new.into found.0 =

@@ -1,5 +1,5 @@
 use Rattle.std.proofs.Common.{◌≡◌, ◌-◌, ◌≤◌, List, length}
-use Rattle.flash_board.specs.Words.{row}
+use Rattle.flash_board.specs.Words.{halfwords_in}
 use Rattle.sector_log.specs.Storage.{storage_bytes}
 use Rattle.sector_log.specs.Entries.{Entry}
 use Rattle.sector_log.specs.Reads.{OnlyReads}
@@ -15,7 +15,7 @@ invariant-loop-next g l = record {
   mark : l.log.mark ≡ l.fn.mark;
   behind : 2 ≤ l.log.end;
   size : length l.into ≡ storage_bytes;
-  walked : g.B.Board.tells l.board → (entries : List Entry) × Walked (row (g.B.Board.words l.fn.board) l.fn.region) l.fn.region l.fn.mark l.log l.initial.into l.into entries;
+  walked : g.B.Board.tells l.board → (entries : List Entry) × Walked (halfwords_in (g.B.Board.words l.fn.board) l.fn.region) l.fn.region l.fn.mark l.log l.initial.into l.into entries;
 }
 
 abbrev pub decreases-loop-next : goal.decreases-loop-next

@@ -2,7 +2,7 @@ use Rattle.std.proofs.Common.{◌≡◌, ◌≢◌, ◌⊎◌, ℕ, List, drop, 
 use Rattle.std.proofs.lemmas.Result.{IfOk-weaker, on_err_weaker}
 use Rattle.flash_board.specs.declared.board.Mark.{Mark}
 use Rattle.flash_board.specs.declared.board.Mark.TheVariants.{Available, InUse, Full}
-use Rattle.flash_board.specs.Words.{row}
+use Rattle.flash_board.specs.Words.{halfwords_in}
 use Rattle.sector_log.specs.Errors.{OnWord}
 use Rattle.sector_log.specs.declared.log.Log.{Log}
 use Rattle.sector_log.specs.Entries.{Entry, NoEntry}
@@ -19,7 +19,7 @@ not_available m (inr is) a = cc
 
 pub returns-in-InUse-clause-log : goal.returns-in-InUse-clause-log
 returns-in-InUse-clause-log g c =
-    let W = row (g.B.Board.words c.args.board.now) c.args.region in
+    let W = halfwords_in (g.B.Board.words c.args.board.now) c.args.region in
     let T : Type 0 = g.B.Board.tells c.entries_of.new.board in
     IfOk-weaker c.entries_of.result
     (λ log. T → NoEntry (drop log.end W) × (es : List Entry) × Walked W c.args.region c.args.mark log c.args.into.now c.entries_of.new.into es)
@@ -30,7 +30,7 @@ returns-in-InUse-clause-log g c =
 
 pub returns-in-InUse-clause-word : goal.returns-in-InUse-clause-word
 returns-in-InUse-clause-word g c =
-    let W = row (g.B.Board.words c.args.board.now) c.args.region in
+    let W = halfwords_in (g.B.Board.words c.args.board.now) c.args.region in
     let T : Type 0 = g.B.Board.tells c.entries_of.new.board in
     let P : ℕ → ℕ → Type 0 = λ place word. T → (log : Log) × BadHere W log.end place word × (es : List Entry) × Walked W c.args.region c.args.mark log c.args.into.now c.entries_of.new.into es in
     let Q : ℕ → ℕ → Type 0 = λ place word. T → FirstBad W place word in
@@ -41,5 +41,5 @@ returns-in-InUse-clause-word g c =
 
 pub returns-in-InUse-clause-read : goal.returns-in-InUse-clause-read
 returns-in-InUse-clause-read g c =
-    let W = row (g.B.Board.words c.args.board.now) c.args.region in
+    let W = halfwords_in (g.B.Board.words c.args.board.now) c.args.region in
     on_err_weaker c.entries_of.result (λ told_p told. let p = told_p told in read_so_far W c.args.region c.args.mark p.0 c.args.into.now c.entries_of.new.into p.1 p.2) c.entries_of.ensures.err

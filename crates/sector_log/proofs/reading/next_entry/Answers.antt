@@ -1,5 +1,5 @@
 use Rattle.std.proofs.Common.{◌≡◌, refl, ap, ◌∙◌, ◌+◌, ◌*◌, take, drop, arith}
-use Rattle.flash_board.specs.Words.{Words, row}
+use Rattle.flash_board.specs.Words.{Words, halfwords_in}
 use Rattle.sector_log.specs.Header.{header_word}
 use Rattle.sector_log.specs.Bytes.{bytes_of, put}
 use Rattle.sector_log.proofs.LogLemmas.{adds_valid, adds_torn}
@@ -13,9 +13,9 @@ returns-in_ok-copy_content-clause-next g c = λ told.
     let next = rw c.in-Some.is at c.in_ok-header.ensures.next in
     let is = next told_then in
     let size = g.met.B.Board.shape c.args.board.now (c.next_header.ensures.reads.changes.told told_then) c.requires.attached c.args.log.region in
-    adds_valid (row (g.B.Board.words c.args.board.now) c.args.log.region) c.args.log (header_word h) h
+    adds_valid (halfwords_in (g.B.Board.words c.args.board.now) c.args.log.region) c.args.log (header_word h) h
     c.args.into.now c.copy_content.new.into fits.0 refl is (omega (arith, size, fits.1)) c.if-valid.true
-    (c.in_ok-copy_content.ensures.copied told ∙ ap (λ (w : Words). put (8 * h.line) (bytes_of (take (4 * h.lines) (drop (c.args.log.end + 1) (row w c.args.log.region)))) c.args.into.now) (c.next_header.ensures.reads.changes.content told_then))
+    (c.in_ok-copy_content.ensures.copied told ∙ ap (λ (w : Words). put (8 * h.line) (bytes_of (take (4 * h.lines) (drop (c.args.log.end + 1) (halfwords_in w c.args.log.region)))) c.args.into.now) (c.next_header.ensures.reads.changes.content told_then))
 
 pub returns-else-valid-clause-next : goal.returns-else-valid-clause-next
 returns-else-valid-clause-next g c = λ told.
@@ -24,5 +24,5 @@ returns-else-valid-clause-next g c = λ told.
     let next = rw c.in-Some.is at c.in_ok-header.ensures.next in
     let is = next told in
     let size = g.met.B.Board.shape c.args.board.now (c.next_header.ensures.reads.changes.told told) c.requires.attached c.args.log.region in
-    adds_torn (row (g.B.Board.words c.args.board.now) c.args.log.region) c.args.log (header_word h) h
+    adds_torn (halfwords_in (g.B.Board.words c.args.board.now) c.args.log.region) c.args.log (header_word h) h
     c.args.into.now fits.0 refl is (omega (arith, size, fits.1)) c.if-valid.false

@@ -1,5 +1,5 @@
 use Rattle.std.proofs.Common.{◌≡◌, refl, arith}
-use Rattle.flash_board.specs.Words.{Words, row}
+use Rattle.flash_board.specs.Words.{Words, halfwords_in}
 use Rattle.sector_log.proofs.LogLemmas.{no_room}
 use Rattle.sector_log.proofs.reading.next_header.Goals as goal
 
@@ -12,6 +12,6 @@ returns-then-len-log-clause-word g c = λ told.
       within = omega (arith, size);
       is = is;
       other = c.if-word.false;
-      none = no_room (row (g.B.Board.words c.args.board.now) c.args.log.region) c.args.log.end c.in_ok-word.word c.in-Some.header
+      none = no_room (halfwords_in (g.B.Board.words c.args.board.now) c.args.log.region) c.args.log.end c.in_ok-word.word c.in-Some.header
           (omega (arith, size)) is c.in-Some.ensures.some.0 c.in-Some.ensures.some.1 (omega (arith, size));
     }

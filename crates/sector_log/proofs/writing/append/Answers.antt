@@ -1,5 +1,5 @@
 use Rattle.std.proofs.Common.{◌≡◌, ℕ, ◌+◌, ◌*◌, ◌/◌, ◌≤◌, length, arith}
-use Rattle.flash_board.specs.Words.{row}
+use Rattle.flash_board.specs.Words.{halfwords_in}
 use Rattle.flash_board.proofs.Moments.{chained_words, first_words, by_err}
 use Rattle.sector_log.specs.Bytes.{halfwords_of}
 use Rattle.sector_log.specs.Appends.{AppendMayLeave, Appends}
@@ -16,7 +16,7 @@ returns-in_err-program-clause-changes g c =
     let lines = c.requires.lines in
     let whole : length (halfwords_of bytes) ≡ 4 * (length bytes / 8) = omega (arith, length_halfwords bytes, lines.whole) in
     let below = λ (k : ℕ). halfword_below bytes k (λ i. omega (arith, c.type_inv.bytes i)) in
-    let fits : g.B.Board.tells c.args.board.now → log.end + 1 + 4 * (length bytes / 8) ≤ length (row w log.region) =
+    let fits : g.B.Board.tells c.args.board.now → log.end + 1 + 4 * (length bytes / 8) ≤ length (halfwords_in w log.region) =
     λ told. omega (arith, g.met.B.Board.shape c.args.board.now told c.requires.attached log.region, c.requires.room, lines.whole) in
     first_words g.B.Board g.met.B.Board.reads (AppendMayLeave log line bytes) _ c.in_err-program.ensures.changes
     (λ told o may. writing_may log line bytes lines.some lines.most lines.inside whole below c.word_of-writing.result c.word_of-writing.ensures w o (fits told) may)
@@ -31,7 +31,7 @@ returns-in_err-complete-clause-changes g c =
     let lines = c.requires.lines in
     let whole : length (halfwords_of bytes) ≡ 4 * (length bytes / 8) = omega (arith, length_halfwords bytes, lines.whole) in
     let below = λ (k : ℕ). halfword_below bytes k (λ i. omega (arith, c.type_inv.bytes i)) in
-    let fits : g.B.Board.tells c.args.board.now → log.end + 1 + 4 * (length bytes / 8) ≤ length (row w log.region) =
+    let fits : g.B.Board.tells c.args.board.now → log.end + 1 + 4 * (length bytes / 8) ≤ length (halfwords_in w log.region) =
     λ told. omega (arith, g.met.B.Board.shape c.args.board.now told c.requires.attached log.region, c.requires.room, lines.whole) in
     chained_words g.B.Board g.met.B.Board.reads (AppendMayLeave log line bytes) _ c.in_ok-program.ensures.changes c.in_err-complete.ensures.changes
     (λ told o may. writing_may log line bytes lines.some lines.most lines.inside whole below c.word_of-writing.result c.word_of-writing.ensures w o (fits told) may)
@@ -48,7 +48,7 @@ returns-clause-changes g c =
     let lines = c.requires.lines in
     let whole : length (halfwords_of bytes) ≡ 4 * (length bytes / 8) = omega (arith, length_halfwords bytes, lines.whole) in
     let below = λ (k : ℕ). halfword_below bytes k (λ i. omega (arith, c.type_inv.bytes i)) in
-    let fits : g.B.Board.tells c.args.board.now → log.end + 1 + 4 * (length bytes / 8) ≤ length (row w log.region) =
+    let fits : g.B.Board.tells c.args.board.now → log.end + 1 + 4 * (length bytes / 8) ≤ length (halfwords_in w log.region) =
     λ told. omega (arith, g.met.B.Board.shape c.args.board.now told c.requires.attached log.region, c.requires.room, lines.whole) in
     chained_words g.B.Board g.met.B.Board.reads (AppendMayLeave log line bytes) (Appends log line bytes) c.in_ok-program.ensures.changes c.in_ok-complete.ensures.changes
     (λ told o may. writing_may log line bytes lines.some lines.most lines.inside whole below c.word_of-writing.result c.word_of-writing.ensures w o (fits told) may)

@@ -1,5 +1,5 @@
 use Rattle.std.proofs.Common.{◌≡◌, sym, subst}
-use Rattle.flash_board.specs.Words.{Words, row}
+use Rattle.flash_board.specs.Words.{Words, halfwords_in}
 use Rattle.flash_board.specs.declared.board.Region.{Region}
 use Rattle.flash_board.specs.declared.board.Mark.{Mark}
 use Rattle.sector_log.specs.Sector.{HasHead, BadHead}
@@ -22,8 +22,8 @@ returns-in_err-other-clause-foreign g c = err_from c.from_residual-in_err-other.
     let told_mid = c.head_at-2.ensures.reads.changes.told told in
     let same : g.B.Board.words c.head_at.new.board ≡ W = c.head_at.ensures.reads.changes.content told_mid in
     bad_other_head W c.args.guard c.in_ok-home.home c.second_sector.result place c.second_sector.ensures (c.requires.row (c.head_at.ensures.reads.changes.told told_mid)) c.requires.even c.in_ok-home.ensures.may
-    (subst (λ (q : Region). HasHead (row W q) c.in_ok-home.home) c.first_sector.ensures (c.in_ok-home.ensures.head told_mid))
-    (subst (λ (w : Words). At c.second_sector.result (BadHead (beside c.in_ok-home.home) (row w c.second_sector.result)) place) same (bad told)))
+    (subst (λ (q : Region). HasHead (halfwords_in W q) c.in_ok-home.home) c.first_sector.ensures (c.in_ok-home.ensures.head told_mid))
+    (subst (λ (w : Words). At c.second_sector.result (BadHead (beside c.in_ok-home.home) (halfwords_in w c.second_sector.result)) place) same (bad told)))
     c.in_err-other.ensures.foreign)
 
 pub returns-clause-heads : goal.returns-clause-heads
@@ -36,9 +36,9 @@ returns-clause-heads g c = λ told.
       even = c.requires.even;
       home_may = c.in_ok-home.ensures.may;
       other_may = c.in_ok-other.ensures.may;
-      first = subst (λ (q : Region). HasHead (row W q) c.in_ok-home.home) c.first_sector.ensures (c.in_ok-home.ensures.head told_mid);
-      second = subst (λ (w : Words). HasHead (row w (second_of c.args.guard)) c.in_ok-other.other) same
-          (subst (λ (q : Region). HasHead (row (g.B.Board.words c.head_at.new.board) q) c.in_ok-other.other) c.second_sector.ensures (c.in_ok-other.ensures.head told));
+      first = subst (λ (q : Region). HasHead (halfwords_in W q) c.in_ok-home.home) c.first_sector.ensures (c.in_ok-home.ensures.head told_mid);
+      second = subst (λ (w : Words). HasHead (halfwords_in w (second_of c.args.guard)) c.in_ok-other.other) same
+          (subst (λ (q : Region). HasHead (halfwords_in (g.B.Board.words c.head_at.new.board) q) c.in_ok-other.other) c.second_sector.ensures (c.in_ok-other.ensures.head told));
     } in
     subst (λ (m : Mark). AreHeads W c.args.guard m (other_mark_of c.shape_of.result)) (sym c.shape_of.ensures.home)
     (subst (λ (n : Mark). AreHeads W c.args.guard c.in_ok-home.home n) (sym c.shape_of.ensures.other) heads)

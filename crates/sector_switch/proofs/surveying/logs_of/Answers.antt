@@ -1,5 +1,5 @@
 use Rattle.std.proofs.Common.{◌≡◌, subst}
-use Rattle.flash_board.specs.Words.{Words, row}
+use Rattle.flash_board.specs.Words.{Words, halfwords_in}
 use Rattle.flash_board.specs.declared.board.Region.{Region}
 use Rattle.sector_log.specs.Sector.{IsSector, BadLog}
 use Rattle.sector_log.specs.Log.{IsLogOf}
@@ -21,8 +21,8 @@ returns-in_err-other-clause-foreign g c = err_from c.from_residual-in_err-other.
     let same : g.B.Board.words c.bytes_at.new.board ≡ W = c.bytes_at.ensures.reads.changes.content told_mid in
     let home = c.in_ok-home.ensures.log told_mid in
     bad_other_log W c.args.guard c.args.first c.args.second home.0 c.second_sector.result place c.second_sector.ensures (c.requires.heads (c.bytes_at.ensures.reads.changes.told told_mid))
-    (subst (λ (q : Region). IsSector (row W q) c.args.first home.0) c.first_sector.ensures home.1)
-    (subst (λ (w : Words). At c.second_sector.result (BadLog (row w c.second_sector.result)) place) same (bad told)))
+    (subst (λ (q : Region). IsSector (halfwords_in W q) c.args.first home.0) c.first_sector.ensures home.1)
+    (subst (λ (w : Words). At c.second_sector.result (BadLog (halfwords_in w c.second_sector.result)) place) same (bad told)))
     c.in_err-other.ensures.foreign)
 
 pub returns-clause-logs : goal.returns-clause-logs
@@ -36,9 +36,9 @@ returns-clause-logs g c = λ told.
       home_entries = home.0;
       other_entries = other.0;
       heads = c.requires.heads (c.bytes_at.ensures.reads.changes.told told_mid);
-      first = subst (λ (q : Region). IsSector (row W q) c.args.first home.0) c.first_sector.ensures home.1;
-      second = subst (λ (w : Words). IsSector (row w (second_of c.args.guard)) c.args.second other.0) same
-          (subst (λ (q : Region). IsSector (row (g.B.Board.words c.bytes_at.new.board) q) c.args.second other.0) c.second_sector.ensures other.1);
+      first = subst (λ (q : Region). IsSector (halfwords_in W q) c.args.first home.0) c.first_sector.ensures home.1;
+      second = subst (λ (w : Words). IsSector (halfwords_in w (second_of c.args.guard)) c.args.second other.0) same
+          (subst (λ (q : Region). IsSector (halfwords_in (g.B.Board.words c.bytes_at.new.board) q) c.args.second other.0) c.second_sector.ensures other.1);
       home_log = subst (λ (q : Region). IsLogOf c.in_ok-home.home q c.args.first home.0) c.first_sector.ensures home.2;
       other_log = subst (λ (q : Region). IsLogOf c.in_ok-other.other q c.args.second other.0) c.second_sector.ensures other.2;
       home_value = home.3;

@@ -1,5 +1,5 @@
 use Rattle.std.proofs.Common.{◌≡◌, ℕ, ◌*◌, ◌/◌, Option, Some, length, refl, sym, ◌∙◌, ap, subst, arith}
-use Rattle.flash_board.specs.Words.{Words, row}
+use Rattle.flash_board.specs.Words.{Words, halfwords_in}
 use Rattle.flash_board.specs.declared.board.Region.{Region}
 use Rattle.flash_board.specs.declared.board.Mark.TheVariants.{InUse}
 use Rattle.sector_log.specs.Sector.{IsSector, BadLog}
@@ -25,8 +25,8 @@ returns-in_err-log_at-clause-foreign g c = err_from c.from_residual-in_err-log_a
     let told1 = c.log_at.ensures.reads.changes.told told in
     let same1 : g.B.Board.words c.logs_of.new.board ≡ W = c.logs_of.ensures.reads.changes.content told1 in
     let logs = c.in_ok-logs.ensures.logs told1 in
-    let here = subst (λ (q : Region). At q (BadLog (row W q)) place) c.second_sector-region.ensures (subst (λ (w : Words). At c.second_sector-region.result (BadLog (row w c.second_sector-region.result)) place) same1 (bad told)) in
-    absurd (sector_parts.no_bad_log (row W (second_of c.args.guard)) InUse logs.other_entries place.at place.word logs.second here.1))
+    let here = subst (λ (q : Region). At q (BadLog (halfwords_in W q)) place) c.second_sector-region.ensures (subst (λ (w : Words). At c.second_sector-region.result (BadLog (halfwords_in w c.second_sector-region.result)) place) same1 (bad told)) in
+    absurd (sector_parts.no_bad_log (halfwords_in W (second_of c.args.guard)) InUse logs.other_entries place.at place.word logs.second here.1))
     c.in_err-log_at.ensures.foreign)
 
 pub returns-then-left-logs-clause-foreign : goal.returns-then-left-logs-clause-foreign
@@ -40,13 +40,13 @@ returns-then-left-logs-clause-foreign g c = λ told.
     let logs = c.in_ok-logs.ensures.logs told1 in
     let again = c.in_ok-log_at.ensures.log told2 in
     let value = spilled_value W c.args.guard c.in_ok-logs.logs.home c.in_ok-logs.logs.other c.logs_of.new.whole c.logs_of.new.upper c.log_at.new.into c.second_sector-region.result again.0 c.second_sector-region.ensures logs
-    (subst (λ (w : Words). IsSector (row w c.second_sector-region.result) InUse again.0) same1 again.1) again.3 in
+    (subst (λ (w : Words). IsSector (halfwords_in w c.second_sector-region.result) InUse again.0) same1 again.1) again.3 in
     let known = spilled_known W c.args.guard c.in_ok-logs.logs.home c.in_ok-logs.logs.other c.logs_of.new.whole c.logs_of.new.upper c.log_at.new.into c.in_ok-completable.completable logs
-    (λ mark entries of sector. c.in_ok-completable.ensures.known told mark entries of (subst (λ (w : Words). IsSector (row w c.in_ok-logs.logs.other.region) mark entries) (sym same2) sector)) in
+    (λ mark entries of sector. c.in_ok-completable.ensures.known told mark entries of (subst (λ (w : Words). IsSector (halfwords_in w c.in_ok-logs.logs.other.region) mark entries) (sym same2) sector)) in
     let left : c.count_left-left.result ≡ left_to_copy c.log_at.new.into c.logs_of.new.upper (torn_chunk c.in_ok-completable.completable c.in_ok-logs.logs.other) =
     c.count_left-left.ensures.count ∙ ap (λ (f : Option ℕ). left_to_copy c.log_at.new.into c.logs_of.new.upper f) c.torn_chunk.ensures in
     let size = g.B.Board.sector_bytes c.args.board.now in
-    let long : 2 * length (row W (second_of c.args.guard)) ≡ size = omega (arith, g.met.B.Board.shape c.args.board.now told0 c.requires.attached (second_of c.args.guard), length_second size c.args.guard, half_of size c.requires.attached) in
+    let long : 2 * length (halfwords_in W (second_of c.args.guard)) ≡ size = omega (arith, g.met.B.Board.shape c.args.board.now told0 c.requires.attached (second_of c.args.guard), length_second size c.args.guard, half_of size c.requires.attached) in
     let geometry : g.B.Board.sector_bytes c.is_completable.new.board ≡ g.B.Board.sector_bytes c.args.board.now =
     c.is_completable.ensures.reads.changes.geometry ∙ c.log_at.ensures.reads.changes.geometry ∙ c.logs_of.ensures.reads.changes.geometry in
     subst (λ (q : Region). FirstBad W (place_of q 0 23550)) (sym c.second_sector-region.ensures)
@@ -64,13 +64,13 @@ returns-clause-stands g c = λ told.
     let logs = c.in_ok-logs.ensures.logs told1 in
     let again = c.in_ok-log_at.ensures.log told2 in
     let value = spilled_value W c.args.guard c.in_ok-logs.logs.home c.in_ok-logs.logs.other c.logs_of.new.whole c.logs_of.new.upper c.log_at.new.into c.second_sector-region.result again.0 c.second_sector-region.ensures logs
-    (subst (λ (w : Words). IsSector (row w c.second_sector-region.result) InUse again.0) same1 again.1) again.3 in
+    (subst (λ (w : Words). IsSector (halfwords_in w c.second_sector-region.result) InUse again.0) same1 again.1) again.3 in
     let known = spilled_known W c.args.guard c.in_ok-logs.logs.home c.in_ok-logs.logs.other c.logs_of.new.whole c.logs_of.new.upper c.log_at.new.into c.in_ok-completable.completable logs
-    (λ mark entries of sector. c.in_ok-completable.ensures.known told mark entries of (subst (λ (w : Words). IsSector (row w c.in_ok-logs.logs.other.region) mark entries) (sym same2) sector)) in
+    (λ mark entries of sector. c.in_ok-completable.ensures.known told mark entries of (subst (λ (w : Words). IsSector (halfwords_in w c.in_ok-logs.logs.other.region) mark entries) (sym same2) sector)) in
     let left : c.count_left-left.result ≡ left_to_copy c.log_at.new.into c.logs_of.new.upper (torn_chunk c.in_ok-completable.completable c.in_ok-logs.logs.other) =
     c.count_left-left.ensures.count ∙ ap (λ (f : Option ℕ). left_to_copy c.log_at.new.into c.logs_of.new.upper f) c.torn_chunk.ensures in
     let size = g.B.Board.sector_bytes c.args.board.now in
-    let long : 2 * length (row W (second_of c.args.guard)) ≡ size = omega (arith, g.met.B.Board.shape c.args.board.now told0 c.requires.attached (second_of c.args.guard), length_second size c.args.guard, half_of size c.requires.attached) in
+    let long : 2 * length (halfwords_in W (second_of c.args.guard)) ≡ size = omega (arith, g.met.B.Board.shape c.args.board.now told0 c.requires.attached (second_of c.args.guard), length_second size c.args.guard, half_of size c.requires.attached) in
     let geometry : g.B.Board.sector_bytes c.is_completable.new.board ≡ g.B.Board.sector_bytes c.args.board.now =
     c.is_completable.ensures.reads.changes.geometry ∙ c.log_at.ensures.reads.changes.geometry ∙ c.logs_of.ensures.reads.changes.geometry in
     let kept : Kept = record { sector_bytes = c.geometry-sector_bytes.result.sector_bytes; guard = c.args.guard; home = c.in_ok-logs.logs.home; other = Some c.in_ok-logs.logs.other; completable = c.in_ok-completable.completable } in
@@ -108,13 +108,13 @@ returns-clause-fits g c =
           let logs = c.in_ok-logs.ensures.logs told1 in
           let again = c.in_ok-log_at.ensures.log told2 in
           let value = spilled_value W c.args.guard c.in_ok-logs.logs.home c.in_ok-logs.logs.other c.logs_of.new.whole c.logs_of.new.upper c.log_at.new.into c.second_sector-region.result again.0 c.second_sector-region.ensures logs
-          (subst (λ (w : Words). IsSector (row w c.second_sector-region.result) InUse again.0) same1 again.1) again.3 in
+          (subst (λ (w : Words). IsSector (halfwords_in w c.second_sector-region.result) InUse again.0) same1 again.1) again.3 in
           let known = spilled_known W c.args.guard c.in_ok-logs.logs.home c.in_ok-logs.logs.other c.logs_of.new.whole c.logs_of.new.upper c.log_at.new.into c.in_ok-completable.completable logs
-          (λ mark entries of sector. c.in_ok-completable.ensures.known told mark entries of (subst (λ (w : Words). IsSector (row w c.in_ok-logs.logs.other.region) mark entries) (sym same2) sector)) in
+          (λ mark entries of sector. c.in_ok-completable.ensures.known told mark entries of (subst (λ (w : Words). IsSector (halfwords_in w c.in_ok-logs.logs.other.region) mark entries) (sym same2) sector)) in
           let left : c.count_left-left.result ≡ left_to_copy c.log_at.new.into c.logs_of.new.upper (torn_chunk c.in_ok-completable.completable c.in_ok-logs.logs.other) =
           c.count_left-left.ensures.count ∙ ap (λ (f : Option ℕ). left_to_copy c.log_at.new.into c.logs_of.new.upper f) c.torn_chunk.ensures in
           let size = g.B.Board.sector_bytes c.args.board.now in
-          let long : 2 * length (row W (second_of c.args.guard)) ≡ size = omega (arith, g.met.B.Board.shape c.args.board.now told0 c.requires.attached (second_of c.args.guard), length_second size c.args.guard, half_of size c.requires.attached) in
+          let long : 2 * length (halfwords_in W (second_of c.args.guard)) ≡ size = omega (arith, g.met.B.Board.shape c.args.board.now told0 c.requires.attached (second_of c.args.guard), length_second size c.args.guard, half_of size c.requires.attached) in
           subst (λ (w : Words). TwoLogWords kept c.in_ok-logs.logs.other images w) (sym (c.is_completable.ensures.reads.changes.content told ∙ same2))
           (spilled_words W kept c.in_ok-logs.logs.other c.logs_of.new.whole c.logs_of.new.upper c.log_at.new.into logs value known
           (omega (arith, c.if-left-logs.false, left, long, c.geometry-sector_bytes.ensures, geometry))),

@@ -1,5 +1,5 @@
 use Rattle.std.proofs.Common.{◌≡◌, subst}
-use Rattle.flash_board.specs.Words.{Words, row}
+use Rattle.flash_board.specs.Words.{Words, halfwords_in}
 use Rattle.flash_board.specs.declared.board.Region.{Region}
 use Rattle.flash_board.specs.declared.board.Mark.TheVariants.{InUse}
 use Rattle.flash_board.specs.declared.board.Mark.{Mark}
@@ -24,8 +24,8 @@ returns-in_err-home-clause-foreign g c = err_from c.from_residual-in_err-home.re
     let same : g.B.Board.words c.head_at.new.board ≡ W = c.head_at.ensures.reads.changes.content told_mid in
     let in_use : c.in_ok-head_at.field-0 ≡ InUse = only_mark c.in_ok-head_at.field-0 c.in_ok-head_at.ensures.may in
     bad_only_log W c.args.guard region place c.first_sector-region.ensures (c.requires.row (c.head_at.ensures.reads.changes.told told_mid)) c.requires.odd
-    (subst (λ (m : Mark). HasHead (row W region) m) in_use (c.in_ok-head_at.ensures.head told_mid))
-    (subst (λ (w : Words). At region (BadLog (row w region)) place) same (bad told)))
+    (subst (λ (m : Mark). HasHead (halfwords_in W region) m) in_use (c.in_ok-head_at.ensures.head told_mid))
+    (subst (λ (w : Words). At region (BadLog (halfwords_in w region)) place) same (bad told)))
     c.in_err-home.ensures.foreign)
 
 pub returns-clause-stands : goal.returns-clause-stands
@@ -39,7 +39,7 @@ returns-clause-stands g c = λ told.
       record {
         guard = c.requires.row (c.head_at.ensures.reads.changes.told told_mid);
         odd = c.requires.odd;
-        first = subst (λ (q : Region). IsSector (row W q) InUse home.0) c.first_sector-region.ensures (subst (λ (w : Words). IsSector (row w region) InUse home.0) same home.1);
+        first = subst (λ (q : Region). IsSector (halfwords_in W q) InUse home.0) c.first_sector-region.ensures (subst (λ (w : Words). IsSector (halfwords_in w region) InUse home.0) same home.1);
       },
       home.3,
     )

@@ -1,7 +1,7 @@
 use Rattle.std.proofs.Common.{◌≡◌, List, [], sym, ◌∙◌, ap, subst}
 use Rattle.mav_messages.specs.declared.messages.Reply.{Reply}
 use Rattle.vehicle_core.specs.Vehicle.{Told}
-use Rattle.vehicle_core.specs.Parts.{Did}
+use Rattle.vehicle_core.specs.Acts.{Did}
 use Rattle.vehicle_core.specs.Replies.{AreRepliesOf}
 use Rattle.vehicle_core.proofs.Machine.{did-no_stream, streams}
 use Rattle.vehicle_core.proofs.Core.stream.Goals as goal

@@ -1,7 +1,7 @@
 use Rattle.std.proofs.Common.{◌≡◌, ℕ, Bool, List, inr, ap, subst, ◌∙◌}
 use Rattle.mav_frames.specs.Frames.{is_v2}
 use Rattle.dirty_lines.specs.Lines.{current_of}
-use Rattle.vehicle_core.specs.Parts.{Said, Did, did}
+use Rattle.vehicle_core.specs.Acts.{Said, Did, did}
 use Rattle.vehicle_core.specs.Replies.{AreRepliesOf}
 use Rattle.vehicle_node.proofs.PartAnswers.{part_of}
 use Rattle.vehicle_node.proofs.StationsTold.{part_told, replies_inside}

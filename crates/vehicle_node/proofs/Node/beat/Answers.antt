@@ -1,7 +1,7 @@
 use Rattle.std.proofs.Common.{◌≡◌, ℕ, [], List, refl, sym, subst, ◌∙◌}
 use Rattle.dirty_lines.specs.Lines.{current_of}
 use Rattle.vehicle_core.specs.Vehicle.{Vehicle, Told}
-use Rattle.vehicle_core.specs.Parts.{Beat, did}
+use Rattle.vehicle_core.specs.Acts.{Beat, did}
 use Rattle.vehicle_core.specs.Replies.{AreRepliesOf}
 use Rattle.vehicle_node.proofs.PartAnswers.{part_of}
 use Rattle.vehicle_node.proofs.StationsTold.{part_told, replies_inside}

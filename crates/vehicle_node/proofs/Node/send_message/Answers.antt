@@ -1,5 +1,5 @@
 use Rattle.std.proofs.Common.{[], ◌∷◌, ap}
-use Rattle.flash_board.specs.Losses.{frame, Moment}
+use Rattle.flash_board.specs.Losses.{sent_frame, Moment}
 use Rattle.vehicle_node.specs.Inside.{view_of}
 use Rattle.vehicle_node.specs.Frames.{AreFramesOf}
 use Rattle.vehicle_node.specs.Sending.{delivery, answers_of, machine_after}
@@ -11,7 +11,7 @@ returns-in-Ok-clause-done g c = λ content tells.
     let node = c.args.self.now in
     let to = c.args.station in
     let ds = delivery to content ∷ [] in
-    let f = frame to c.as_slice.result.now in
+    let f = sent_frame to c.as_slice.result.now in
     let n = c.count_frame.ensures in
     let are : AreFramesOf (answers_of node.machine ds) (f ∷ []) =
     delivered (view_of c.self.inside) node to content c.args.message.now c.version_two-version_two.result c.write_frame-frame.result.items c.as_slice.result.now c.self.view_is tells
@@ -39,7 +39,7 @@ returns-in-Err-clause-done g c = λ content tells.
     let node = c.args.self.now in
     let to = c.args.station in
     let ds = delivery to content ∷ [] in
-    let f = frame to c.as_slice.result.now in
+    let f = sent_frame to c.as_slice.result.now in
     let are : AreFramesOf (answers_of node.machine ds) (f ∷ []) =
     delivered (view_of c.self.inside) node to content c.args.message.now c.version_two-version_two.result c.write_frame-frame.result.items c.as_slice.result.now c.self.view_is tells
     c.version_two-version_two.ensures c.as_slice.ensures.value c.write_frame-frame.ensures.sent in

@@ -1,6 +1,6 @@
 use Rattle.std.proofs.Common.{ℕ, List, sym, ap, subst, ◌∙◌}
 use Rattle.dirty_lines.specs.Lines.{current_of}
-use Rattle.vehicle_core.specs.Parts.{Stream, did}
+use Rattle.vehicle_core.specs.Acts.{Stream, did}
 use Rattle.vehicle_core.specs.Replies.{AreRepliesOf}
 use Rattle.vehicle_node.proofs.PartAnswers.{part_of}
 use Rattle.vehicle_node.proofs.StationsTold.{part_told, replies_inside, stream_writes}

@@ -1,5 +1,5 @@
 use Rattle.std.proofs.Common.{◌∙◌, refl, arith, Ok}
-use Rattle.vehicle_core.specs.Parts.{Stream}
+use Rattle.vehicle_core.specs.Acts.{Stream}
 use Rattle.vehicle_node.proofs.Parts.{parts_none, turns_more, turns_cut}
 use Rattle.vehicle_node.proofs.Node.stream_all.Goals as goal
 

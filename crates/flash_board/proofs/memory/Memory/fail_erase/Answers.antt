@@ -1,5 +1,5 @@
 use Rattle.std.proofs.Common.{◌≡◌, ◌+◌, ◌^◌, ◌<◌, ℕ, false, refl, sym, ◌∙◌, ap, subst, arith, slice_index}
-use Rattle.flash_board.specs.Words.{Words, row, EraseMayLeave, HasShape}
+use Rattle.flash_board.specs.Words.{Words, halfwords_in, EraseMayLeave, HasShape}
 use Rattle.flash_board.specs.Losses.{Moment, OnWords}
 use Rattle.flash_board.specs.Flash.{words_of, half_erased}
 use Rattle.flash_board.specs.declared.record.Call.TheVariants as call
@@ -24,8 +24,8 @@ returns-clause-changes c =
     let m = c.args.self.now in
     changes m _ (call.Erase c.args.region false) (record { feed = refl; base = refl; first = refl; told = c.note.ensures.full; noted = c.note.ensures.noted }) (EraseMayLeave c.args.region) (EraseMayLeave c.args.region) refl refl refl (record { programs = omega arith; erases = omega arith; receptions = omega arith; sendings = omega arith })
     (λ o may. may)
-    (λ told. record { words = half_erased_may (before_of m).words c.args.region (subst (λ (w : Words). (k : ℕ) → slice_index (row w c.args.region) k < 2 ^ 16) (c.half_erase.ensures.after ∙ ap (λ (w : Words). half_erased w c.args.region) (m.kept (c.note.ensures.full told)).words) c.half_erase.ensures.fits); events = refl; frames = refl })
-    (λ told. record { words = half_erased_may (before_of m).words c.args.region (subst (λ (w : Words). (k : ℕ) → slice_index (row w c.args.region) k < 2 ^ 16) (c.half_erase.ensures.after ∙ ap (λ (w : Words). half_erased w c.args.region) (m.kept (c.note.ensures.full told)).words) c.half_erase.ensures.fits); events = refl; frames = refl })
+    (λ told. record { words = half_erased_may (before_of m).words c.args.region (subst (λ (w : Words). (k : ℕ) → slice_index (halfwords_in w c.args.region) k < 2 ^ 16) (c.half_erase.ensures.after ∙ ap (λ (w : Words). half_erased w c.args.region) (m.kept (c.note.ensures.full told)).words) c.half_erase.ensures.fits); events = refl; frames = refl })
+    (λ told. record { words = half_erased_may (before_of m).words c.args.region (subst (λ (w : Words). (k : ℕ) → slice_index (halfwords_in w c.args.region) k < 2 ^ 16) (c.half_erase.ensures.after ∙ ap (λ (w : Words). half_erased w c.args.region) (m.kept (c.note.ensures.full told)).words) c.half_erase.ensures.fits); events = refl; frames = refl })
 
 pub returns-clause-covers : goal.returns-clause-covers
 returns-clause-covers c = let m = c.args.self.now in covers m _ (call.Erase c.args.region false) (record { feed = refl; base = refl; first = refl; told = c.note.ensures.full; noted = c.note.ensures.noted }) (OnWords (EraseMayLeave c.args.region)) (λ o may. may)

@@ -1,5 +1,5 @@
 use Rattle.std.proofs.Common.{◌≡◌, inl, ◌+◌, ℕ, List, false, refl, sym, ◌∙◌, ap, subst, arith}
-use Rattle.flash_board.specs.Losses.{Moment, Outcome, Frame, frame, Either, Unchanged, Sends}
+use Rattle.flash_board.specs.Losses.{Moment, Outcome, SentFrame, sent_frame, Either, Unchanged, Sends}
 use Rattle.flash_board.specs.Kept.{start}
 use Rattle.flash_board.specs.declared.record.Call.TheVariants as call
 use Rattle.flash_board.proofs.MemCalls.{before_of, kept-push, elapses, covers}
@@ -21,7 +21,7 @@ invariant_of-self c = let m = c.args.self.now in record {
 pub returns-clause-sends : goal.returns-clause-sends
 returns-clause-sends c =
     let m = c.args.self.now in
-    let same = ap (λ (l : List ℕ). frame c.args.peer l) c.copied-bytes.ensures in
+    let same = ap (λ (l : List ℕ). sent_frame c.args.peer l) c.copied-bytes.ensures in
     record {
       words = record { geometry = refl; told = c.note.ensures.full; content = λ told. refl };
       lists = λ e f stood told.
@@ -30,9 +30,9 @@ returns-clause-sends c =
             was.0 ∙ sym (ap (λ (o : Outcome). o.events) after),
             was.1 ∙ sym (ap (λ (o : Outcome). o.frames) after),
           );
-      passes = elapses m _ (call.Send c.args.peer c.copied-bytes.result false) (record { feed = refl; base = refl; first = refl; told = c.note.ensures.full; noted = c.note.ensures.noted }) (Either Unchanged (Sends (frame c.args.peer c.args.bytes.now))) (Either Unchanged (Sends (frame c.args.peer c.args.bytes.now))) (record { programs = omega arith; erases = omega arith; receptions = omega arith; sendings = omega arith })
-          (λ o may. subst (λ (f : Frame). Either Unchanged (Sends f) (before_of m) o) same may)
+      passes = elapses m _ (call.Send c.args.peer c.copied-bytes.result false) (record { feed = refl; base = refl; first = refl; told = c.note.ensures.full; noted = c.note.ensures.noted }) (Either Unchanged (Sends (sent_frame c.args.peer c.args.bytes.now))) (Either Unchanged (Sends (sent_frame c.args.peer c.args.bytes.now))) (record { programs = omega arith; erases = omega arith; receptions = omega arith; sendings = omega arith })
+          (λ o may. subst (λ (f : SentFrame). Either Unchanged (Sends f) (before_of m) o) same may)
           (λ told. inl refl)
           (λ told. inl refl);
-      covers = covers m _ (call.Send c.args.peer c.copied-bytes.result false) (record { feed = refl; base = refl; first = refl; told = c.note.ensures.full; noted = c.note.ensures.noted }) (Either Unchanged (Sends (frame c.args.peer c.args.bytes.now))) (λ o may. subst (λ (f : Frame). Either Unchanged (Sends f) (before_of m) o) (sym same) may);
+      covers = covers m _ (call.Send c.args.peer c.copied-bytes.result false) (record { feed = refl; base = refl; first = refl; told = c.note.ensures.full; noted = c.note.ensures.noted }) (Either Unchanged (Sends (sent_frame c.args.peer c.args.bytes.now))) (λ o may. subst (λ (f : SentFrame). Either Unchanged (Sends f) (before_of m) o) (sym same) may);
     }

@@ -2,7 +2,7 @@ use Rattle.std.proofs.Common.{◌≤◌, refl, sym, ◌∙◌, ap, subst, arith}
 use Rattle.flash_board.proofs.Moments.{chained_erases_nothing}
 use Rattle.sector_switch.specs.declared.spilled_state.CopyStep.{CopyStep}
 use Rattle.sector_switch.specs.Fits.{FitsSpilled, taken_of, left_chunks}
-use Rattle.sector_switch.specs.Answers.{kept_in}
+use Rattle.sector_switch.specs.Refusals.{kept_in}
 use Rattle.sector_switch.proofs.SpilledCalls.{still_keeps, then_keeps}
 use Rattle.sector_switch.proofs.spilled_state.Spilled.copy.Goals as goal
 

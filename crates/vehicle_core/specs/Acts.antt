@@ -7,10 +7,10 @@ use Rattle.vehicle_core.specs.Vehicle.{Vehicle, Asked, Parameters, Content, Aliv
 
 -- A right frame of a station came, of this version, and its message asks for this. Or it is a station's turn to be told
 -- that the vehicle is there, or to be sent the next values of its list.
-pub data Part : Type 0 where
-  Said : (station : ℕ) (version_two : Bool) (asked : Option Asked) → Part
-  Beat : (station : ℕ) → Part
-  Stream : (station : ℕ) → Part
+pub data Act : Type 0 where
+  Said : (station : ℕ) (version_two : Bool) (asked : Option Asked) → Act
+  Beat : (station : ℕ) → Act
+  Stream : (station : ℕ) → Act
 
 -- the state behind a part, the lines that it writes, and what is told
 pub record Did : Type 0 where
@@ -31,7 +31,7 @@ asked_of bytes vehicle station None = nothing vehicle
 asked_of bytes vehicle station (Some (Parameters request)) = by_parameters vehicle (parameters.answered bytes vehicle.next_rows station request)
 
 -- What the vehicle does at a part, over these storage bytes. Stations that weren't heard are told nothing.
-unfoldable pub did : List ℕ → Vehicle → Part → Did
+unfoldable pub did : List ℕ → Vehicle → Act → Did
 did bytes vehicle (Said station version_two asked) = asked_of bytes (hears vehicle station version_two) station asked
 did bytes vehicle (Beat station) = record { vehicle = vehicle; writes = []; told = if is_heard vehicle station then record { to = Station station; content = Alive } ∷ [] else [] }
 did bytes vehicle (Stream station) = if is_heard vehicle station then by_parameters vehicle (parameters.streamed bytes vehicle.next_rows station) else nothing vehicle
