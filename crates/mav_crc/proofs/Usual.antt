@@ -19,7 +19,7 @@ step_split a y e =
     ∙ ap (λ v. cond (y % 2 == 1) (bit_xor v 0x8408) v) s
     ∙ chosen (y % 2 == 1) (a / 2) (y / 2) 0x8408
 
-steps_split : (k h y : ℕ) → steps k (bit_xor (h * 2 ^ k) y) ≡ bit_xor h (steps k y)
+pub steps_split : (k h y : ℕ) → steps k (bit_xor (h * 2 ^ k) y) ≡ bit_xor h (steps k y)
 steps_split zero h y = ap (λ v. bit_xor v y) (let e : h * 2 ^ 0 ≡ h = omega arith in e)
 steps_split (suc k) h y =
     let p : 2 ^ suc k ≡ 2 ^ k * 2 = ap (λ j. 2 ^ j) (sym (add-one k)) ∙ pow_more 2 k in
@@ -40,7 +40,7 @@ every_byte = refl
 of_byte : (l : ℕ) → l < 256 → steps 8 l ≡ spread (folded l)
 of_byte l h = eqb-true (steps 8 l) (spread (folded l)) (agree_below_at (λ n. steps 8 n == spread (folded n)) (λ _. true) 256 l every_byte h)
 
-halves : (x : ℕ) → x ≡ bit_xor (x / 256 * 2 ^ 8) (x % 256)
+pub halves : (x : ℕ) → x ≡ bit_xor (x / 256 * 2 ^ 8) (x % 256)
 halves x =
     let b = xor_block 8 (x / 256) 0 0 (x % 256) (omega arith) (omega arith) in
     let e : x / 256 * 2 ^ 8 + 0 ≡ x / 256 * 2 ^ 8 = omega arith in

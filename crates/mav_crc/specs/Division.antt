@@ -1,4 +1,5 @@
--- Division of polynomials over two elements. A polynomial is the list of its coefficients, 0 or 1, the highest power first.
+-- Division of polynomials over two elements. A polynomial is the list of its coefficients, 0 or 1,
+-- the highest power first.
 use Rattle.std.specs.Prelude.{ℕ, zero, suc, ◌≡◌, ◌+◌, ◌*◌, ◌/◌, ◌%◌, ◌^◌, ◌<◌, List, [], ◌∷◌, ◌++◌, length, replicate}
 
 -- the sum over two elements, the lists laid with their fronts together
@@ -22,7 +23,8 @@ abbrev pub AreBits : List ℕ → Type 0
 AreBits [] = Unit {0}
 AreBits (x ∷ xs) = (x < 2) × AreBits xs
 
--- r is the remainder of v divided by d: v is d times a quotient, plus r in the last places, and r is shorter than d
+-- r is the remainder of v divided by d: v is d times a quotient, plus r in the last places, and r
+-- is shorter than d
 pub record IsRemainder (d v r : List ℕ) : Type 0 where
   pub quotient : List ℕ
   pub bits : AreBits quotient
@@ -44,7 +46,8 @@ abbrev pub bits_of_bytes : List ℕ → List ℕ
 bits_of_bytes [] = []
 bits_of_bytes (b ∷ bs) = low_bits 8 b ++ bits_of_bytes bs
 
--- what is divided: the bits of the bytes and sixteen zeros, with the start value's bits added to the first sixteen
+-- what is divided: the bits of the bytes and sixteen zeros, with the start value's bits added to
+-- the first sixteen
 abbrev pub dividend : ℕ → List ℕ → List ℕ
 dividend start bytes = add (low_bits 16 start) (bits_of_bytes bytes ++ replicate 16 0)
 

@@ -1,5 +1,5 @@
--- The CRC as a register that takes one bit after another, by which CRCs of pieces chain. That it is the remainder of the
--- division is a law of this crate.
+-- The CRC as a register that takes one bit after another, by which CRCs of pieces chain. That it is
+-- the remainder of the division is a law of this crate.
 use Rattle.std.specs.Prelude.{ℕ, zero, suc, ◌/◌, ◌%◌, ◌==◌, if◌then◌else◌, bit_xor, List, fold}
 
 -- a bit leaves the register: where it is 1, the reflected polynomial is subtracted

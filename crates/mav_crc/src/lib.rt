@@ -1,4 +1,5 @@
-//! The CRC of MAVLink frames (CRC-16/MCRF4XX), and the byte CRC_EXTRA that stands for a message's description.
+//! The CRC of MAVLink frames (CRC-16/MCRF4XX), and the byte CRC_EXTRA that stands for a message's
+//! description.
 #![tactic(auto)]
 
 ghost use Rattle.std.specs.Prelude.{◌≡◌, ◌<◌, All};
@@ -19,19 +20,35 @@ fn accumulate(register: u16, byte: u8) -> u16
     register / 256 ^ folded * 256 ^ folded * 8 ^ folded / 16
 }
 
-/// The CRC of the bytes from a start value on: 0xFFFF for the first bytes, and for later ones the CRC of those before.
+/// The register after two more bytes, with no table: sixteen bits leave it at once.
+fn accumulate_pair(register: u16, first: u8, second: u8) -> u16
+    ensures { result ≡ register_after (register_after register first) second }
+{
+    let leaving = register ^ (second as u16 * 256 + first as u16);
+    let folded = leaving ^ leaving << 4 ^ leaving << 8 ^ leaving << 11 ^ leaving << 12;
+    folded ^ folded >> 5 ^ folded >> 12
+}
+
+/// The CRC of the bytes from a start value on: 0xFFFF for the first bytes, and for later ones the
+/// CRC of those before.
 pub fn crc(start: u16, bytes: &[u8]) -> u16
     ensures divided { IsCrc start bytes.now result }
     ensures chained { result ≡ crc_of start bytes.now }
 {
     let mut register = start;
-    for byte in bytes {
-        register = accumulate(register, *byte);
+    let pairs = bytes.len() / 2;
+    for i in 0..pairs {
+        register = accumulate_pair(register, bytes[2 * i], bytes[2 * i + 1]);
     }
-    register
+    if bytes.len() % 2 == 1 {
+        accumulate(register, bytes[bytes.len() - 1])
+    } else {
+        register
+    }
 }
 
-/// A field of a message, as MAVLink's definition names it. `array` is the number of elements, and 0 for no array.
+/// A field of a message, as MAVLink's definition names it. `array` is the number of elements, and 0
+/// for no array.
 #[derive(Clone, Copy, Debug, Drop)]
 pub struct Field {
     pub kind: &'static [u8],
@@ -54,6 +71,7 @@ fn accumulate_text(register: u16, text: &[u8]) -> u16
     accumulate(crc(register, text), b' ')
 }
 
+/// The register after a field's type and name, and after its length where it is an array.
 fn accumulate_field(register: u16, field: &Field) -> u16
     ensures after { result ≡ crc_of register (field_bytes field.now) }
     ensures bytes { All (λ b. b < 256) (field_bytes field.now) }
@@ -67,6 +85,7 @@ fn accumulate_field(register: u16, field: &Field) -> u16
     }
 }
 
+/// The CRC of a description's text from 0xFFFF on.
 fn description_crc(description: &Description) -> u16
     ensures after { result ≡ crc_of 0xFFFF (description_bytes description.now) }
     ensures bytes { All (λ b. b < 256) (description_bytes description.now) }
