@@ -2,7 +2,7 @@
 use Rattle.std.proofs.Common.{◌≡◌, ℕ, ◌<◌, List, [], ◌∷◌, ◌++◌, length, take, map, refl, sym, ◌∙◌, ap, arith}
 use Rattle.std.proofs.lemmas.List.{take_all, length-append, length-map}
 use Rattle.std.proofs.Math.Seq.{take-append_seam}
-use Rattle.flash_board.specs.Losses.{SentFrame}
+use Rattle.flash_traits.specs.Losses.{SentFrame}
 use Rattle.flash_board.specs.Kept.{frame_of}
 use Rattle.flash_board.specs.declared.record.Sent.{Sent}
 

@@ -1,4 +1,3 @@
-pub mod Moments
 mod Odd
 mod Recorded
 mod Fed

@@ -1,7 +1,7 @@
 -- One more recorded call of a board in memory.
 use Rattle.std.proofs.Common.{◌≡◌, ◌⊎◌, inl, inr, ⊎_elim, ℕ, zero, suc, List, [], ◌∷◌, ◌++◌, take, map, false, refl, sym, ◌∙◌, ap, subst}
-use Rattle.flash_board.specs.Words.{Words}
-use Rattle.flash_board.specs.Losses.{SentFrame, Moment, IsUpTo, Outcome, Elapses, OnWords, ChangesWords, Covers}
+use Rattle.flash_traits.specs.Words.{Words}
+use Rattle.flash_traits.specs.Losses.{SentFrame, Moment, IsUpTo, Outcome, Elapses, OnWords, ChangesWords, Covers}
 use Rattle.flash_board.specs.Flash.{words_of}
 use Rattle.flash_board.specs.Record.{stepped, replayed, counted, moment_after, MayLeave, LeftBy}
 use Rattle.flash_board.specs.Kept.{start, moment_of, frame_of, IsKept}
@@ -13,7 +13,7 @@ use Rattle.flash_board.specs.declared.record.Call.{Call}
 use Rattle.flash_board.specs.declared.record.Sent.{Sent}
 use Rattle.flash_board.specs.declared.counts.Counts.{Counts}
 use Rattle.flash_board.proofs.Recorded.{replayed-push, replayed-noted, moment-push, left-push, left-keep, left-cover}
-use Rattle.flash_board.proofs.Moments.{up_to_self}
+use Rattle.flash_traits.proofs.Moments.{up_to_self}
 
 -- the outcome that the record gives
 abbrev pub before_of : Memory → Outcome

@@ -3,12 +3,12 @@ use Rattle.std.proofs.Common.{◌≡◌, ℕ, zero, suc, ◌^◌, ◌<◌, lit<,
 use Rattle.std.proofs.Math.ListN.{set}
 use Rattle.std.proofs.lemmas.List.{length-set}
 use Rattle.std.specs.Prelude.{slice_index}
-use Rattle.flash_board.specs.Words.{Words, halfwords_in, with_halfwords, programmed, erased, HasShape, EraseMayLeave}
+use Rattle.flash_traits.specs.Words.{Words, halfwords_in, with_halfwords, programmed, erased, HasShape, EraseMayLeave}
 use Rattle.flash_board.specs.Flash.{half_erased}
 use Rattle.flash_board.specs.Rows.{half_set}
-use Rattle.flash_board.specs.declared.board.Region.{Region}
-use Rattle.flash_board.specs.declared.board.Region.TheVariants.{S0, S1, Guard}
-use Rattle.flash_board.proofs.Moments.{row-with_row}
+use Rattle.flash_traits.specs.declared.board.Region.{Region}
+use Rattle.flash_traits.specs.declared.board.Region.TheVariants.{S0, S1, Guard}
+use Rattle.flash_traits.proofs.Moments.{row-with_row}
 
 pub length-with_row : (w : Words) (r : Region) (xs : List ℕ) → length xs ≡ length (halfwords_in w r) → (q : Region) → length (halfwords_in (with_halfwords w r xs) q) ≡ length (halfwords_in w q)
 length-with_row w S0 xs same S0 = same

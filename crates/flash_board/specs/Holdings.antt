@@ -1,6 +1,6 @@
 -- What a board in memory has beside its words, its moment and what it tells.
 use Rattle.std.specs.Prelude.{ℕ, ◌+◌, min, List, [], ◌∷◌, ◌++◌, take, drop, map, length, slice_get, Option, Some, None}
-use Rattle.flash_board.specs.Losses.{Received, SentFrame, sent_frame}
+use Rattle.flash_traits.specs.Losses.{Received, SentFrame, sent_frame}
 use Rattle.flash_board.specs.Record.{event_of}
 use Rattle.flash_board.specs.Kept.{frame_of}
 use Rattle.flash_board.specs.declared.record.Feed.{Feed}

@@ -1,12 +1,12 @@
 -- What the fields of a board in memory have to do with each other.
 use Rattle.std.specs.Prelude.{◌≡◌, ℕ, ◌≤◌, Bool, true, ◌&&◌, nat_lt, List, [], ◌∷◌, length, map, take, Vec, vec_capacity}
 use Rattle.std.specs.declared.alloc.Global.{Global}
-use Rattle.flash_board.specs.Words.{IsSectorSize, HasShape}
-use Rattle.flash_board.specs.Losses.{SentFrame, sent_frame, Moment, Outcome}
+use Rattle.flash_traits.specs.Words.{IsSectorSize, HasShape}
+use Rattle.flash_traits.specs.Losses.{SentFrame, sent_frame, Moment, Outcome}
 use Rattle.flash_board.specs.Flash.{words_of}
 use Rattle.flash_board.specs.Record.{replayed, moment_after}
-use Rattle.flash_board.specs.declared.board.Fault.{Fault}
-use Rattle.flash_board.specs.declared.board.Fault.TheVariants as kind
+use Rattle.flash_traits.specs.declared.board.Fault.{Fault}
+use Rattle.flash_traits.specs.declared.board.Fault.TheVariants as kind
 use Rattle.flash_board.specs.declared.flash.Flash.{Flash}
 use Rattle.flash_board.specs.declared.record.Feed.{Feed}
 use Rattle.flash_board.specs.declared.record.Feed.TheVariants as fed

@@ -1,9 +1,4 @@
-pub mod Words
-pub mod Losses
-pub mod Causes
-pub mod Calls
-pub mod Budget
-pub mod Pairs
+pub mod Numbers
 pub mod Flash
 pub mod Rows
 pub mod Record

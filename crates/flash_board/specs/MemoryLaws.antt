@@ -1,8 +1,9 @@
 -- What a device in memory tells, and the laws of it.
 use Rattle.std.specs.Prelude.{◌≡◌, ◌≢◌, ◌↔◌, ℕ, ◌<◌, ◌-◌, ◌^◌, Bool, true, false, List, [], ◌∷◌, ◌++◌, length}
 use Rattle.std.proofs.Common.{sym, ◌∙◌, ap, subst, inl, inr, arith}
-use Rattle.flash_board.specs.Words.{Words, IsSectorSize, HasShape}
-use Rattle.flash_board.specs.Losses.{Received, Idle, SentFrame, Moment, IsUpTo, Outcome, Elapses, ChangesWords, KeepsWords, Covers, Either, Unchanged, Receives, Sends}
+use Rattle.flash_traits.specs.Words.{Words, IsSectorSize, HasShape}
+use Rattle.flash_traits.specs.Losses.{Received, Idle, SentFrame, Moment, IsUpTo, Outcome, Elapses, ChangesWords, KeepsWords, Covers, Either, Unchanged, Receives, Sends}
+use Rattle.flash_traits.proofs.Sizes.{size_not_zero}
 use Rattle.flash_board.specs.Flash.{words_of}
 use Rattle.flash_board.specs.Record.{replayed, LeftBy, only_last, counts_last}
 use Rattle.flash_board.specs.Kept.{start, moment_of}
@@ -111,14 +112,7 @@ untold_is_full m any told =
     let one : Idle ∷ [] ≡ events_of m = (any (Idle ∷ []) [] told).0 in
     cc
 
--- no sector has 0 bytes
-pub size_not_zero : (n : ℕ) → IsSectorSize n → n ≡ 0 → ⊥
-size_not_zero n (inl is) zero = omega arith
-size_not_zero n (inr (inl is)) zero = omega arith
-size_not_zero n (inr (inr (inl is))) zero = omega arith
-size_not_zero n (inr (inr (inr is))) zero = omega arith
-
 -- the lists have the lengths of the sector size
 pub shape_now : (m : Memory) → IsSectorSize m.sector_bytes → HasShape m.sector_bytes (words_of m.image)
-shape_now m known = let nonzero : m.sector_bytes ≢ 0 = λ zero. absurd (size_not_zero m.sector_bytes known zero) in
+shape_now m known = let nonzero : m.sector_bytes ≢ 0 = size_not_zero m.sector_bytes known in
     subst (λ (n : ℕ). HasShape n (words_of m.image)) (sym (m.attached nonzero)) (m.shaped (subst IsSectorSize (m.attached nonzero) known))

@@ -1,8 +1,8 @@
 -- The record of calls, and what a loss may have left.
 use Rattle.std.specs.Prelude.{◌≡◌, ◌⊎◌, ℕ, ◌+◌, ◌≤◌, List, [], ◌∷◌, ◌++◌, Option, Some, None, slice_get, true, false}
 use Rattle.std.proofs.Common.{refl, arith, inl, inr, length}
-use Rattle.flash_board.specs.Words.{programmed, erased, ProgramMayLeave, EraseMayLeave}
-use Rattle.flash_board.specs.Losses.{Received, Datagram, Idle, End, sent_frame, Moment, IsUpTo, Outcome, OnWords, Receives, Sends, Unchanged, Either}
+use Rattle.flash_traits.specs.Words.{programmed, erased, ProgramMayLeave, EraseMayLeave}
+use Rattle.flash_traits.specs.Losses.{Received, Datagram, Idle, End, sent_frame, Moment, IsUpTo, Outcome, OnWords, Receives, Sends, Unchanged, Either}
 use Rattle.flash_board.specs.Flash.{half_erased}
 use Rattle.flash_board.specs.declared.record.Feed.{Feed}
 use Rattle.flash_board.specs.declared.record.Feed.TheVariants as fed

@@ -1,7 +1,7 @@
 // The counts that boards, sources and sinks in memory keep.
 ghost use Rattle.std.specs.Prelude.{◌≡◌};
-ghost use Rattle.flash_board.specs.Losses.{raised};
-ghost use Rattle.flash_board.specs.Causes.{is_among};
+ghost use Rattle.flash_traits.specs.Counts.{raised};
+ghost use Rattle.flash_board.specs.Numbers.{is_among};
 
 /// The calls so far.
 #[derive(Clone, Copy)]

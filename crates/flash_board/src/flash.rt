@@ -1,11 +1,10 @@
 // The words of a device, in memory.
 ghost use Rattle.std.specs.Prelude.{◌≡◌, ◌<◌, ◌≤◌, ◌^◌, ◌++◌, ℕ, length, IfOk, slice_index, slice_set, replicate, bit_and, vec_capacity};
-ghost use Rattle.flash_board.specs.Words.{Words, halfwords_in, programmed, erased, IsSectorRegion};
-ghost use Rattle.flash_board.specs.Rows.{half_set};
-ghost use Rattle.flash_board.specs.Rows.{HasRoom};
-ghost use Rattle.flash_board.specs.Image.{halfword_bytes, image_bytes};
+ghost use Rattle.flash_traits.specs.Words.{Words, halfwords_in, bytes_of, programmed, erased, IsSectorRegion};
+ghost use Rattle.flash_board.specs.Rows.{HasRoom, half_set};
+ghost use Rattle.flash_board.specs.Image.{image_bytes};
 
-use crate::Region;
+use crate::{GUARD_HALFWORDS, Region};
 use std::alloc::{AllocError, Global};
 
 // The bytes of the largest image.
@@ -71,7 +70,7 @@ fn copy(halfwords: &mut Vec<u16>, from: &Vec<u16>)
 
 // Appends halfwords as bytes, the low byte first.
 fn append_bytes(bytes: &mut Vec<u8>, halfwords: &[u16]) -> Result<(), AllocError>
-    ensures { IfOk result (λ _. bytes.new.items ≡ bytes.old.items ++ halfword_bytes halfwords.now) }
+    ensures { IfOk result (λ _. bytes.new.items ≡ bytes.old.items ++ bytes_of halfwords.now) }
 {
     for halfword in halfwords {
         bytes.push((*halfword % 256) as u8)?;
@@ -90,7 +89,7 @@ impl Flash {
     {
         refill(&mut self.s0, n);
         refill(&mut self.s1, n);
-        refill(&mut self.guard, 8192);
+        refill(&mut self.guard, GUARD_HALFWORDS as usize);
     }
 
     pub(crate) fn copy_from(&mut self, other: &Flash)

@@ -1,12 +1,9 @@
-//! A flash device with a link, as the storage above sees it: what reads give, and what a loss of power may leave.
+//! Boards, sources and sinks in memory, which tell what they hold.
 //!
-//! `Board` is the device and its link, `Source` and `Sink` are bytes that come in and go out. `MemBoard`, `MemSource` and
-//! `MemSink` stand for them in memory, with calls that fail by their number; `SureBoard`, `SureSource` and `SureSink`
-//! never fail.
+//! Calls of `MemBoard`, `MemSource` and `MemSink` fail by their number; those of `SureBoard`, `SureSource` and `SureSink`
+//! never fail. What they stand for, `Board`, `Source` and `Sink`, is passed on from `flash_traits`.
 #![tactic(auto)]
 
-mod arming;
-mod board;
 mod counts;
 mod flash;
 mod input;
@@ -16,21 +13,20 @@ mod mem_sink;
 mod mem_source;
 mod memory;
 mod output;
-mod pair;
 mod record;
-mod stream;
 mod sure_board;
 mod sure_sink;
 mod sure_source;
 
-pub use arming::{LINES, budget};
-pub use board::{Board, Event, Failed, Fault, Geometry, LogError, Mark, Region};
+pub use flash_traits::{
+    Board, DATAGRAM_BYTES, ERASED, Event, FRAME_BYTES, Failed, Fault, GUARD_HALFWORDS, Geometry,
+    LINES, LogError, Mark, Region, SIGNATURE, STATIONS, Sink, Source, budget, is_sector_size,
+    program_pair, size_of_image,
+};
 pub use mem_board::MemBoard;
 pub use mem_sink::MemSink;
 pub use mem_source::MemSource;
-pub use pair::program_pair;
 pub use record::Feed;
-pub use stream::{Sink, Source};
 pub use sure_board::SureBoard;
 pub use sure_sink::SureSink;
 pub use sure_source::SureSource;

@@ -1,17 +1,18 @@
 // Makes a device in memory from an image's bytes.
 ghost use Rattle.std.specs.Prelude.{◌≡◌, ◌≢◌, ◌<◌, ◌≤◌, ◌*◌, ◌+◌, [], ℕ, List, length, IfOk, IsTrue, false};
 ghost use Rattle.flash_board.specs.Rows.{HasRoom};
-ghost use Rattle.flash_board.specs.Words.{IsSectorSize};
+ghost use Rattle.flash_traits.specs.Words.{IsSectorSize, halfwords_of};
 ghost use Rattle.flash_board.specs.Flash.{words_of};
 ghost use Rattle.flash_board.specs.Kept.{peers_fit, moment_of};
 ghost use Rattle.flash_board.specs.Holdings.{holdings_of};
-ghost use Rattle.flash_board.specs.Image.{halfwords, image_size, image_words};
+ghost use Rattle.flash_board.specs.Image.{image_size, image_words};
 
 use crate::counts::Counts;
 use crate::flash::Flash;
 use crate::memory::{CALLS, FRAMES, Memory};
 use crate::record::Feed;
 use arrayvec::ArrayVec;
+use flash_traits::size_of_image;
 use std::alloc::{AllocError, Global};
 
 const HALFWORDS: usize = 65_536;
@@ -20,7 +21,7 @@ const GUARD: usize = 8_192;
 
 fn halfwords_of(alloc: Global, bytes: &[u8], room: usize) -> Result<Vec<u16>, AllocError>
     requires { length bytes.now ≤ 2 * room }
-    ensures items { IfOk result (λ list. list.items ≡ halfwords bytes.now) }
+    ensures items { IfOk result (λ list. list.items ≡ halfwords_of bytes.now) }
     ensures room { IfOk result (λ list. HasRoom list room) }
 {
     let mut list = Vec::with_capacity(alloc, room)?;
@@ -55,23 +56,21 @@ fn copy_feed(alloc: Global, feed: &[Feed]) -> Result<Vec<Feed>, AllocError>
     Ok(list)
 }
 
-// The sector size of an image of this length, or 0.
-fn size_of_image(len: usize) -> u32
-    ensures { result ≡ image_size len }
+// The sector size of an image of so many bytes, or 0.
+#[tactic(auto, using(crate::proofs::Images::size_some, crate::proofs::Images::size_none))]
+fn size_or_zero(bytes: usize) -> u32
+    ensures { result ≡ image_size bytes }
 {
-    match len {
-        49_152 => 16_384,
-        81_920 => 32_768,
-        147_456 => 65_536,
-        278_528 => 131_072,
-        _ => 0,
+    match size_of_image(bytes as u64) {
+        Some(size) => size,
+        None => 0,
     }
 }
 
 fn load_flash(alloc: Global, image: &[u8]) -> Result<Flash, AllocError>
     ensures { IfOk result (λ flash. words_of flash ≡ image_words (image_size (length image.now)) image.now) }
 {
-    let size = size_of_image(image.len()) as usize;
+    let size = size_or_zero(image.len()) as usize;
     if size == 0 {
         return Ok(Flash {
             s0: halfwords_of(alloc, &[], HALFWORDS)?,
@@ -106,7 +105,7 @@ pub(crate) fn load(alloc: Global, image: &[u8], feed: &[Feed]) -> Result<Memory,
     Ok(Memory {
         image: load_flash(alloc, image)?,
         base: load_flash(alloc, image)?,
-        size: size_of_image(image.len()),
+        size: size_or_zero(image.len()),
         sector_bytes: 0,
         feed: copy_feed(alloc, feed)?,
         next: 0,

@@ -52,10 +52,10 @@ impl MemSink {
 
 impl Sink for MemSink {
     ghost use Rattle.std.specs.Prelude.{◌≡◌, ◌↔◌, ◌≤◌, ◌+◌, ◌++◌, ℕ, true, length, take, IsOk, IsErr, IsTrue, OnErr, MatchResult, Ok, Err};
-    ghost use Rattle.flash_board.specs.Causes.{HasOneCause};
+    ghost use Rattle.flash_traits.specs.Causes.{HasOneCause};
     ghost use Rattle.flash_board.specs.OfMemSink.{failing_calls, next_call, room_of};
-    ghost use Rattle.flash_board.specs.Causes.{is_among};
-    ghost use Rattle.flash_board.specs.Losses.{raised};
+    ghost use Rattle.flash_board.specs.Numbers.{is_among};
+    ghost use Rattle.flash_traits.specs.Counts.{raised};
 
     ghost tells_written = { λ s. s.output.told ≡ true };
 

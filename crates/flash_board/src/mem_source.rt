@@ -41,10 +41,10 @@ impl MemSource {
 
 impl Source for MemSource {
     ghost use Rattle.std.specs.Prelude.{◌≡◌, ◌≢◌, ◌↔◌, ◌≤◌, ◌++◌, [], min, length, take, IfOk, IsOk, IsErr, IsTrue, MatchResult, Ok, Err};
-    ghost use Rattle.flash_board.specs.Causes.{HasOneCause};
+    ghost use Rattle.flash_traits.specs.Causes.{HasOneCause};
     ghost use Rattle.flash_board.specs.Streams.{given_of, rest_of};
-    ghost use Rattle.flash_board.specs.Causes.{is_among};
-    ghost use Rattle.flash_board.specs.Losses.{raised};
+    ghost use Rattle.flash_board.specs.Numbers.{is_among};
+    ghost use Rattle.flash_traits.specs.Counts.{raised};
     ghost use Rattle.flash_board.specs.OfMemSource.{failing_calls, next_call};
 
     ghost tells_given = { λ _. Unit {0} };

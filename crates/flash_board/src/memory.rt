@@ -2,14 +2,14 @@
 ghost use Rattle.std.specs.Prelude.{◌≡◌, ◌↔◌, ◌<◌, ◌≤◌, ◌≢◌, ◌^◌, ◌-◌, ◌+◌, ◌++◌, [], ◌∷◌, List, ℕ, Bool, true, false, min, length, map, take, drop, slice_get, IfOk, OnOk, OnErr, IsTrue, vec_capacity};
 ghost use Rattle.std.specs.Bool.{OnTrue, OnFalse};
 ghost use Rattle.flash_board.specs.Kept.{IsKept, IsShaped, HasSpace, peers_fit, frame_of};
-ghost use Rattle.flash_board.specs.Losses.{received, sent_frame, IsEventInRange};
+ghost use Rattle.flash_traits.specs.Losses.{received, sent_frame, IsEventInRange};
 ghost use Rattle.flash_board.specs.Record.{event_of};
-ghost use Rattle.flash_board.specs.Words.{IsSectorSize, is_size};
+ghost use Rattle.flash_traits.specs.Words.{IsSectorSize, is_size};
 
 use crate::counts::Counts;
 use crate::flash::Flash;
 use crate::record::{Call, Feed, Sent};
-use crate::{Event, Region};
+use crate::{Event, Region, is_sector_size};
 use arrayvec::ArrayVec;
 
 /// How many calls the record has room for.
@@ -115,8 +115,8 @@ pub(crate) fn copied(bytes: &[u8]) -> ArrayVec<u8, 280>
 impl Memory {
     ghost use Rattle.std.specs.Option.{ForSome};
     ghost use Rattle.std.specs.Prelude.{IfSome, MatchOption, None};
-    ghost use Rattle.flash_board.specs.Words.{halfwords_in, blank, programmed, erased, Programs, ProgramMayLeave, Erases, EraseMayLeave};
-    ghost use Rattle.flash_board.specs.Losses.{OnWords, after_program, after_erase, after_recv, after_send};
+    ghost use Rattle.flash_traits.specs.Words.{halfwords_in, blank, programmed, erased, Programs, ProgramMayLeave, Erases, EraseMayLeave};
+    ghost use Rattle.flash_traits.specs.Losses.{OnWords, after_program, after_erase, after_recv, after_send};
     ghost use Rattle.flash_board.specs.Flash.{words_of, half_erased};
     ghost use Rattle.flash_board.specs.Kept.{moment_of};
     ghost use Rattle.flash_board.specs.Holdings.{holdings_of, noted, fed, sent_on, begun, next_event, frame_in};
@@ -302,11 +302,4 @@ impl Memory {
         self.sector_bytes = self.size;
         true
     }
-}
-
-fn is_sector_size(size: u32) -> bool
-    ensures yes { OnTrue result (IsSectorSize size) }
-    ensures test { result ≡ is_size size }
-{
-    size == 16_384 || size == 32_768 || size == 65_536 || size == 131_072
 }

@@ -1,6 +1,6 @@
 // A board in memory whose calls never fail.
 ghost use Rattle.std.specs.Prelude.{◌≡◌, IsTrue};
-ghost use Rattle.flash_board.specs.Words.{is_size};
+ghost use Rattle.flash_traits.specs.Words.{is_size};
 
 use crate::load::load;
 use crate::memory::Memory;
@@ -22,11 +22,11 @@ pub struct SureBoard {
 
 impl SureBoard {
     ghost use Rattle.std.specs.Prelude.{◌≡◌, IfOk, IsTrue, List, [], ℕ, length, take, slice_get};
-    ghost use Rattle.flash_board.specs.declared.board.Fault.{Fault};
+    ghost use Rattle.flash_traits.specs.declared.board.Fault.{Fault};
     ghost use Rattle.flash_board.specs.Image.{image_words, image_size, image_bytes};
     ghost use Rattle.flash_board.specs.Kept.{peers_fit};
-    ghost use Rattle.flash_board.specs.Losses.{Received, SentFrame};
-    ghost use Rattle.flash_board.specs.Calls.{TellsAll};
+    ghost use Rattle.flash_traits.specs.Losses.{Received, SentFrame};
+    ghost use Rattle.flash_traits.specs.Calls.{TellsAll};
     ghost use Rattle.flash_board.specs.Holdings.{frame_in};
     ghost use Rattle.flash_board.specs.OfSureBoard.{holdings};
 
@@ -78,11 +78,12 @@ impl SureBoard {
 impl Board for SureBoard {
     ghost use Rattle.std.specs.Prelude.{◌≡◌, ◌⊎◌, ◌↔◌, ◌<◌, ◌≤◌, ◌-◌, ◌^◌, ◌++◌, [], ◌∷◌, if◌then◌else◌, List, ℕ, false, length, slice_index, is_ok, IsOk, IsErr, IfOk, OnOk, OnErr, IfSome, IsTrue, MatchResult, MatchOption, Ok, Err, Some, None};
     ghost use Rattle.std.specs.Option.{ForSome};
-    ghost use Rattle.flash_board.specs.declared.board.Fault.{Fault};
-    ghost use Rattle.flash_board.specs.Words.{halfwords_in, region_length, IsSectorRegion, IsSectorSize, is_size, blank, programmed, erased, Programs, ProgramMayLeave, Erases, EraseMayLeave, Same};
-    ghost use Rattle.flash_board.specs.Losses.{Received, received, SentFrame, sent_frame, IsEventInRange, Moment, raised, after_program, after_erase, after_recv, after_send, Outcome, Receives, Sends, Unchanged, Either, ByResult, OnWords, KeepsWords};
-    ghost use Rattle.flash_board.specs.Calls.{Changes, Passes, MayHaveLeft};
-    ghost use Rattle.flash_board.specs.Causes.{HasCause};
+    ghost use Rattle.flash_traits.specs.declared.board.Fault.{Fault};
+    ghost use Rattle.flash_traits.specs.Words.{halfwords_in, region_length, IsSectorRegion, IsSectorSize, is_size, blank, programmed, erased, Programs, ProgramMayLeave, Erases, EraseMayLeave, Same};
+    ghost use Rattle.flash_traits.specs.Losses.{Received, received, SentFrame, sent_frame, IsEventInRange, Moment, after_program, after_erase, after_recv, after_send, Outcome, Receives, Sends, Unchanged, Either, ByResult, OnWords, KeepsWords};
+    ghost use Rattle.flash_traits.specs.Counts.{raised};
+    ghost use Rattle.flash_traits.specs.Calls.{Changes, Passes, MayHaveLeft};
+    ghost use Rattle.flash_traits.specs.Causes.{HasCause};
     ghost use Rattle.flash_board.specs.Flash.{words_of};
     ghost use Rattle.flash_board.specs.Kept.{moment_of};
     ghost use Rattle.flash_board.specs.MemoryLaws.{Now, Left, HasLists, reads_now, counts_left, only_left, shape_now};

@@ -48,7 +48,7 @@ impl SureSink {
 
 impl Sink for SureSink {
     ghost use Rattle.std.specs.Prelude.{◌≡◌, ◌↔◌, ◌≤◌, ◌+◌, ◌++◌, ℕ, true, length, take, IsOk, IsErr, IsTrue, OnErr, MatchResult, Ok, Err};
-    ghost use Rattle.flash_board.specs.Causes.{HasOneCause};
+    ghost use Rattle.flash_traits.specs.Causes.{HasOneCause};
     ghost use Rattle.flash_board.specs.OfSureSink.{room_of};
 
     ghost tells_written = { λ s. s.output.told ≡ true };

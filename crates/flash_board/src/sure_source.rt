@@ -37,7 +37,7 @@ impl SureSource {
 
 impl Source for SureSource {
     ghost use Rattle.std.specs.Prelude.{◌≡◌, ◌≢◌, ◌↔◌, ◌≤◌, ◌++◌, [], min, length, take, IfOk, IsOk, IsErr, IsTrue, MatchResult, Ok, Err};
-    ghost use Rattle.flash_board.specs.Causes.{HasOneCause};
+    ghost use Rattle.flash_traits.specs.Causes.{HasOneCause};
     ghost use Rattle.flash_board.specs.Streams.{given_of, rest_of};
 
     ghost tells_given = { λ _. Unit {0} };

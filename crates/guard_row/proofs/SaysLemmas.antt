@@ -2,8 +2,8 @@
 use Rattle.std.proofs.Common.{◌≡◌, ◌≢◌, ◌⊎◌, inl, inr, ℕ, ◌+◌, ◌/◌, ◌%◌, Option, Some, None, refl, sym, ◌∙◌, ap, arith}
 use Rattle.std.specs.Prelude.{if◌then◌else◌, ◌==◌}
 use Rattle.std.proofs.lemmas.Bool.{cases_eq}
-use Rattle.flash_board.specs.declared.board.Region.{Region}
-use Rattle.flash_board.specs.declared.board.Region.TheVariants.{S0, S1}
+use Rattle.flash_traits.specs.declared.board.Region.{Region}
+use Rattle.flash_traits.specs.declared.board.Region.TheVariants.{S0, S1}
 use Rattle.guard_row.specs.Says.{sector_of, home_of, void_of}
 
 -- the same by the remainder of the count

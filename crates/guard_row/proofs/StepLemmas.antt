@@ -3,8 +3,8 @@ use Rattle.std.proofs.Common.{◌≡◌, ◌≢◌, inl, inr, ℕ, suc, ◌+◌,
 use Rattle.std.specs.Prelude.{bit_and, slice_set, slice_index}
 use Rattle.std.proofs.lemmas.Nat.{and_comm}
 use Rattle.std.proofs.lemmas.List.{length-append, length-replicate, length-drop, length-take-le, replicate_more, set_at, ext_get_or, get_or-replicate, get_or-take, get_or-drop, take-append-drop, drop-drop, drop_more}
-use Rattle.flash_board.specs.Words.{Words, Programs, ProgramMayLeave}
-use Rattle.flash_board.specs.declared.board.Region.TheVariants.{Guard}
+use Rattle.flash_traits.specs.Words.{Words, Programs, ProgramMayLeave}
+use Rattle.flash_traits.specs.declared.board.Region.TheVariants.{Guard}
 use Rattle.guard_row.specs.declared.row.GuardError.{GuardError}
 use Rattle.guard_row.specs.declared.row.GuardError.TheVariants as errors
 use Rattle.guard_row.specs.Row.{IsGuardRow, FirstBad, FirstFrom}

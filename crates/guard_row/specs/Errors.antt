@@ -1,6 +1,6 @@
 -- Facts for one cause of a `GuardError`.
 use Rattle.std.specs.Prelude.{ℕ}
-use Rattle.flash_board.specs.declared.board.Fault.{Fault}
+use Rattle.flash_traits.specs.declared.board.Fault.{Fault}
 use Rattle.guard_row.specs.declared.row.GuardError.{GuardError}
 use Rattle.guard_row.specs.declared.row.GuardError.TheVariants as errors
 

@@ -1,6 +1,6 @@
 -- The laws of guard rows and their counts.
 use Rattle.std.specs.Prelude.{◌≡◌, ◌≢◌, ◌⊎◌, ℕ, ◌+◌, List, Some, None}
-use Rattle.flash_board.specs.declared.board.Region.{Region}
+use Rattle.flash_traits.specs.declared.board.Region.{Region}
 use Rattle.guard_row.specs.Row.{IsGuardRow, FirstBad}
 use Rattle.guard_row.specs.Says.{home_of, void_of}
 

@@ -1,16 +1,12 @@
 -- Guard rows, and where other lists of halfwords fail.
-use Rattle.std.specs.Prelude.{◌≡◌, ◌≢◌, ◌<◌, ◌≤◌, ℕ, ◌+◌, List, ◌∷◌, ◌++◌, replicate, slice_index}
+use Rattle.std.specs.Prelude.{◌≡◌, ◌≢◌, ◌<◌, ◌≤◌, ℕ, ◌+◌, List, ◌++◌, replicate, slice_index}
+use Rattle.flash_traits.specs.Words.{FirstOther}
+use Rattle.flash_traits.specs.declared.numbers.TheConstants.{ERASED, GUARD_HALFWORDS}
 
 -- so many halfwords 0, and then only FFFF
 pub record IsGuardRow (row : List ℕ) (count : ℕ) : Type 0 where
   pub erased : ℕ
-  pub whole : row ≡ replicate count 0 ++ replicate erased 65535
-
--- the first halfword that isn't FFFF, and how many stand before it
-pub record FirstOther (words : List ℕ) (n word : ℕ) : Type 0 where
-  pub more : List ℕ
-  pub at : words ≡ replicate n 65535 ++ word ∷ more
-  pub other : word ≢ 65535
+  pub whole : row ≡ replicate count 0 ++ replicate erased ERASED
 
 -- the first halfword behind the leading zeros that isn't FFFF
 pub record FirstBad (row : List ℕ) (place word : ℕ) : Type 0 where
@@ -25,7 +21,7 @@ pub record FirstBad (row : List ℕ) (place word : ℕ) : Type 0 where
 -- from this place on, the first halfword that isn't FFFF, as a walk finds it
 pub record FirstFrom (row : List ℕ) (from place word : ℕ) : Type 0 where
   pub behind : from ≤ place
-  pub inside : place < 8192
+  pub inside : place < GUARD_HALFWORDS
   pub is : word ≡ slice_index row place
-  pub other : word ≢ 65535
-  pub erased : (k : ℕ) → from ≤ k → k < place → slice_index row k ≡ 65535
+  pub other : word ≢ ERASED
+  pub erased : (k : ℕ) → from ≤ k → k < place → slice_index row k ≡ ERASED

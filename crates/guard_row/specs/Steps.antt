@@ -1,6 +1,6 @@
 -- What a step of the guard count does to the row.
 use Rattle.std.specs.Prelude.{◌⊎◌, ℕ, ◌+◌}
-use Rattle.flash_board.specs.Words.{Words}
+use Rattle.flash_traits.specs.Words.{Words}
 use Rattle.guard_row.specs.Row.{IsGuardRow}
 
 -- a row of this count has the next one

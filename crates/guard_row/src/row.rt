@@ -1,17 +1,17 @@
 // The count that a guard row tells, and its next one.
 ghost use Rattle.std.specs.Prelude.{◌≡◌, ◌≢◌, ◌+◌, ◌<◌, ◌≤◌, ℕ, slice_index, IfOk, OnOk, IfErr};
-ghost use Rattle.flash_board.specs.declared.board.Fault.{Fault};
-ghost use Rattle.flash_board.specs.declared.board.Fault.TheVariants.{Read, Flash};
-ghost use Rattle.flash_board.specs.declared.board.Region.TheVariants.{Guard};
-ghost use Rattle.flash_board.specs.Words.{IsSectorSize, Same, Programs, ProgramMayLeave};
-ghost use Rattle.flash_board.specs.Losses.{ByResult, after_program};
-ghost use Rattle.flash_board.specs.Calls.{Changes};
-ghost use Rattle.flash_board.specs.Causes.{Rose, HasCause};
+ghost use Rattle.flash_traits.specs.declared.board.Fault.{Fault};
+ghost use Rattle.flash_traits.specs.declared.board.Fault.TheVariants.{Read, Flash};
+ghost use Rattle.flash_traits.specs.declared.board.Region.TheVariants.{Guard};
+ghost use Rattle.flash_traits.specs.Words.{IsSectorSize, Same, Programs, ProgramMayLeave};
+ghost use Rattle.flash_traits.specs.Losses.{ByResult, after_program};
+ghost use Rattle.flash_traits.specs.Calls.{Changes};
+ghost use Rattle.flash_traits.specs.Causes.{Rose, HasCause};
 ghost use Rattle.guard_row.specs.Row.{IsGuardRow, FirstBad, FirstFrom};
 ghost use Rattle.guard_row.specs.Steps.{Counts, CountMayLeave};
 ghost use Rattle.guard_row.specs.Errors.{OnWord, OnFault};
 
-use flash_board::{Board, Fault, Region};
+use flash_traits::{Board, Fault, Region};
 
 /// Why there is no count.
 #[derive(Clone, Copy, Debug, PartialEq, Eq)]

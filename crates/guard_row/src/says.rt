@@ -2,7 +2,7 @@
 ghost use Rattle.std.specs.Prelude.{◌≡◌};
 ghost use Rattle.guard_row.specs.Says as says;
 
-use flash_board::Region;
+use flash_traits::Region;
 
 /// The home sector at a guard count: the one whose log counts first. None where a sector is void.
 pub fn home_of(count: u16) -> Option<Region>

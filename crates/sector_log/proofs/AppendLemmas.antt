@@ -5,13 +5,14 @@ use Rattle.std.specs.Int.Bits.{and_self}
 use Rattle.std.proofs.lemmas.Nat.{and_mask, and_comm, and_block}
 use Rattle.std.proofs.lemmas.List.{length-append, length-replicate, length-set, length-take-le, take-append-drop, get_or-replicate, get_or_append_left, get_or-append_right, set-append_left, set-append_right, ext_get_or, get_or-take}
 use Rattle.std.proofs.lemmas.List.Elements.{All-push, All-drop, All-get_or}
-use Rattle.flash_board.specs.declared.board.Mark.{Mark}
-use Rattle.flash_board.specs.declared.board.Mark.TheVariants.{Available}
+use Rattle.flash_traits.specs.declared.board.Mark.{Mark}
+use Rattle.flash_traits.specs.declared.board.Mark.TheVariants.{Available}
 use Rattle.sector_log.specs.declared.header.Header.{Header}
 use Rattle.sector_log.specs.Storage.{storage_lines}
 use Rattle.sector_log.specs.Header.{header_word, IsLawful}
 use Rattle.sector_log.specs.Entries.{Entry, IsEntry, entry_words, spelling}
-use Rattle.sector_log.specs.Sector.{mark_word, IsSector}
+use Rattle.sector_log.specs.Sector.{IsSector}
+use Rattle.flash_traits.specs.Marks.{mark_word}
 use Rattle.sector_log.specs.Log.{end_of}
 use Rattle.sector_log.specs.Appends.{entry_of}
 use Rattle.sector_log.proofs.Pushes.{spelling_push, all_init}

@@ -4,18 +4,18 @@ use Rattle.std.specs.Prelude.{bit_and, Result, Ok, Err, Some}
 use Rattle.std.specs.Int.Bits.{and_self}
 use Rattle.std.proofs.lemmas.List.{length-set, length-replicate, ext_get_or, get_or-set_same, get_or-set_other}
 use Rattle.std.proofs.lemmas.Bool.{cases_eq}
-use Rattle.flash_board.specs.Words.{Words, halfwords_in, with_halfwords, programmed, Programs, ProgramMayLeave}
-use Rattle.flash_board.specs.declared.board.Region.{Region}
-use Rattle.flash_board.specs.declared.board.Mark.{Mark}
-use Rattle.flash_board.specs.declared.board.Mark.TheVariants.{InUse}
-use Rattle.flash_board.specs.Losses.{ByResult}
-use Rattle.flash_board.proofs.Moments.{row-with_row, with_row-with_row, with_row-row}
+use Rattle.flash_traits.specs.Words.{Words, halfwords_in, with_halfwords, programmed, Programs, ProgramMayLeave, halfwords_of}
+use Rattle.flash_traits.specs.declared.board.Region.{Region}
+use Rattle.flash_traits.specs.declared.board.Mark.{Mark}
+use Rattle.flash_traits.specs.declared.board.Mark.TheVariants.{InUse}
+use Rattle.flash_traits.specs.Losses.{ByResult}
+use Rattle.flash_traits.proofs.Moments.{row-with_row, with_row-with_row, with_row-row}
 use Rattle.sector_log.specs.declared.log.Log.{Log}
 use Rattle.sector_log.specs.declared.log.Torn.{Torn}
 use Rattle.sector_log.specs.Storage.{storage_lines}
 use Rattle.sector_log.specs.Header.{header_word}
 use Rattle.sector_log.specs.Entries.{Entry}
-use Rattle.sector_log.specs.Bytes.{halfwords_of, programmable}
+use Rattle.sector_log.specs.Bytes.{programmable}
 use Rattle.sector_log.specs.Sector.{IsSector}
 use Rattle.sector_log.specs.Log.{end_of}
 use Rattle.sector_log.specs.Appends.{InRegion, entry_of, IsOneOfTwo, IsOneOfThree, AppendMayLeave, Appends, FinishMayLeave, Finishes, IsTornLast}

@@ -5,20 +5,22 @@ use Rattle.std.specs.Option.{option_and_then}
 use Rattle.std.proofs.lemmas.List.Sums.{fold-append}
 use Rattle.std.proofs.lemmas.List.Elements.{All-nil, All-push}
 use Rattle.std.proofs.lemmas.List.{replicate_more, length-append, drop_more, drop-drop, length-drop, take-append-drop, length-take-le}
-use Rattle.flash_board.specs.declared.board.Mark.{Mark}
-use Rattle.flash_board.specs.declared.board.Region.{Region}
-use Rattle.flash_board.specs.declared.board.Mark.TheVariants.{Available}
-use Rattle.flash_board.specs.declared.board.Region.TheVariants.{S0, S1, Guard}
-use Rattle.flash_board.specs.Words.{IsSectorSize, region_length}
-use Rattle.flash_board.specs.declared.board.LogError.{LogError}
-use Rattle.flash_board.specs.declared.board.LogError.TheVariants as errors
+use Rattle.flash_traits.specs.declared.board.Mark.{Mark}
+use Rattle.flash_traits.specs.declared.board.Region.{Region}
+use Rattle.flash_traits.specs.declared.board.Mark.TheVariants.{Available}
+use Rattle.flash_traits.specs.declared.board.Region.TheVariants.{S0, S1, Guard}
+use Rattle.flash_traits.specs.Words.{IsSectorSize, region_length, FirstOther, bytes_of}
+use Rattle.flash_traits.specs.declared.board.LogError.{LogError}
+use Rattle.flash_traits.specs.declared.board.LogError.TheVariants as errors
 use Rattle.sector_log.specs.Errors.{OnWord}
-use Rattle.sector_log.specs.Sector.{mark_word, Splits, FirstOther, FirstBad}
+use Rattle.sector_log.specs.Sector.{Splits, FirstBad}
+use Rattle.flash_traits.specs.Marks.{mark_word}
 use Rattle.sector_log.specs.declared.header.Header.{Header}
 use Rattle.sector_log.specs.declared.log.Log.{Log}
 use Rattle.sector_log.specs.Header.{header_word, IsLawful}
 use Rattle.sector_log.specs.Entries.{Entry, IsEntry, entry_words, spelling, NoEntry}
-use Rattle.sector_log.specs.Bytes.{bytes_of, put, apply}
+use Rattle.sector_log.specs.Bytes.{apply}
+use Rattle.flash_traits.specs.Values.{put}
 use Rattle.sector_log.specs.Log.{IsReadSoFar, IsLogOf, end_of, torn_at}
 use Rattle.sector_log.specs.Walks.{Adds, BadHere, Walked}
 use Rattle.sector_log.proofs.EntryLemmas.{no_entry_short}

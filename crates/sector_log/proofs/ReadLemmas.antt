@@ -1,10 +1,10 @@
 -- Calls that only read, one after the other.
 use Rattle.std.proofs.Common.{◌≡◌, ◌∙◌, arith}
-use Rattle.flash_board.specs.declared.board.Board.{Ghosts}
-use Rattle.flash_board.specs.Words.{Same}
-use Rattle.flash_board.specs.Losses.{Outcome}
-use Rattle.flash_board.proofs.Moments.{chained_words}
-use Rattle.sector_log.specs.Reads.{OnlyReads}
+use Rattle.flash_traits.specs.declared.board.Board.{Ghosts}
+use Rattle.flash_traits.specs.Words.{Same}
+use Rattle.flash_traits.specs.Losses.{Outcome}
+use Rattle.flash_traits.proofs.Moments.{chained_words}
+use Rattle.flash_traits.specs.Calls.{OnlyReads}
 
 module _ {B : Type 0} (g : Ghosts B) (reads : (b : B) (o : Outcome) → g.now b o → g.tells b × (o.words ≡ g.words b)) where
   pub reads_then : {a b c : B} → OnlyReads g a b → OnlyReads g b c → OnlyReads g a c

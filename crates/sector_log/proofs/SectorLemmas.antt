@@ -4,12 +4,14 @@ use Rattle.std.specs.Prelude.{All, Bool, true, false, IsTrue}
 use Rattle.std.proofs.lemmas.List.{length-append, length-take-le, take-append-drop}
 use Rattle.std.proofs.lemmas.List.Elements.{All-head, All-tail, All-nil, All-cons}
 use Rattle.std.proofs.lemmas.Bool.{cases_lt, cases_eq}
-use Rattle.flash_board.specs.declared.board.Mark.{Mark}
-use Rattle.flash_board.specs.declared.board.Mark.TheVariants.{Available, InUse, Full}
+use Rattle.flash_traits.specs.declared.board.Mark.{Mark}
+use Rattle.flash_traits.specs.declared.board.Mark.TheVariants.{Available, InUse, Full}
 use Rattle.sector_log.specs.declared.header.Header.{Header}
 use Rattle.sector_log.specs.Header.{header_word, IsLawful}
 use Rattle.sector_log.specs.Entries.{Entry, IsEntry, entry_words, spelling, NoEntry}
-use Rattle.sector_log.specs.Sector.{mark_word, IsSector, Splits, FirstOther, HasHead, BadHead, BadLog, any_mark, FirstBad}
+use Rattle.sector_log.specs.Sector.{IsSector, Splits, HasHead, BadHead, BadLog, any_mark, FirstBad}
+use Rattle.flash_traits.specs.Marks.{mark_word}
+use Rattle.flash_traits.specs.Words.{FirstOther}
 use Rattle.sector_log.specs.Laws.{OfGrammar, Fails}
 use Rattle.sector_log.proofs.EntryLemmas.{one_split, no_entry_nil, no_entry_word, no_entry_erased, no_entry_short}
 

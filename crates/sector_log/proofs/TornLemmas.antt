@@ -5,13 +5,14 @@ use Rattle.std.specs.Option.{option_and_then}
 use Rattle.std.proofs.lemmas.List.{get_or_append_left, get_or-append_right}
 use Rattle.std.proofs.lemmas.Bool.{cases_Bool, cases_eq}
 use Rattle.std.proofs.lemmas.Bool.Decides.{nat_tests}
-use Rattle.flash_board.specs.Words.{Words, halfwords_in}
-use Rattle.flash_board.specs.declared.board.Mark.{Mark}
+use Rattle.flash_traits.specs.Words.{Words, halfwords_in, halfwords_of}
+use Rattle.flash_traits.specs.declared.board.Mark.{Mark}
 use Rattle.sector_log.specs.declared.log.Log.{Log}
 use Rattle.sector_log.specs.declared.log.Torn.{Torn}
 use Rattle.sector_log.specs.Entries.{Entry, spelling, entry_words}
-use Rattle.sector_log.specs.Bytes.{halfwords_of, programmable}
-use Rattle.sector_log.specs.Sector.{mark_word, IsSector}
+use Rattle.sector_log.specs.Bytes.{programmable}
+use Rattle.sector_log.specs.Sector.{IsSector}
+use Rattle.flash_traits.specs.Marks.{mark_word}
 use Rattle.sector_log.specs.Log.{end_of, torn_at}
 use Rattle.sector_log.specs.Appends.{entry_of, IsTornLast}
 use Rattle.sector_log.proofs.Programmable.{programmable_from, programmable_each}

@@ -1,14 +1,14 @@
 -- What an append and the completing of a torn entry do, and what a loss in one leaves.
-use Rattle.std.specs.Prelude.{◌≡◌, ◌⊎◌, ◌≤◌, ◌^◌, ℕ, ◌+◌, ◌-◌, ◌*◌, ◌/◌, min, max, List, [], ◌∷◌, ◌++◌, length, true, None, IfSome, IsSome}
-use Rattle.flash_board.specs.Words.{Words, halfwords_in, with_halfwords, IsSectorRegion}
-use Rattle.flash_board.specs.declared.board.Region.{Region}
-use Rattle.flash_board.specs.declared.board.Mark.{Mark}
-use Rattle.flash_board.specs.declared.board.Mark.TheVariants.{InUse}
+use Rattle.std.specs.Prelude.{◌≡◌, ◌⊎◌, ◌≤◌, ℕ, ◌+◌, ◌-◌, ◌*◌, ◌/◌, List, [], ◌∷◌, ◌++◌, length, true, None, IfSome, IsSome}
+use Rattle.flash_traits.specs.Words.{Words, halfwords_in, with_halfwords, IsSectorRegion, halfwords_of}
+use Rattle.flash_traits.specs.declared.board.Region.{Region}
+use Rattle.flash_traits.specs.declared.board.Mark.{Mark}
+use Rattle.flash_traits.specs.declared.board.Mark.TheVariants.{InUse}
 use Rattle.sector_log.specs.declared.log.Log.{Log}
 use Rattle.sector_log.specs.declared.log.Torn.{Torn}
 use Rattle.sector_log.specs.Storage.{storage_lines}
 use Rattle.sector_log.specs.Entries.{Entry}
-use Rattle.sector_log.specs.Bytes.{halfwords_of, programmable}
+use Rattle.sector_log.specs.Bytes.{programmable}
 use Rattle.sector_log.specs.Sector.{IsSector}
 use Rattle.sector_log.specs.Log.{end_of, IsLogOf}
 
@@ -89,7 +89,3 @@ pub record IsLogIn (half_size : ℕ) (log : Log) : Type 0 where
   pub counts : log.valid + log.gaps ≤ log.end
   pub torn : IfSome log.torn (EndsHere log.end)
   pub counted : IsSome log.torn → 1 ≤ log.gaps
-
--- so many calls more, but no further than the last value of a u64
-abbrev pub raised_by : ℕ → ℕ → ℕ
-raised_by n count = max count (min (count + n) (2 ^ 64 - 1))

@@ -1,22 +1,10 @@
 -- The bytes of the storage that a list of entries gives.
-use Rattle.std.specs.Prelude.{map, bit_and, true, false, ◌≡◌, ℕ, ◌+◌, ◌*◌, ◌/◌, ◌%◌, ◌<◌, List, [], ◌∷◌, ◌++◌, length, take, drop, Bool, if◌then◌else◌, ◌==◌, ◌&&◌, Option, Some, None, slice_index}
+use Rattle.std.specs.Prelude.{ℕ, ◌+◌, ◌*◌, List, [], ◌∷◌, Bool, true, false, if◌then◌else◌, ◌==◌, ◌&&◌, map, bit_and}
 use Rattle.std.specs.List.{flat_map, fold, range_with_len}
-use Rattle.std.specs.Option.{option_map_or, option_or}
+use Rattle.flash_traits.specs.Words.{bytes_of}
+use Rattle.flash_traits.specs.Values.{put, Line, byte_written, IsValueUpTo}
 use Rattle.sector_log.specs.Storage.{storage_bytes}
 use Rattle.sector_log.specs.Entries.{Entry}
-
--- the bytes of halfwords, little endian
-abbrev pub bytes_of : List ℕ → List ℕ
-bytes_of words = flat_map (λ word. word % 256 ∷ word / 256 ∷ []) words
-
--- the halfwords of bytes, little endian
-abbrev pub halfwords_of : List ℕ → List ℕ
-halfwords_of (low ∷ high ∷ rest) = (low + 256 * high) ∷ halfwords_of rest
-halfwords_of rest = []
-
--- the bytes with others at a place
-abbrev pub put : ℕ → List ℕ → List ℕ → List ℕ
-put at new bytes = take at bytes ++ (new ++ drop (at + length new) bytes)
 
 -- the bytes with the entry's content at its lines, where it is valid
 abbrev pub apply : List ℕ → Entry → List ℕ
@@ -25,11 +13,6 @@ apply bytes e = if e.header.state == 0 then put (8 * e.header.line) (bytes_of e.
 -- the entries one after the other
 abbrev pub applied : List ℕ → List Entry → List ℕ
 applied bytes entries = fold apply bytes entries
-
--- a line of the storage that is written, and its eight bytes
-pub record Line : Type 0 where
-  pub number : ℕ
-  pub bytes : List ℕ
 
 -- the lines that a content writes, from this one on: each has four halfwords
 abbrev pub lines_from : ℕ → List ℕ → List Line
@@ -44,22 +27,14 @@ lines_in e = if e.header.state == 0 then lines_from e.header.line e.content else
 abbrev pub lines_of : List Entry → List Line
 lines_of entries = flat_map lines_in entries
 
--- the last time that this line is written
-abbrev pub last_written : List Line → ℕ → Option Line
-last_written [] line = None
-last_written (l ∷ lines) line = option_or (last_written lines line) (if l.number == line then Some l else None)
-
--- byte k as its line was written last, and this one where the line is never written
-abbrev pub byte_written : List Line → ℕ → ℕ → ℕ
-byte_written lines other k = option_map_or (λ l. slice_index l.bytes (k % 8)) (last_written lines (k / 8)) other
-
+-- byte k as the entries write it last, and this one where none writes its line
 abbrev pub byte_of : List Entry → ℕ → ℕ → ℕ
 byte_of entries other k = byte_written (lines_of entries) other k
 
--- The bytes of a list of entries: each line is what the last valid entry that covers it gives it, and zeros where there is none.
-pub record IsValue (entries : List Entry) (bytes : List ℕ) : Type 0 where
-  pub size : length bytes ≡ storage_bytes
-  pub each : (k : ℕ) → k < storage_bytes → slice_index bytes k ≡ byte_of entries 0 k
+-- The bytes of a list of entries: each line is what the last valid entry that covers it gives it, and zeros where
+-- there is none.
+abbrev pub IsValue : List Entry → List ℕ → Type 0
+IsValue entries bytes = IsValueUpTo storage_bytes (lines_of entries) bytes
 
 -- The same as a list; its length is an argument, so that nothing computes it.
 unfoldable pub value_up_to : ℕ → List Entry → List ℕ

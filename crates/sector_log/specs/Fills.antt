@@ -1,10 +1,10 @@
 -- The steps of an entry: its content, and then its header as valid.
 use Rattle.std.specs.Prelude.{◌≡◌, ℕ, ◌+◌, ◌/◌, List, [], ◌∷◌, ◌++◌, length, true}
-use Rattle.flash_board.specs.Words.{Words, halfwords_in}
-use Rattle.flash_board.specs.declared.board.Region.{Region}
-use Rattle.flash_board.specs.declared.board.Mark.{Mark}
+use Rattle.flash_traits.specs.Words.{Words, halfwords_in, halfwords_of}
+use Rattle.flash_traits.specs.declared.board.Region.{Region}
+use Rattle.flash_traits.specs.declared.board.Mark.{Mark}
 use Rattle.sector_log.specs.Entries.{Entry}
-use Rattle.sector_log.specs.Bytes.{halfwords_of, programmable}
+use Rattle.sector_log.specs.Bytes.{programmable}
 use Rattle.sector_log.specs.Sector.{IsSector}
 use Rattle.sector_log.specs.Log.{end_of}
 use Rattle.sector_log.specs.Appends.{InRegion, entry_of, IsOneOfTwo}

@@ -1,6 +1,6 @@
 -- The laws of the grammar and of the bytes that it gives.
 use Rattle.std.specs.Prelude.{◌≡◌, ◌⊎◌, ◌≤◌, ◌<◌, ℕ, List, All, length, slice_index, bit_and, Bool, true, IsTrue}
-use Rattle.flash_board.specs.declared.board.Mark.{Mark}
+use Rattle.flash_traits.specs.declared.board.Mark.{Mark}
 use Rattle.sector_log.specs.Entries.{Entry, IsEntry}
 use Rattle.sector_log.specs.Sector.{IsSector, HasHead, BadHead, BadLog, FirstBad}
 use Rattle.sector_log.specs.declared.header.Header.{Header}

@@ -7,6 +7,5 @@ pub mod Log
 pub mod Walks
 pub mod Appends
 pub mod Fills
-pub mod Reads
 pub mod Errors
 pub mod Laws

@@ -2,8 +2,8 @@
 use Rattle.std.specs.Prelude.{◌≡◌, All, ℕ, ◌+◌, ◌-◌, List, [], ◌∷◌, ◌++◌, length, drop, if◌then◌else◌, ◌==◌, Option, Some, None}
 use Rattle.std.specs.List.{count_by}
 use Rattle.std.specs.Option.{option_or, option_and_then}
-use Rattle.flash_board.specs.declared.board.Region.{Region}
-use Rattle.flash_board.specs.declared.board.Mark.{Mark}
+use Rattle.flash_traits.specs.declared.board.Region.{Region}
+use Rattle.flash_traits.specs.declared.board.Mark.{Mark}
 use Rattle.sector_log.specs.declared.log.Torn.{Torn}
 use Rattle.sector_log.specs.declared.log.Log.{Log}
 use Rattle.sector_log.specs.Entries.{Entry, IsEntry, entry_words, spelling}

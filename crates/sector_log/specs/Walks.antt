@@ -1,7 +1,7 @@
 -- How the walk over a sector goes on, one entry after the other.
 use Rattle.std.specs.Prelude.{◌≡◌, All, ◌≢◌, ◌<◌, slice_index, ℕ, ◌+◌, List, ◌++◌, length, drop, if◌then◌else◌, ◌==◌}
-use Rattle.flash_board.specs.declared.board.Region.{Region}
-use Rattle.flash_board.specs.declared.board.Mark.{Mark}
+use Rattle.flash_traits.specs.declared.board.Region.{Region}
+use Rattle.flash_traits.specs.declared.board.Mark.{Mark}
 use Rattle.sector_log.specs.declared.log.Log.{Log}
 use Rattle.sector_log.specs.Entries.{Entry, IsEntry, entry_words, spelling, NoEntry}
 use Rattle.sector_log.specs.Bytes.{apply, applied}

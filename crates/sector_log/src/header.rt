@@ -3,7 +3,7 @@ ghost use Rattle.std.specs.Prelude.{◌≡◌, IfSome, IfNone};
 ghost use Rattle.sector_log.specs.declared.header.Header.{Header};
 ghost use Rattle.sector_log.specs.Header.{IsLawful, header_word};
 
-use flash_board::LINES;
+use flash_traits::LINES;
 
 /// The header of an entry. The state is 0 (valid) or 1 (writing, so that the entry is torn where nothing follows), and
 /// the entry has 1 to 8 lines from the first one on, all below 1,920.

@@ -1,5 +1,5 @@
 // What a scan tells of a sector's log.
-use flash_board::{Mark, Region};
+use flash_traits::{Mark, Region};
 
 /// A torn last entry: the offset of its header in halfwords, its first line and its number of lines.
 #[derive(Clone, Copy, Debug, PartialEq, Eq)]

@@ -1,23 +1,24 @@
 // The scan that reads a sector's log.
 ghost use Rattle.std.specs.Prelude.{◌≡◌, ◌∷◌, ◌^◌, ◌+◌, ◌*◌, ◌/◌, ◌<◌, ◌≤◌, List, ℕ, length, take, drop, slice_index, All, Option, IfOk, OnOk, OnErr, IfErr, IfSome, MatchOption};
-ghost use Rattle.flash_board.specs.Words.{halfwords_in, region_length, IsSectorRegion, IsSectorSize};
-ghost use Rattle.flash_board.specs.Causes.{Rose};
-ghost use Rattle.flash_board.specs.declared.board.Fault.TheVariants.{Read};
+ghost use Rattle.flash_traits.specs.Words.{halfwords_in, region_length, IsSectorRegion, IsSectorSize, FirstOther, bytes_of};
+ghost use Rattle.flash_traits.specs.Causes.{Rose};
+ghost use Rattle.flash_traits.specs.declared.board.Fault.TheVariants.{Read};
 ghost use Rattle.sector_log.specs.declared.log.Log.{Log};
 ghost use Rattle.sector_log.specs.Storage.{storage_bytes};
 ghost use Rattle.sector_log.specs.Header.{IsLawful, header_word};
 ghost use Rattle.sector_log.specs.Errors.{OnWord, OnFault};
-ghost use Rattle.sector_log.specs.Reads.{OnlyReads};
-ghost use Rattle.sector_log.specs.Sector.{HasHead, FirstOther, FirstBad, IsSector, Splits};
+ghost use Rattle.flash_traits.specs.Calls.{OnlyReads};
+ghost use Rattle.sector_log.specs.Sector.{HasHead, FirstBad, IsSector, Splits};
 ghost use Rattle.sector_log.specs.Entries.{Entry, NoEntry};
-ghost use Rattle.sector_log.specs.Bytes.{bytes_of, put, applied};
+ghost use Rattle.sector_log.specs.Bytes.{applied};
+ghost use Rattle.flash_traits.specs.Values.{put};
 ghost use Rattle.sector_log.specs.Log.{IsLogOf, IsReadSoFar};
 ghost use Rattle.sector_log.specs.Appends.{IsLogIn};
 ghost use Rattle.sector_log.specs.Walks.{Adds, BadHere, Walked};
 
 use crate::{Header, Log, Torn, header_of};
 use byteorder::{ByteOrder, LittleEndian};
-use flash_board::{Board, Fault, LogError, Mark, Region};
+use flash_traits::{Board, Fault, LogError, Mark, Region};
 
 /// The halfword at an offset.
 fn word_at<B: Board>(board: &mut B, region: Region, at: u32) -> Result<u16, LogError>

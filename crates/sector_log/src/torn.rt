@@ -1,17 +1,17 @@
 // Whether a torn entry can be completed.
 ghost use Rattle.std.specs.Prelude.{◌≡◌, ◌+◌, ◌*◌, ◌/◌, ◌<◌, ◌≤◌, ◌==◌, List, [], ◌∷◌, ◌++◌, ℕ, length, slice_index, bit_and, IfOk, IfErr, IfSome, IsSome};
-ghost use Rattle.flash_board.specs.declared.board.Fault.TheVariants.{Read};
-ghost use Rattle.flash_board.specs.declared.board.Mark.{Mark};
-ghost use Rattle.flash_board.specs.Words.{halfwords_in, region_length, IsSectorSize};
-ghost use Rattle.flash_board.specs.Causes.{Rose};
+ghost use Rattle.flash_traits.specs.declared.board.Fault.TheVariants.{Read};
+ghost use Rattle.flash_traits.specs.declared.board.Mark.{Mark};
+ghost use Rattle.flash_traits.specs.Words.{halfwords_in, region_length, IsSectorSize, halfwords_of};
+ghost use Rattle.flash_traits.specs.Causes.{Rose};
 ghost use Rattle.sector_log.specs.Entries.{Entry};
-ghost use Rattle.sector_log.specs.Bytes.{halfwords_of, programmable};
-ghost use Rattle.sector_log.specs.Reads.{OnlyReads};
+ghost use Rattle.sector_log.specs.Bytes.{programmable};
+ghost use Rattle.flash_traits.specs.Calls.{OnlyReads};
 ghost use Rattle.sector_log.specs.Appends.{IsTornLast, IsLogIn};
 
 use crate::Log;
 use byteorder::{ByteOrder, LittleEndian};
-use flash_board::{Board, Fault, Region};
+use flash_traits::{Board, Fault, Region};
 
 /// Whether the halfword at an offset can still be programmed to this one.
 fn word_fits<B: Board>(board: &mut B, region: Region, at: u32, new: u16) -> Result<bool, Fault>

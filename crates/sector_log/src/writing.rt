@@ -1,17 +1,18 @@
 // Entries that are appended, and torn ones that are completed.
 ghost use Rattle.std.specs.Prelude.{◌≡◌, ◌+◌, ◌*◌, ◌/◌, ◌<◌, ◌≤◌, ℕ, length, IfOk, OnOk, IfErr, IsSome, IfSome};
-ghost use Rattle.flash_board.specs.declared.board.Fault.TheVariants.{Flash};
-ghost use Rattle.flash_board.specs.declared.board.Mark.TheVariants.{InUse};
-ghost use Rattle.flash_board.specs.Words.{region_length, IsSectorSize, Programs, ProgramMayLeave};
-ghost use Rattle.flash_board.specs.Losses.{ByResult};
-ghost use Rattle.flash_board.specs.Calls.{Changes, ErasesNothing};
-ghost use Rattle.flash_board.specs.Causes.{HasCause};
-ghost use Rattle.sector_log.specs.Appends.{AppendMayLeave, Appends, appended, FinishMayLeave, Finishes, finished, AreLines, IsLogIn, raised_by};
+ghost use Rattle.flash_traits.specs.declared.board.Fault.TheVariants.{Flash};
+ghost use Rattle.flash_traits.specs.declared.board.Mark.TheVariants.{InUse};
+ghost use Rattle.flash_traits.specs.Words.{region_length, IsSectorSize, Programs, ProgramMayLeave};
+ghost use Rattle.flash_traits.specs.Losses.{ByResult};
+ghost use Rattle.flash_traits.specs.Calls.{Changes, ErasesNothing};
+ghost use Rattle.flash_traits.specs.Causes.{HasCause};
+ghost use Rattle.sector_log.specs.Appends.{AppendMayLeave, Appends, appended, FinishMayLeave, Finishes, finished, AreLines, IsLogIn};
+ghost use Rattle.flash_traits.specs.Counts.{raised_by};
 ghost use Rattle.sector_log.specs.Fills.{FillMayLeave, Fills, CompleteMayLeave, Completes};
 
 use crate::{Header, Log, word_of};
 use byteorder::{ByteOrder, LittleEndian};
-use flash_board::{Board, Fault, Region};
+use flash_traits::{Board, Fault, Region};
 
 /// Programs a halfword.
 fn program<B: Board>(board: &mut B, region: Region, at: u32, word: u16) -> Result<(), Fault>

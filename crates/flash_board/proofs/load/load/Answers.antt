@@ -23,7 +23,7 @@ invariant_of-result c = record {
     frames_room = omega (arith, c.in_ok-with_capacity-2.ensures.exact);
     frames_size = omega (arith, ap (λ (l : List Sent). length l) c.in_ok-with_capacity-2.ensures.items);
   };
-  shaped = shape-image c.args.image.now c.size_of_image.result _ c.size_of_image.ensures (c.in_ok-load_flash.ensures ∙ ap (λ (n : ℕ). image_words n c.args.image.now) (sym c.size_of_image.ensures));
+  shaped = shape-image c.args.image.now c.size_or_zero.result _ c.size_or_zero.ensures (c.in_ok-load_flash.ensures ∙ ap (λ (n : ℕ). image_words n c.args.image.now) (sym c.size_or_zero.ensures));
   attached = λ nonzero. absurd (nonzero refl);
   peers = subst (λ (l : List Feed). IsTrue (peers_fit l)) (sym c.in_ok-copy_feed.ensures) c.requires;
 }

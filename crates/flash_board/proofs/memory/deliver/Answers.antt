@@ -1,7 +1,7 @@
 use Rattle.std.proofs.Common.{◌≡◌, ◌∙◌, List, ℕ, length, drop, Some, slice_get, refl, ap, sym}
 use Rattle.std.proofs.lemmas.List.{take_at}
 use Rattle.std.proofs.lemmas.Option.{slice_get_read}
-use Rattle.flash_board.specs.Losses.{Datagram}
+use Rattle.flash_traits.specs.Losses.{Datagram}
 use Rattle.flash_board.specs.Record.{event_of}
 use Rattle.flash_board.specs.declared.record.Feed.{Feed}
 use Rattle.flash_board.specs.declared.record.Feed.TheVariants as fed

@@ -1,6 +1,6 @@
 use Rattle.std.proofs.Common.{◌≡◌, List, ℕ, [], ◌∷◌, ◌++◌, take, map, ◌∙◌, ap, arith}
 use Rattle.std.proofs.lemmas.Grind.{common_steps}
-use Rattle.flash_board.specs.Losses.{sent_frame}
+use Rattle.flash_traits.specs.Losses.{sent_frame}
 use Rattle.flash_board.specs.Kept.{frame_of}
 use Rattle.flash_board.specs.declared.record.Sent.{Sent}
 use Rattle.flash_board.proofs.Frames.{kept-more, kept-all}

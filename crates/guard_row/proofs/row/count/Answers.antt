@@ -1,7 +1,7 @@
 use Rattle.std.proofs.Common.{ℕ, sym, ◌∙◌, ap, subst, arith, rules}
 use Rattle.std.specs.Prelude.{slice_index}
-use Rattle.flash_board.specs.Words.{Words}
-use Rattle.flash_board.specs.declared.board.Region.TheVariants.{Guard}
+use Rattle.flash_traits.specs.Words.{Words}
+use Rattle.flash_traits.specs.declared.board.Region.TheVariants.{Guard}
 use Rattle.guard_row.specs.Row.{FirstBad, FirstFrom}
 use Rattle.guard_row.specs.Errors.{OnWord}
 use Rattle.guard_row.proofs.StepLemmas.{row_found, bad_found, on_word_weaker}

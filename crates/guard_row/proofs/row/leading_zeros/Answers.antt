@@ -1,8 +1,8 @@
 use Rattle.std.proofs.Common.{◌≡◌, inl, inr, ℕ, sym, ◌∙◌, ap, arith}
 use Rattle.std.specs.Prelude.{slice_index}
 use Rattle.std.proofs.lemmas.Bool.{cases_eq}
-use Rattle.flash_board.specs.Words.{Words, Same}
-use Rattle.flash_board.proofs.Moments.{chained_words}
+use Rattle.flash_traits.specs.Words.{Words, Same}
+use Rattle.flash_traits.proofs.Moments.{chained_words}
 use Rattle.guard_row.proofs.row.leading_zeros.Goals as goal
 
 pub loop-at-preserved : goal.loop-at-preserved

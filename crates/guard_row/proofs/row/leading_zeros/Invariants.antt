@@ -1,8 +1,8 @@
 use Rattle.std.proofs.Common.{◌≡◌, ◌≤◌, ◌<◌, ℕ}
 use Rattle.std.specs.Prelude.{slice_index}
-use Rattle.flash_board.specs.declared.board.Fault.{Fault}
-use Rattle.flash_board.specs.Words.{Same}
-use Rattle.flash_board.specs.Calls.{Changes}
+use Rattle.flash_traits.specs.declared.board.Fault.{Fault}
+use Rattle.flash_traits.specs.Words.{Same}
+use Rattle.flash_traits.specs.Calls.{Changes}
 use Rattle.guard_row.proofs.row.leading_zeros.Given as goal
 
 abbrev pub invariant-loop-at : goal.invariant-loop-at

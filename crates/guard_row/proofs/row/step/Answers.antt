@@ -1,6 +1,6 @@
 use Rattle.std.proofs.Common.{◌<◌, length, arith}
-use Rattle.flash_board.specs.declared.board.Region.TheVariants.{Guard}
-use Rattle.flash_board.proofs.Moments.{first_words}
+use Rattle.flash_traits.specs.declared.board.Region.TheVariants.{Guard}
+use Rattle.flash_traits.proofs.Moments.{first_words}
 use Rattle.guard_row.specs.Steps.{Counts, CountMayLeave}
 use Rattle.guard_row.proofs.StepLemmas.{step_counts, step_may}
 use Rattle.guard_row.proofs.row.step.Goals as goal

@@ -2,7 +2,7 @@ use Rattle.std.proofs.Common.{◌≡◌, ◌+◌, ◌-◌, ◌*◌, ◌/◌, ◌
 use Rattle.std.specs.Prelude.{slice_index}
 use Rattle.std.proofs.lemmas.List.{length-drop, length-take-le}
 use borrow.Rule.Slice.PartMut.{same_len_mid}
-use Rattle.flash_board.specs.Words.{Words, halfwords_in}
+use Rattle.flash_traits.specs.Words.{Words, halfwords_in}
 use Rattle.sector_log.proofs.ReadLemmas.{reads_then}
 use Rattle.sector_log.proofs.BytesLemmas.{take_bytes_more, two_written}
 use Rattle.sector_log.proofs.reading.content_at.Goals as goal

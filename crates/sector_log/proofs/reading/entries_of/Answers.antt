@@ -1,6 +1,6 @@
 use Rattle.std.proofs.Common.{◌≡◌, List, ℕ, ◌∷◌, ◌++◌, [], ap, ◌∙◌, subst, arith}
-use Rattle.flash_board.specs.Words.{Words, halfwords_in}
-use Rattle.flash_board.specs.declared.board.Region.{Region}
+use Rattle.flash_traits.specs.Words.{Words, halfwords_in}
+use Rattle.flash_traits.specs.declared.board.Region.{Region}
 use Rattle.sector_log.specs.Walks.{Adds}
 use Rattle.sector_log.proofs.ReadLemmas.{reads_then}
 use Rattle.sector_log.proofs.LogLemmas.{walked_more}

@@ -1,8 +1,8 @@
 use Rattle.std.proofs.Common.{◌≡◌, ◌≢◌, ◌⊎◌, ℕ, List, drop, inl, inr}
 use Rattle.std.proofs.lemmas.Result.{IfOk-weaker, on_err_weaker}
-use Rattle.flash_board.specs.declared.board.Mark.{Mark}
-use Rattle.flash_board.specs.declared.board.Mark.TheVariants.{Available, InUse, Full}
-use Rattle.flash_board.specs.Words.{halfwords_in}
+use Rattle.flash_traits.specs.declared.board.Mark.{Mark}
+use Rattle.flash_traits.specs.declared.board.Mark.TheVariants.{Available, InUse, Full}
+use Rattle.flash_traits.specs.Words.{halfwords_in}
 use Rattle.sector_log.specs.Errors.{OnWord}
 use Rattle.sector_log.specs.declared.log.Log.{Log}
 use Rattle.sector_log.specs.Entries.{Entry, NoEntry}

@@ -1,7 +1,7 @@
 use Rattle.std.proofs.Common.{◌≡◌, ◌≤◌, length, sym, ◌∙◌, ap, arith}
 use Rattle.std.specs.Prelude.{slice_index}
-use Rattle.flash_board.specs.Words.{Words, halfwords_in}
-use Rattle.flash_board.specs.declared.board.Mark.TheVariants.{Available, InUse, Full}
+use Rattle.flash_traits.specs.Words.{Words, halfwords_in}
+use Rattle.flash_traits.specs.declared.board.Mark.TheVariants.{Available, InUse, Full}
 use Rattle.sector_log.proofs.LogLemmas.{bad_second, two_inside}
 use Rattle.sector_log.proofs.reading.mark_at.Goals.{in-23551, in-23550, in-23548}
 use Rattle.sector_log.proofs.reading.mark_at.Goals as goal

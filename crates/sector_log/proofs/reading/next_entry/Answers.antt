@@ -1,7 +1,7 @@
 use Rattle.std.proofs.Common.{◌≡◌, refl, ap, ◌∙◌, ◌+◌, ◌*◌, take, drop, arith}
-use Rattle.flash_board.specs.Words.{Words, halfwords_in}
+use Rattle.flash_traits.specs.Words.{Words, halfwords_in, bytes_of}
 use Rattle.sector_log.specs.Header.{header_word}
-use Rattle.sector_log.specs.Bytes.{bytes_of, put}
+use Rattle.flash_traits.specs.Values.{put}
 use Rattle.sector_log.proofs.LogLemmas.{adds_valid, adds_torn}
 use Rattle.sector_log.proofs.reading.next_entry.Goals as goal
 

@@ -1,5 +1,5 @@
 use Rattle.std.proofs.Common.{◌≡◌, refl, arith}
-use Rattle.flash_board.specs.Words.{Words, halfwords_in}
+use Rattle.flash_traits.specs.Words.{Words, halfwords_in}
 use Rattle.sector_log.proofs.LogLemmas.{no_room}
 use Rattle.sector_log.proofs.reading.next_header.Goals as goal
 

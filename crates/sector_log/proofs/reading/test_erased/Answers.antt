@@ -1,6 +1,6 @@
 use Rattle.std.proofs.Common.{◌∙◌, ap, arith}
 use Rattle.std.specs.Prelude.{slice_index}
-use Rattle.flash_board.specs.Words.{Words, halfwords_in}
+use Rattle.flash_traits.specs.Words.{Words, halfwords_in}
 use Rattle.sector_log.proofs.ReadLemmas.{reads_then}
 use Rattle.sector_log.proofs.LogLemmas.{erased_more}
 use Rattle.sector_log.proofs.reading.test_erased.Goals as goal

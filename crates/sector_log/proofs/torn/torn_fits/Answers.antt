@@ -1,7 +1,6 @@
 use Rattle.std.proofs.Common.{◌≡◌, ◌+◌, ◌-◌, ◌*◌, true, false, length, get_or, sym, ◌∙◌, ap, arith}
 use Rattle.std.specs.Prelude.{bit_and, ◌==◌}
-use Rattle.flash_board.specs.Words.{Words, halfwords_in}
-use Rattle.sector_log.specs.Bytes.{halfwords_of}
+use Rattle.flash_traits.specs.Words.{Words, halfwords_in, halfwords_of}
 use Rattle.sector_log.proofs.BytesLemmas.{read_halfword, length_halfwords}
 use Rattle.sector_log.proofs.ReadLemmas.{reads_then}
 use Rattle.sector_log.proofs.TornLemmas.{as_many, each_more, one_fails, all_fit}

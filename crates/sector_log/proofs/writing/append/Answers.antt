@@ -1,7 +1,6 @@
 use Rattle.std.proofs.Common.{◌≡◌, ℕ, ◌+◌, ◌*◌, ◌/◌, ◌≤◌, length, arith}
-use Rattle.flash_board.specs.Words.{halfwords_in}
-use Rattle.flash_board.proofs.Moments.{chained_words, first_words, by_err}
-use Rattle.sector_log.specs.Bytes.{halfwords_of}
+use Rattle.flash_traits.specs.Words.{halfwords_in, halfwords_of}
+use Rattle.flash_traits.proofs.Moments.{chained_words, first_words, by_err}
 use Rattle.sector_log.specs.Appends.{AppendMayLeave, Appends}
 use Rattle.sector_log.proofs.BytesLemmas.{length_halfwords, halfword_below}
 use Rattle.sector_log.proofs.FillLemmas.{writing_may, then_completes, then_completes_may}

@@ -1,5 +1,5 @@
-use Rattle.flash_board.specs.Words.{Programs, ProgramMayLeave}
-use Rattle.flash_board.proofs.Moments.{chained_words, first_words, by_err}
+use Rattle.flash_traits.specs.Words.{Programs, ProgramMayLeave}
+use Rattle.flash_traits.proofs.Moments.{chained_words, first_words, by_err}
 use Rattle.sector_log.specs.Fills.{CompleteMayLeave, Completes}
 use Rattle.sector_log.proofs.FillLemmas.{fill_may, then_valid, then_valid_may, by_both}
 use Rattle.sector_log.proofs.writing.complete.Goals as goal

@@ -1,6 +1,6 @@
 use Rattle.std.proofs.Common.{◌≡◌, ◌+◌, ◌-◌, ◌*◌, ◌<◌, ◌≤◌, length, get_or, refl, ◌∙◌, arith}
-use Rattle.flash_board.proofs.Moments.{chained_words, first_words, started_words, by_err}
-use Rattle.sector_log.specs.Bytes.{halfwords_of}
+use Rattle.flash_traits.proofs.Moments.{chained_words, first_words, started_words, by_err}
+use Rattle.flash_traits.specs.Words.{halfwords_of}
 use Rattle.sector_log.specs.Fills.{FillMayLeave, Fills}
 use Rattle.sector_log.proofs.BytesLemmas.{read_halfword, length_halfwords}
 use Rattle.sector_log.proofs.FillLemmas.{FilledTo, filled_none, filled_next, filled_next_may, filled_all}

@@ -1,6 +1,6 @@
 use Rattle.std.proofs.Common.{◌≡◌, ◌+◌, true, refl, sym, ap, subst, arith}
-use Rattle.flash_board.specs.Words.{Words, Erases, EraseMayLeave, HasShape}
-use Rattle.flash_board.specs.Losses.{Moment, OnWords}
+use Rattle.flash_traits.specs.Words.{Words, Erases, EraseMayLeave, HasShape}
+use Rattle.flash_traits.specs.Losses.{Moment, OnWords}
 use Rattle.flash_board.specs.Flash.{words_of}
 use Rattle.flash_board.specs.declared.record.Call.TheVariants as call
 use Rattle.flash_board.proofs.MemCalls.{before_of, kept-push, changes, covers}

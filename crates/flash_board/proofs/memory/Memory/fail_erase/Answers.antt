@@ -1,6 +1,6 @@
 use Rattle.std.proofs.Common.{◌≡◌, ◌+◌, ◌^◌, ◌<◌, ℕ, false, refl, sym, ◌∙◌, ap, subst, arith, slice_index}
-use Rattle.flash_board.specs.Words.{Words, halfwords_in, EraseMayLeave, HasShape}
-use Rattle.flash_board.specs.Losses.{Moment, OnWords}
+use Rattle.flash_traits.specs.Words.{Words, halfwords_in, EraseMayLeave, HasShape}
+use Rattle.flash_traits.specs.Losses.{Moment, OnWords}
 use Rattle.flash_board.specs.Flash.{words_of, half_erased}
 use Rattle.flash_board.specs.declared.record.Call.TheVariants as call
 use Rattle.flash_board.proofs.MemCalls.{before_of, kept-push, changes, covers}

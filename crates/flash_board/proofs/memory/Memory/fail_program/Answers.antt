@@ -1,6 +1,6 @@
 use Rattle.std.proofs.Common.{◌≡◌, inl, ◌+◌, false, refl, ap, arith}
-use Rattle.flash_board.specs.Words.{ProgramMayLeave}
-use Rattle.flash_board.specs.Losses.{Moment, OnWords}
+use Rattle.flash_traits.specs.Words.{ProgramMayLeave}
+use Rattle.flash_traits.specs.Losses.{Moment, OnWords}
 use Rattle.flash_board.specs.declared.record.Call.TheVariants as call
 use Rattle.flash_board.proofs.MemCalls.{kept-push, changes, covers}
 use Rattle.flash_board.proofs.memory.Memory.fail_program.Goals as goal

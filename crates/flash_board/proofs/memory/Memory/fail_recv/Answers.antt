@@ -1,5 +1,5 @@
 use Rattle.std.proofs.Common.{◌≡◌, ◌+◌, false, refl, sym, ◌∙◌, ap, arith}
-use Rattle.flash_board.specs.Losses.{Moment, Outcome, Unchanged}
+use Rattle.flash_traits.specs.Losses.{Moment, Outcome, Unchanged}
 use Rattle.flash_board.specs.Kept.{start}
 use Rattle.flash_board.specs.declared.record.Call.TheVariants as call
 use Rattle.flash_board.proofs.MemCalls.{kept-push, elapses}

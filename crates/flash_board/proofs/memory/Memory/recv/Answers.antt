@@ -1,5 +1,5 @@
 use Rattle.std.proofs.Common.{◌≡◌, inr, ◌+◌, List, [], ◌∷◌, ◌++◌, drop, map, true, refl, sym, ◌∙◌, ap, subst, arith, slice_get}
-use Rattle.flash_board.specs.Losses.{Moment, Outcome, Received, received, Either, Unchanged, Receives}
+use Rattle.flash_traits.specs.Losses.{Moment, Outcome, Received, received, Either, Unchanged, Receives}
 use Rattle.flash_board.specs.Record.{stepped, event_of}
 use Rattle.flash_board.specs.Kept.{start, frame_of}
 use Rattle.flash_board.specs.declared.record.Feed.{Feed}

@@ -1,5 +1,5 @@
 use Rattle.std.proofs.Common.{◌≡◌, inr, ◌+◌, ℕ, List, [], ◌∷◌, ◌++◌, take, true, refl, sym, ◌∙◌, ap, subst, arith}
-use Rattle.flash_board.specs.Losses.{Moment, Outcome, SentFrame, sent_frame, Either, Unchanged, Sends}
+use Rattle.flash_traits.specs.Losses.{Moment, Outcome, SentFrame, sent_frame, Either, Unchanged, Sends}
 use Rattle.flash_board.specs.Record.{stepped}
 use Rattle.flash_board.specs.Kept.{start}
 use Rattle.flash_board.specs.declared.record.Call.TheVariants as call

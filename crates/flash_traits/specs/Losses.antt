@@ -1,8 +1,10 @@
 -- Events, frames, moments, and what a loss of power may leave.
-use Rattle.std.specs.Prelude.{◌≡◌, ◌⊎◌, ℕ, ◌+◌, ◌-◌, ◌^◌, ◌≤◌, ◌<◌, min, max, List, [], ◌∷◌, ◌++◌, take, Result, Ok, Err}
-use Rattle.flash_board.specs.Words.{Words}
-use Rattle.flash_board.specs.declared.board.Event.{Event}
-use Rattle.flash_board.specs.declared.board.Event.TheVariants as event
+use Rattle.std.specs.Prelude.{◌≡◌, ◌⊎◌, ℕ, ◌≤◌, ◌<◌, List, [], ◌∷◌, ◌++◌, take, Result, Ok, Err}
+use Rattle.flash_traits.specs.Words.{Words}
+use Rattle.flash_traits.specs.Counts.{raised}
+use Rattle.flash_traits.specs.declared.board.Event.{Event}
+use Rattle.flash_traits.specs.declared.board.Event.TheVariants as event
+use Rattle.flash_traits.specs.declared.numbers.TheConstants.{DATAGRAM_BYTES, STATIONS}
 
 -- what was received
 pub data Received : Type 0 where
@@ -21,12 +23,13 @@ pub record SentFrame : Type 0 where
   pub peer : ℕ
   pub bytes : List ℕ
 
+-- these bytes, sent to this peer
 abbrev pub sent_frame : ℕ → List ℕ → SentFrame
 sent_frame peer bytes = record { peer = peer; bytes = bytes }
 
--- a peer below 8, and at most as many bytes as the buffer has
+-- a peer that is a station's number, and at most as many bytes as the buffer has
 abbrev pub IsEventInRange : Event → Type 0
-IsEventInRange (event.Datagram peer len) = (peer < 8) × (len ≤ 2048)
+IsEventInRange (event.Datagram peer len) = (peer < STATIONS) × (len ≤ DATAGRAM_BYTES)
 IsEventInRange event.Idle = Unit {0}
 IsEventInRange event.End = Unit {0}
 
@@ -37,27 +40,25 @@ pub record Moment : Type 0 where
   pub receptions : ℕ
   pub sendings : ℕ
 
+-- no count of the one is above the other's
 pub record IsUpTo (t now : Moment) : Type 0 where
   pub programs : t.programs ≤ now.programs
   pub erases : t.erases ≤ now.erases
   pub receptions : t.receptions ≤ now.receptions
   pub sendings : t.sendings ≤ now.sendings
 
--- one more, but no further than the last value of a u64
-abbrev pub raised : ℕ → ℕ
-raised n = max n (min (n + 1) (2 ^ 64 - 1))
-
+-- the moment after a program, an erase, a reception, a sending
 abbrev pub after_program : Moment → Moment
-after_program t = record { programs = raised t.programs; erases = t.erases; receptions = t.receptions; sendings = t.sendings }
+after_program t = record t { programs = raised t.programs }
 
 abbrev pub after_erase : Moment → Moment
-after_erase t = record { programs = t.programs; erases = raised t.erases; receptions = t.receptions; sendings = t.sendings }
+after_erase t = record t { erases = raised t.erases }
 
 abbrev pub after_recv : Moment → Moment
-after_recv t = record { programs = t.programs; erases = t.erases; receptions = raised t.receptions; sendings = t.sendings }
+after_recv t = record t { receptions = raised t.receptions }
 
 abbrev pub after_send : Moment → Moment
-after_send t = record { programs = t.programs; erases = t.erases; receptions = t.receptions; sendings = raised t.sendings }
+after_send t = record t { sendings = raised t.sendings }
 
 -- words, with the events received and the frames sent by then
 pub record Outcome : Type 0 where
@@ -77,9 +78,11 @@ pub record After (start : Outcome → Type 0) (step : Outcome → Outcome → Ty
 pub record Elapses {B : Type 0} (moment : B → Moment) (now : B → Outcome → Type 0) (left : B → Moment → Outcome → Type 0)
     (old new : B) (lost done : Outcome → Outcome → Type 0) : Type 0 where
   pub later : IsUpTo (moment old) (moment new)
-  pub inside : (t : Moment) (o : Outcome) → IsUpTo t (moment old) → left new t o → left old t o ⊎ After (now old) lost o
+  pub inside : (t : Moment) (o : Outcome) → IsUpTo t (moment old) → left new t o
+      → left old t o ⊎ After (now old) lost o
   pub here : (o : Outcome) → now new o → After (now old) done o
-  pub keeps : (n : Outcome) → now new n → (t : Moment) (o : Outcome) → IsUpTo t (moment old) → left old t o → left new t o
+  pub keeps : (n : Outcome) → now new n → (t : Moment) (o : Outcome) → IsUpTo t (moment old)
+      → left old t o → left new t o
 
 -- a step on the words alone
 pub record OnWords (step : Words → Words → Type 0) (old new : Outcome) : Type 0 where
@@ -89,15 +92,17 @@ pub record OnWords (step : Words → Words → Type 0) (old new : Outcome) : Typ
 
 -- one more event
 abbrev pub Receives : Received → Outcome → Outcome → Type 0
-Receives e old new = new ≡ record { words = old.words; events = old.events ++ e ∷ []; frames = old.frames }
+Receives e old new = new ≡ record old { events = old.events ++ e ∷ [] }
 
 -- one more frame
 abbrev pub Sends : SentFrame → Outcome → Outcome → Type 0
-Sends f old new = new ≡ record { words = old.words; events = old.events; frames = old.frames ++ f ∷ [] }
+Sends f old new = new ≡ record old { frames = old.frames ++ f ∷ [] }
 
+-- all as it was
 abbrev pub Unchanged : Outcome → Outcome → Type 0
 Unchanged old new = new ≡ old
 
+-- the one step or the other
 abbrev pub Either : (Outcome → Outcome → Type 0) → (Outcome → Outcome → Type 0) → Outcome → Outcome → Type 0
 Either p q old new = p old new ⊎ q old new
 
@@ -109,6 +114,7 @@ ByResult (Err e) done lost = lost
 -- A call that changes at most the words, and no geometry, event or frame. What was told stays told or is told no
 -- more. Where the words are told at the end they have made the step `done`. A loss inside leaves what a loss before
 -- the call left, or what stood at its start after a step of `lost`; a loss at the end leaves it after a step of `done`.
+-- The trait cites this record while it is declared, and so can't hand over its members as one: `Changes` does.
 pub record ChangesWords {B : Type 0} (sector_bytes : B → ℕ) (tells : B → Type 0) (words : B → Words)
     (has_lists : B → List Received → List SentFrame → Type 0) (moment : B → Moment) (now : B → Outcome → Type 0)
     (left : B → Moment → Outcome → Type 0) (old new : B) (lost done : Words → Words → Type 0) : Type 0 where
@@ -119,9 +125,11 @@ pub record ChangesWords {B : Type 0} (sector_bytes : B → ℕ) (tells : B → T
   pub receptions : (moment new).receptions ≡ (moment old).receptions
   pub sendings : (moment new).sendings ≡ (moment old).sendings
   pub later : IsUpTo (moment old) (moment new)
-  pub inside : (t : Moment) (o : Outcome) → IsUpTo t (moment old) → left new t o → left old t o ⊎ After (now old) (OnWords lost) o
+  pub inside : (t : Moment) (o : Outcome) → IsUpTo t (moment old) → left new t o
+      → left old t o ⊎ After (now old) (OnWords lost) o
   pub here : (o : Outcome) → now new o → After (now old) (OnWords done) o
-  pub keeps : (n : Outcome) → now new n → (t : Moment) (o : Outcome) → IsUpTo t (moment old) → left old t o → left new t o
+  pub keeps : (n : Outcome) → now new n → (t : Moment) (o : Outcome) → IsUpTo t (moment old)
+      → left old t o → left new t o
 
 -- Where the board still tells losses, each outcome of a step of `lost` may have been left inside this call.
 pub record Covers {B : Type 0} (moment : B → Moment) (now : B → Outcome → Type 0) (left : B → Moment → Outcome → Type 0)

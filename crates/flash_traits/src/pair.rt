@@ -1,11 +1,12 @@
-// Two programs in a row.
-ghost use Rattle.std.specs.Prelude.{◌+◌, ◌<◌};
-ghost use Rattle.flash_board.specs.declared.board.Fault.{Fault};
-ghost use Rattle.flash_board.specs.Words.{region_length, IsSectorSize};
-ghost use Rattle.flash_board.specs.Losses.{ByResult};
-ghost use Rattle.flash_board.specs.Calls.{Changes, ErasesNothing};
-ghost use Rattle.flash_board.specs.Causes.{HasCause};
-ghost use Rattle.flash_board.specs.Pairs.{ProgramsPair, PairMayLeave};
+//! Two programs one after the other, with what a loss between them leaves.
+ghost use Rattle.std.specs.Prelude.{◌+◌, ◌<◌, ◌≤◌};
+ghost use Rattle.flash_traits.specs.declared.board.Fault.{Fault};
+ghost use Rattle.flash_traits.specs.Words.{region_length, IsSectorSize};
+ghost use Rattle.flash_traits.specs.Losses.{ByResult};
+ghost use Rattle.flash_traits.specs.Counts.{raised_by};
+ghost use Rattle.flash_traits.specs.Calls.{Changes, ErasesNothing};
+ghost use Rattle.flash_traits.specs.Causes.{HasCause};
+ghost use Rattle.flash_traits.specs.Pairs.{ProgramsPair, PairMayLeave};
 
 use crate::{Board, Failed, Region};
 
@@ -21,6 +22,7 @@ pub fn program_pair<B: Board>(
     requires inside { at + 1 < region_length (B.sector_bytes board.old) region }
     ensures changes { Changes B.Board board.old board.new (PairMayLeave region at first second)
         (ByResult result (ProgramsPair region at first second) (PairMayLeave region at first second)) }
+    ensures programs { (B.moment board.new).programs ≤ raised_by 2 (B.moment board.old).programs }
     ensures erases { ErasesNothing B.Board board.old board.new }
     ensures cause { HasCause Fault.Flash (B.faults board.old) (B.faults board.new) result }
 {

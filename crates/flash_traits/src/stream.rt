@@ -1,6 +1,6 @@
-// Bytes that come in and bytes that go out.
+//! Bytes that come in and bytes that go out, in pieces, each of which may fail.
 ghost use Rattle.std.specs.Prelude.{◌≡◌, ◌≢◌, ◌≤◌, ◌++◌, [], ℕ, List, length, take, IfOk, MatchResult, Ok, Err};
-ghost use Rattle.flash_board.specs.Causes.{HasOneCause};
+ghost use Rattle.flash_traits.specs.Causes.{HasOneCause};
 
 use crate::Failed;
 

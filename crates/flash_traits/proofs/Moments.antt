@@ -1,12 +1,12 @@
 -- How calls on a board follow one another.
 use Rattle.std.proofs.Common.{◌≡◌, inl, inr, ⊎_elim, ℕ, List, refl, sym, ◌∙◌, ap, subst, arith, Result, Ok, Err}
 use Rattle.std.specs.Prelude.{IsErr, IsOk}
-use Rattle.flash_board.specs.Words.{Words, halfwords_in, with_halfwords}
-use Rattle.flash_board.specs.declared.board.Region.{Region}
-use Rattle.flash_board.specs.declared.board.Region.TheVariants.{S0, S1, Guard}
-use Rattle.flash_board.specs.Losses.{Moment, IsUpTo, after_program, after_recv, after_send, Outcome, Elapses, OnWords, ByResult}
-use Rattle.flash_board.specs.declared.board.Board.{Ghosts}
-use Rattle.flash_board.specs.Calls.{Changes, ErasesNothing}
+use Rattle.flash_traits.specs.Words.{Words, halfwords_in, with_halfwords}
+use Rattle.flash_traits.specs.declared.board.Region.{Region}
+use Rattle.flash_traits.specs.declared.board.Region.TheVariants.{S0, S1, Guard}
+use Rattle.flash_traits.specs.Losses.{Moment, IsUpTo, after_program, after_recv, after_send, Outcome, Elapses, OnWords, ByResult}
+use Rattle.flash_traits.specs.declared.board.Board.{Ghosts}
+use Rattle.flash_traits.specs.Calls.{Changes, ErasesNothing}
 
 pub up_to_self : (t : Moment) → IsUpTo t t
 up_to_self t = record { programs = omega arith; erases = omega arith; receptions = omega arith; sendings = omega arith }

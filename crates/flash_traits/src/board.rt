@@ -1,10 +1,11 @@
-// The device and its link.
+//! The device and its link: each call by what it does, and by what a loss of power inside it may leave.
 ghost use Rattle.std.specs.Prelude.{◌≡◌, ◌⊎◌, ◌<◌, ◌≤◌, ◌++◌, [], ◌∷◌, List, ℕ, length, slice_index, IfOk, OnOk, OnErr, IfSome, MatchResult, MatchOption, Ok, Err, Some};
 ghost use Rattle.std.specs.Option.{ForSome};
-ghost use Rattle.flash_board.specs.declared.board.Fault.{Fault};
-ghost use Rattle.flash_board.specs.Words.{Words, halfwords_in, region_length, IsSectorRegion, IsSectorSize, HasShape, blank, Programs, ProgramMayLeave, Erases, EraseMayLeave, Same};
-ghost use Rattle.flash_board.specs.Losses.{Received, received, SentFrame, sent_frame, IsEventInRange, Moment, IsUpTo, after_program, after_erase, after_recv, after_send, Outcome, Elapses, Receives, Sends, Unchanged, Either, ByResult, OnWords, ChangesWords, KeepsWords, Covers};
-ghost use Rattle.flash_board.specs.Causes.{HasCause};
+ghost use Rattle.flash_traits.specs.declared.board.Fault.{Fault};
+ghost use Rattle.flash_traits.specs.Words.{Words, halfwords_in, region_length, IsSectorRegion, IsSectorSize, HasShape, blank, Programs, ProgramMayLeave, Erases, EraseMayLeave, Same};
+ghost use Rattle.flash_traits.specs.Losses.{Received, received, SentFrame, sent_frame, IsEventInRange, Moment, IsUpTo, after_program, after_erase, after_recv, after_send, Outcome, Elapses, Receives, Sends, Unchanged, Either, ByResult, OnWords, ChangesWords, KeepsWords, Covers};
+ghost use Rattle.flash_traits.specs.Causes.{HasCause};
+ghost use Rattle.flash_traits.specs.declared.numbers.TheConstants.{DATAGRAM_BYTES, FRAME_BYTES};
 
 /// A part of the image: one of the two sectors, or the guard row.
 #[derive(Clone, Copy, Debug, PartialEq, Eq)]
@@ -153,7 +154,7 @@ pub trait Board {
     /// Waits for an event. A datagram's bytes are the first `len` of `into`.
     fn recv(&mut self, into: &mut [u8]) -> Result<Event, Failed>
         requires attached { IsSectorSize (sector_bytes self.old) }
-        requires room { length into.old ≡ 2048 }
+        requires room { length into.old ≡ DATAGRAM_BYTES }
         ensures bounds { IfOk result (λ event. IsEventInRange event) }
         ensures words { KeepsWords sector_bytes tells words self.old self.new }
         ensures lists { (e : List Received) (f : List SentFrame) → has_lists self.old e f →
@@ -169,7 +170,7 @@ pub trait Board {
     fn send(&mut self, peer: u8, bytes: &[u8]) -> Result<(), Failed>
         requires attached { IsSectorSize (sector_bytes self.old) }
         requires some { 1 ≤ length bytes.now }
-        requires room { length bytes.now ≤ 280 }
+        requires room { length bytes.now ≤ FRAME_BYTES }
         ensures words { KeepsWords sector_bytes tells words self.old self.new }
         ensures lists { (e : List Received) (f : List SentFrame) → has_lists self.old e f →
             MatchResult result (λ _. has_lists self.new e (f ++ sent_frame peer bytes.now ∷ []))

@@ -1,8 +1,9 @@
 -- The same words for calls on any board, over all its meanings at once.
-use Rattle.std.specs.Prelude.{◌≡◌, ◌↔◌, List}
-use Rattle.flash_board.specs.declared.board.Board.{Ghosts}
-use Rattle.flash_board.specs.Words.{Words}
-use Rattle.flash_board.specs.Losses.{Received, SentFrame, Outcome, Elapses, ChangesWords, Covers}
+use Rattle.std.specs.Prelude.{◌≡◌, ◌↔◌, ◌≤◌, List}
+use Rattle.flash_traits.specs.declared.board.Board.{Ghosts}
+use Rattle.flash_traits.specs.declared.board.Fault.{Fault}
+use Rattle.flash_traits.specs.Words.{Words, Same}
+use Rattle.flash_traits.specs.Losses.{Received, SentFrame, Outcome, Elapses, ChangesWords, Covers}
 
 -- A call that changes at most the words. A loss inside leaves them after a step of `lost`, and the call itself makes the
 -- step `done`.
@@ -16,6 +17,14 @@ Passes g old new lost done = Elapses g.moment g.now g.left old new lost done
 -- the number of erase calls stays
 pub record ErasesNothing {B : Type 0} (g : Ghosts B) (old new : B) : Type 0 where
   pub erases : (g.moment new).erases ≡ (g.moment old).erases
+
+-- The words are as they were and still told where they were, nothing is programmed, erased, received or sent, and no
+-- count of faults falls.
+pub record OnlyReads {B : Type 0} (g : Ghosts B) (old new : B) : Type 0 where
+  pub changes : Changes g old new Same Same
+  pub keeps_told : g.tells old → g.tells new
+  pub moment : g.moment new ≡ g.moment old
+  pub counts : (k : Fault) → g.faults old k ≤ g.faults new k
 
 -- each outcome of a step of `lost` may have been left inside the call, where the board still tells losses
 abbrev pub MayHaveLeft : {B : Type 0} → Ghosts B → B → B → (Outcome → Outcome → Type 0) → Type 0

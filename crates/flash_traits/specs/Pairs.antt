@@ -1,7 +1,7 @@
 -- Two programs in a row at neighbouring places.
 use Rattle.std.specs.Prelude.{◌≡◌, ◌⊎◌, ℕ, ◌+◌}
-use Rattle.flash_board.specs.Words.{Words, programmed}
-use Rattle.flash_board.specs.declared.board.Region.{Region}
+use Rattle.flash_traits.specs.Words.{Words, programmed}
+use Rattle.flash_traits.specs.declared.board.Region.{Region}
 
 -- both are programmed
 abbrev pub ProgramsPair : Region → ℕ → ℕ → ℕ → Words → Words → Type 0

@@ -1,0 +1,9 @@
+pub mod Words
+pub mod Marks
+pub mod Counts
+pub mod Losses
+pub mod Causes
+pub mod Calls
+pub mod Budget
+pub mod Pairs
+pub mod Values

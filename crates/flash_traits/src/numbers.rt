@@ -1,0 +1,22 @@
+//! The sizes and words that the storage and its link have in common.
+
+/// The lines of the storage, of eight bytes each.
+pub const LINES: u16 = 1_920;
+
+/// The halfwords of the guard row.
+pub const GUARD_HALFWORDS: u32 = 8_192;
+
+/// A halfword after an erase.
+pub const ERASED: u16 = 0xFFFF;
+
+/// The second halfword of a sector's header.
+pub const SIGNATURE: u16 = 0x5168;
+
+/// The bytes of the largest datagram.
+pub const DATAGRAM_BYTES: usize = 2_048;
+
+/// The bytes of the largest frame.
+pub const FRAME_BYTES: usize = 280;
+
+/// How many stations the link tells apart.
+pub const STATIONS: u8 = 8;
