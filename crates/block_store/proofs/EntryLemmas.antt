@@ -5,8 +5,8 @@ use borrow.Rule.Slice.PartMut.{put_mid}
 use Rattle.storage_lines.specs.declared.lines.LineWrite.{LineWrite}
 use Rattle.storage_lines.specs.Lines.{after, put_line}
 use Rattle.storage_lines.proofs.LineLemmas.{after-append, length-after, put_written}
-use Rattle.sector_log.specs.Bytes.{put}
-use Rattle.sector_log.proofs.ValueLemmas.{put_both}
+use Rattle.flash_traits.specs.Values.{put}
+use Rattle.flash_traits.proofs.ValueLemmas.{put_both}
 use Rattle.block_store.specs.Store.{Ascend, IsEntry, entry_bytes}
 use Rattle.block_store.specs.Entries.{first_line, IsEntryOf}
 

@@ -1,10 +1,10 @@
 -- A put as a call that keeps the bytes, and one that puts an entry.
 use Rattle.std.proofs.Common.{◌≡◌, inl, inr, ⊎_elim, ℕ, Bool, true, false, List, Result, Ok, Err, sym, ◌∙◌, ap, subst}
-use Rattle.flash_board.specs.Words.{Words}
-use Rattle.flash_board.specs.Losses.{Outcome, ByResult}
-use Rattle.flash_board.specs.declared.board.Board.{Ghosts}
-use Rattle.flash_board.specs.Calls.{Changes}
-use Rattle.flash_board.proofs.Moments.{first_words, chained_words}
+use Rattle.flash_traits.specs.Words.{Words}
+use Rattle.flash_traits.specs.Losses.{Outcome, ByResult}
+use Rattle.flash_traits.specs.declared.board.Board.{Ghosts}
+use Rattle.flash_traits.specs.Calls.{Changes}
+use Rattle.flash_traits.proofs.Moments.{first_words, chained_words}
 use Rattle.storage_lines.specs.declared.lines.LineWrite.{LineWrite}
 use Rattle.sector_switch.specs.Stands.{Stands}
 use Rattle.sector_switch.specs.Losses.{RaisesGuard, KeepsBytes, Puts, MayPut}

@@ -1,10 +1,10 @@
 -- An entry's first line, and what putting its bytes does to the bytes of an image.
 use Rattle.std.specs.Prelude.{◌≡◌, ◌⊎◌, ℕ, List, [], ◌∷◌, ◌*◌, length}
-use Rattle.flash_board.specs.Words.{Words}
+use Rattle.flash_traits.specs.Words.{Words}
 use Rattle.storage_lines.specs.declared.lines.LineWrite.{LineWrite}
 use Rattle.storage_lines.specs.declared.lines.TheConstants.{STORAGE_BYTES}
 use Rattle.storage_lines.specs.Lines.{after}
-use Rattle.sector_log.specs.Bytes.{put}
+use Rattle.flash_traits.specs.Values.{put}
 use Rattle.sector_switch.specs.Stands.{Stands}
 use Rattle.sector_switch.specs.Losses.{RaisesGuard}
 

@@ -1,7 +1,7 @@
 -- What the refusals say.
 use Rattle.std.specs.Prelude.{◌≡◌, ℕ}
-use Rattle.flash_board.specs.declared.board.Board.{Ghosts}
-use Rattle.flash_board.specs.declared.board.Fault.{Fault}
+use Rattle.flash_traits.specs.declared.board.Board.{Ghosts}
+use Rattle.flash_traits.specs.declared.board.Fault.{Fault}
 use Rattle.sector_switch.specs.declared.kept.Kept.{Kept}
 use Rattle.sector_switch.specs.FirstBad.{Place, place_of}
 use Rattle.sector_switch.specs.Images.{Bytes}

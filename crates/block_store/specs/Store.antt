@@ -1,8 +1,8 @@
 -- What contracts see of a store.
 use Rattle.std.specs.Prelude.{◌≡◌, ◌≤◌, ℕ, ◌+◌, ◌-◌, ◌*◌, List, [], ◌∷◌, length, Bool, true, false, if◌then◌else◌, nat_lt}
 use Rattle.std.specs.Option.{option_map_or}
-use Rattle.flash_board.specs.Budget.{budget_of}
-use Rattle.flash_board.specs.declared.board.Board.{Ghosts}
+use Rattle.flash_traits.specs.Budget.{budget_of}
+use Rattle.flash_traits.specs.declared.board.Board.{Ghosts}
 use Rattle.storage_lines.specs.declared.lines.LineWrite.{LineWrite}
 use Rattle.storage_lines.specs.declared.lines.TheConstants.{LINES}
 use Rattle.sector_switch.specs.declared.kept.Kept.{Kept}

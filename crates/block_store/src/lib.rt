@@ -2,12 +2,12 @@
 #![tactic(auto)]
 
 ghost use Rattle.std.specs.Prelude.{◌≡◌, ◌⊎◌, ◌+◌, ◌*◌, ◌<◌, ◌≤◌, ◌↔◌, length, true, false, IsTrue, IsFalse, IsOk, IfOk, IfErr, OnOk, OnErr, IsErrOf};
-ghost use Rattle.flash_board.specs.Words.{IsSectorSize};
-ghost use Rattle.flash_board.specs.declared.board.Fault.{Fault};
-ghost use Rattle.flash_board.specs.declared.board.Fault.TheVariants.{Read, Flash};
-ghost use Rattle.flash_board.specs.Losses.{ByResult};
-ghost use Rattle.flash_board.specs.Calls.{Changes, ErasesNothing};
-ghost use Rattle.flash_board.specs.Causes.{Rose};
+ghost use Rattle.flash_traits.specs.Words.{IsSectorSize};
+ghost use Rattle.flash_traits.specs.declared.board.Fault.{Fault};
+ghost use Rattle.flash_traits.specs.declared.board.Fault.TheVariants.{Read, Flash};
+ghost use Rattle.flash_traits.specs.Losses.{ByResult};
+ghost use Rattle.flash_traits.specs.Calls.{Changes, ErasesNothing};
+ghost use Rattle.flash_traits.specs.Causes.{Rose};
 ghost use Rattle.storage_lines.specs.declared.lines.TheConstants.{STORAGE_BYTES};
 ghost use Rattle.storage_lines.specs.Lines.{after};
 ghost use Rattle.sector_switch.specs.FirstBad.{FirstBad};
@@ -23,7 +23,7 @@ mod moves;
 mod puts;
 
 use entry::bytes_of;
-use flash_board::{Board, Fault, Region};
+use flash_traits::{Board, Fault, Region};
 use moves::switch;
 use puts::{put_armed, put_unarmed};
 use sector_switch::{Alone, Images, RecoverError, Spilled, recover};

@@ -1,9 +1,9 @@
 // From one sector to the other.
 ghost use Rattle.std.specs.Prelude.{◌≡◌, ◌≤◌, ◌+◌, ◌-◌, IfOk, IfErr};
-ghost use Rattle.flash_board.specs.declared.board.Fault.{Fault};
-ghost use Rattle.flash_board.specs.declared.board.Fault.TheVariants.{Flash};
-ghost use Rattle.flash_board.specs.Calls.{Changes, ErasesNothing};
-ghost use Rattle.flash_board.specs.Causes.{HasCause, Rose};
+ghost use Rattle.flash_traits.specs.declared.board.Fault.{Fault};
+ghost use Rattle.flash_traits.specs.declared.board.Fault.TheVariants.{Flash};
+ghost use Rattle.flash_traits.specs.Calls.{Changes, ErasesNothing};
+ghost use Rattle.flash_traits.specs.Causes.{HasCause, Rose};
 ghost use Rattle.sector_switch.specs.Images.{Bytes};
 ghost use Rattle.sector_switch.specs.Room.{chunks};
 ghost use Rattle.sector_switch.specs.Losses.{KeepsBytes};
@@ -11,7 +11,7 @@ ghost use Rattle.sector_switch.specs.Fits.{FitsAlone, FitsSpilled, FitsVoided, f
 ghost use Rattle.block_store.specs.Refusals.{OnFault, OnWorn, OnNoRoom, IsWorn};
 
 use crate::PutError;
-use flash_board::{Board, Fault};
+use flash_traits::{Board, Fault};
 use sector_switch::{Alone, Images, Spilled, VoidError, Voided};
 
 /// Marks home full, and the other sector in use. A loss inside leaves the bytes of before.

@@ -1,11 +1,11 @@
 // A state that has room for an entry, and the entry.
 ghost use Rattle.std.specs.Prelude.{◌≡◌, ◌+◌, ◌-◌, ◌*◌, ◌≤◌, length, true, false, IsTrue, IsFalse, IfOk, IfErr, OnOk, OnErr};
-ghost use Rattle.flash_board.specs.declared.board.Fault.{Fault};
-ghost use Rattle.flash_board.specs.declared.board.Fault.TheVariants.{Read, Flash};
-ghost use Rattle.flash_board.specs.Losses.{ByResult};
-ghost use Rattle.flash_board.specs.Calls.{Changes, ErasesNothing};
-ghost use Rattle.flash_board.specs.Causes.{HasCause, Rose};
-ghost use Rattle.sector_log.specs.Bytes.{put};
+ghost use Rattle.flash_traits.specs.declared.board.Fault.{Fault};
+ghost use Rattle.flash_traits.specs.declared.board.Fault.TheVariants.{Read, Flash};
+ghost use Rattle.flash_traits.specs.Losses.{ByResult};
+ghost use Rattle.flash_traits.specs.Calls.{Changes, ErasesNothing};
+ghost use Rattle.flash_traits.specs.Causes.{HasCause, Rose};
+ghost use Rattle.flash_traits.specs.Values.{put};
 ghost use Rattle.sector_log.specs.Appends.{AreLines};
 ghost use Rattle.sector_switch.specs.Losses.{KeepsBytes, Puts, MayPut};
 ghost use Rattle.sector_switch.specs.Fits as fits;
@@ -17,7 +17,7 @@ ghost use Rattle.block_store.specs.Refusals.{OnFault, OnWorn, OnNoRoom, IsWorn};
 
 use crate::moves::{spill, switch, turn};
 use crate::{PutError, State};
-use flash_board::{Board, Fault};
+use flash_traits::{Board, Fault};
 use sector_switch::{Alone, Images};
 
 /// The state in which an armed store takes an entry of so many bytes: home where it has room, and else the other

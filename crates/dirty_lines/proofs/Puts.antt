@@ -1,12 +1,12 @@
 -- What puts of entries do to the words, and what losses inside them leave.
 use Rattle.std.proofs.Common.{◌≡◌, inl, inr, ℕ, ◌+◌, ◌-◌, ◌*◌, ◌<◌, ◌≤◌, List, [], ◌∷◌, ◌++◌, length, Bool, true, false, refl, sym, ◌∙◌, ap, subst, arith, length-append, if◌then◌else◌}
 use Rattle.std.specs.Prelude.{IsTrue, IsFalse, Result, Ok, Err, IsErr, OnErr}
-use Rattle.flash_board.specs.Words.{Words}
-use Rattle.flash_board.specs.Losses.{Outcome, ByResult}
-use Rattle.flash_board.specs.Calls.{Changes, ErasesNothing}
-use Rattle.flash_board.specs.declared.board.Board.{Ghosts}
-use Rattle.flash_board.specs.declared.board.Fault.{Fault}
-use Rattle.flash_board.proofs.Moments.{chained_words, first_words, started_words, chained_erases_nothing}
+use Rattle.flash_traits.specs.Words.{Words}
+use Rattle.flash_traits.specs.Losses.{Outcome, ByResult}
+use Rattle.flash_traits.specs.Calls.{Changes, ErasesNothing}
+use Rattle.flash_traits.specs.declared.board.Board.{Ghosts}
+use Rattle.flash_traits.specs.declared.board.Fault.{Fault}
+use Rattle.flash_traits.proofs.Moments.{chained_words, first_words, started_words, chained_erases_nothing}
 use Rattle.storage_lines.specs.declared.lines.LineWrite.{LineWrite}
 use Rattle.storage_lines.specs.Lines.{after}
 use Rattle.sector_switch.specs.Stands.{Stands}

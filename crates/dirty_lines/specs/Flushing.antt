@@ -1,8 +1,8 @@
 -- What a flush has done so far.
 use Rattle.std.specs.Prelude.{◌≡◌, ◌⊎◌, ◌-◌, ◌*◌, ◌<◌, ◌≤◌, ℕ, List, length, take, Bool, true, false, IsTrue, IsFalse}
-use Rattle.flash_board.specs.declared.board.Board.{Ghosts}
-use Rattle.flash_board.specs.declared.board.Fault.{Fault}
-use Rattle.flash_board.specs.Calls.{Changes, ErasesNothing}
+use Rattle.flash_traits.specs.declared.board.Board.{Ghosts}
+use Rattle.flash_traits.specs.declared.board.Fault.{Fault}
+use Rattle.flash_traits.specs.Calls.{Changes, ErasesNothing}
 use Rattle.storage_lines.specs.declared.lines.LineWrite.{LineWrite}
 use Rattle.block_store.specs.Store.{Fits, durable_of, guard_of, room_of, is_alone, is_spilled, is_spent}
 use Rattle.block_store.specs.Losses.{PutsLines}

@@ -1,9 +1,9 @@
 -- What the two calls know once the image was read.
 use Rattle.std.proofs.Common.{◌≡◌, ℕ, ◌*◌, List, length, sym, ◌∙◌, ap, subst}
-use Rattle.flash_board.specs.Words.{Words, HasShape, IsSectorSize}
-use Rattle.flash_board.specs.declared.board.Board.{Ghosts}
+use Rattle.flash_traits.specs.Words.{Words, HasShape, IsSectorSize}
+use Rattle.flash_traits.specs.declared.board.Board.{Ghosts}
 use Rattle.sector_log.specs.Bytes.{IsValue}
-use Rattle.sector_log.specs.Reads.{OnlyReads}
+use Rattle.flash_traits.specs.Calls.{OnlyReads}
 use Rattle.sector_switch.specs.Images.{Bytes}
 use Rattle.sector_switch.specs.Fits.{FitsShape}
 use Rattle.sector_switch.specs.Stands.{Reading, Stands, entries_in, count_in}

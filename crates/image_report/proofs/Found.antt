@@ -1,7 +1,7 @@
 -- The state that a survey finds.
 use Rattle.std.proofs.Common.{◌≡◌, ℕ, [], refl}
-use Rattle.flash_board.specs.Words.{Words}
-use Rattle.flash_board.specs.declared.board.Board.{Ghosts}
+use Rattle.flash_traits.specs.Words.{Words}
+use Rattle.flash_traits.specs.declared.board.Board.{Ghosts}
 use Rattle.sector_switch.specs.Stands.{Reading, Reads, count_in}
 use Rattle.sector_switch.specs.Images.{Bytes}
 use Rattle.sector_switch.specs.Fits.{FitsShape, reading_of}

@@ -1,7 +1,7 @@
 -- The pieces of a dump.
 use Rattle.std.proofs.Common.{◌≡◌, ℕ, List, ◌++◌, ◌∙◌, sym, ap, append_assoc}
 use Rattle.std.specs.Prelude.{Result, Ok, Err, IsErrAnd}
-use Rattle.flash_board.specs.declared.stream.Sink.{Ghosts}
+use Rattle.flash_traits.specs.declared.stream.Sink.{Ghosts}
 use Rattle.sector_switch.specs.declared.kept.Shape.{Shape}
 use Rattle.image_report.specs.Dumps.{head_line, param_lines, digest_line, dump_text}
 use Rattle.image_report.specs.Writes.{Writes}

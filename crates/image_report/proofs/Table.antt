@@ -5,7 +5,7 @@ use Rattle.std.specs.List.{flat_map}
 use Rattle.std.proofs.lemmas.List.{append-nil, take-append-drop, take_more, take_all}
 use Rattle.std.proofs.lemmas.Option.{slice_get_within, get_or_from_slice_get}
 use Rattle.std.proofs.lemmas.Grind.{flat_map-append}
-use Rattle.flash_board.specs.declared.stream.Sink.{Ghosts}
+use Rattle.flash_traits.specs.declared.stream.Sink.{Ghosts}
 use Rattle.param_tree.specs.declared.Var.{Var}
 use Rattle.param_tree.specs.Rows.{vehicle_rows, basic_rows, single_rows, mission_rows, fence_rows, rally_rows, navigation_rows, sensor_rows, compass_rows, inertial_rows, flight_rows, battery_rows, attitude_rows, rate_rows, flight_mode_rows, servo_rows, rc_rows, each_from}
 use Rattle.param_records.specs.declared.values.Value.{Value}

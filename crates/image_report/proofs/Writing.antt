@@ -4,8 +4,8 @@ use Rattle.std.specs.Prelude.{Result, Ok, Err, OnErr, IsErrAnd, MatchResult}
 use Rattle.std.proofs.lemmas.List.{take_all, take-append-le, append-nil}
 use Rattle.std.proofs.lemmas.Bool.{cases_lt}
 use Rattle.std.proofs.Math.Seq.{take-append_seam, take-append-add}
-use Rattle.flash_board.specs.declared.stream.Sink.{Ghosts}
-use Rattle.flash_board.specs.Causes.{Rose, HasOneCause}
+use Rattle.flash_traits.specs.declared.stream.Sink.{Ghosts}
+use Rattle.flash_traits.specs.Causes.{Rose, HasOneCause}
 use Rattle.image_report.specs.Writes.{Writes, WritesFirstPart}
 
 -- a first part of a text is one of a longer text

@@ -15,8 +15,8 @@ use Rattle.std.specs.List.{flat_map}
 use Rattle.std.specs.Int.{to_be_bytes, w32}
 use Rattle.hex.specs.Hex.{encode_upper, encode_lower}
 use Rattle.sha2.specs.Sha256.{sha256}
-use Rattle.flash_board.specs.Words.{Words}
-use Rattle.flash_board.specs.declared.board.Mark.TheVariants.{InUse, Full}
+use Rattle.flash_traits.specs.Words.{Words}
+use Rattle.flash_traits.specs.declared.board.Mark.TheVariants.{InUse, Full}
 use Rattle.sector_log.specs.Bytes.{IsValue}
 use Rattle.sector_switch.specs.Stands.{Reading, Both, One, Reads, entries_in, count_in}
 use Rattle.sector_switch.specs.declared.kept.Shape.{Shape}

@@ -1,6 +1,6 @@
 -- The laws of the two texts.
 use Rattle.std.specs.Prelude.{◌≡◌, ℕ, List}
-use Rattle.flash_board.specs.Words.{Words, HasShape, IsSectorSize}
+use Rattle.flash_traits.specs.Words.{Words, HasShape, IsSectorSize}
 use Rattle.sector_switch.specs.Stands.{Stands}
 use Rattle.image_report.specs.Dumps.{IsDump}
 use Rattle.image_report.specs.Reports.{IsReport}

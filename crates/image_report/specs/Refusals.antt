@@ -1,6 +1,6 @@
 -- What the answers of the calls say.
 use Rattle.std.specs.Prelude.{Result, Ok, Err}
-use Rattle.flash_board.specs.declared.board.Fault.{Fault}
+use Rattle.flash_traits.specs.declared.board.Fault.{Fault}
 use Rattle.sector_switch.specs.FirstBad.{Place, place_of}
 use Rattle.image_report.specs.declared.errors.ReportError.{ReportError}
 use Rattle.image_report.specs.declared.errors.ReportError.TheVariants as errors

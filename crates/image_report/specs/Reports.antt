@@ -8,9 +8,9 @@
 --
 -- or of other words `guard foreign 1 00FF`, `s0 foreign 2 000E`, `s0 void`, `state foreign`.
 use Rattle.std.specs.Prelude.{◌≡◌, ◌≢◌, ℕ, ◌*◌, ◌-◌, List, ◌++◌, length, codes, decimal, Option, Some, None}
-use Rattle.flash_board.specs.Words.{Words}
-use Rattle.flash_board.specs.declared.board.Region.{Region}
-use Rattle.flash_board.specs.declared.board.Region.TheVariants.{S0, S1}
+use Rattle.flash_traits.specs.Words.{Words}
+use Rattle.flash_traits.specs.declared.board.Region.{Region}
+use Rattle.flash_traits.specs.declared.board.Region.TheVariants.{S0, S1}
 use Rattle.guard_row.specs.Row as guard_row
 use Rattle.guard_row.specs.Says.{void_of}
 use Rattle.sector_log.specs.declared.log.Log.{Log}

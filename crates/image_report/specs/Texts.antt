@@ -2,10 +2,10 @@
 use Rattle.std.specs.Prelude.{ℕ, List, [], ◌∷◌, ◌++◌, codes, decimal}
 use Rattle.std.specs.Int.{to_be_bytes, w16}
 use Rattle.hex.specs.Hex.{encode_upper}
-use Rattle.flash_board.specs.declared.board.Region.{Region}
-use Rattle.flash_board.specs.declared.board.Region.TheVariants.{S0, S1, Guard}
-use Rattle.flash_board.specs.declared.board.Mark.{Mark}
-use Rattle.flash_board.specs.declared.board.Mark.TheVariants.{Available, InUse, Full}
+use Rattle.flash_traits.specs.declared.board.Region.{Region}
+use Rattle.flash_traits.specs.declared.board.Region.TheVariants.{S0, S1, Guard}
+use Rattle.flash_traits.specs.declared.board.Mark.{Mark}
+use Rattle.flash_traits.specs.declared.board.Mark.TheVariants.{Available, InUse, Full}
 use Rattle.sector_switch.specs.declared.kept.Shape.{Shape}
 use Rattle.sector_switch.specs.declared.kept.Shape.TheVariants as shape
 

@@ -1,7 +1,7 @@
 -- What a call writes to a sink.
 use Rattle.std.specs.Prelude.{◌≡◌, ℕ, List, ◌++◌, take, Result, MatchResult}
-use Rattle.flash_board.specs.declared.stream.Sink.{Ghosts}
-use Rattle.flash_board.specs.Causes.{HasOneCause}
+use Rattle.flash_traits.specs.declared.stream.Sink.{Ghosts}
+use Rattle.flash_traits.specs.Causes.{HasOneCause}
 
 -- The whole text is written at Ok, and a first part of it at Err. An Err comes only where the sink's count of faults rose.
 pub record Writes {K T E : Type 0} (g : Ghosts K) (old new : K) (result : Result T E) (text : List ℕ) : Type 0 where

@@ -1,13 +1,13 @@
 // What an image stands for, as text.
 ghost use Rattle.std.specs.Prelude.{◌≡◌, ◌≤◌, ◌<◌, ◌+◌, ◌++◌, List, ℕ, length, slice_get, IfOk, OnOk, IfErr};
-ghost use Rattle.flash_board.specs.declared.board.Fault.TheVariants.{Read};
-ghost use Rattle.flash_board.specs.Words.{IsSectorSize};
-ghost use Rattle.flash_board.specs.Causes.{Rose};
+ghost use Rattle.flash_traits.specs.declared.board.Fault.TheVariants.{Read};
+ghost use Rattle.flash_traits.specs.Words.{IsSectorSize};
+ghost use Rattle.flash_traits.specs.Causes.{Rose};
 ghost use Rattle.param_tree.specs.declared.Var.{Var};
 ghost use Rattle.param_tree.specs.Rules as rules;
 ghost use Rattle.param_tree.specs.Rows.{vehicle_rows};
 ghost use Rattle.sector_log.specs.Storage.{storage_bytes};
-ghost use Rattle.sector_log.specs.Reads.{OnlyReads};
+ghost use Rattle.flash_traits.specs.Calls.{OnlyReads};
 ghost use Rattle.sector_switch.specs.FirstBad.{Place, FirstBad};
 ghost use Rattle.sector_switch.specs.Stands.{Stands};
 ghost use Rattle.image_report.specs.Refusals.{OnForeign, OnFault, OnOutput, OnMemory, BeforeOutput, OnceRead};
@@ -18,7 +18,7 @@ ghost use Rattle.image_report.specs.Writes.{Writes, WritesOne, WritesFirstPart};
 use crate::ReportError;
 use crate::lines::{Line, push, push_number, push_upper, shape_name};
 use crate::output::write;
-use flash_board::{Board, Failed, Sink};
+use flash_traits::{Board, Failed, Sink};
 use itoa::Buffer;
 use param_records::{Value, value};
 use param_tree::{Kind, Table, Var, vehicle_table};

@@ -1,5 +1,5 @@
 //! Why an image isn't printed.
-use flash_board::{Fault, Region};
+use flash_traits::{Fault, Region};
 use thiserror::Error;
 
 /// Why an image isn't printed.

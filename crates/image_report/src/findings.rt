@@ -1,13 +1,13 @@
 // What is found in the words of a board, region by region.
 ghost use Rattle.std.specs.Prelude.{◌≡◌, length, IfOk, IfErr};
-ghost use Rattle.flash_board.specs.declared.board.Fault.TheVariants.{Read};
-ghost use Rattle.flash_board.specs.Words.{halfwords_in, IsSectorRegion, IsSectorSize};
-ghost use Rattle.flash_board.specs.Causes.{Rose};
+ghost use Rattle.flash_traits.specs.declared.board.Fault.TheVariants.{Read};
+ghost use Rattle.flash_traits.specs.Words.{halfwords_in, IsSectorRegion, IsSectorSize};
+ghost use Rattle.flash_traits.specs.Causes.{Rose};
 ghost use Rattle.sector_log.specs.Storage.{storage_bytes};
-ghost use Rattle.sector_log.specs.Reads.{OnlyReads};
+ghost use Rattle.flash_traits.specs.Calls.{OnlyReads};
 ghost use Rattle.image_report.specs.Reports.{IsGuardFound, IsSectorFound, IsStateFound, IsFound, void_in};
 
-use flash_board::{Board, Fault, LogError, Region};
+use flash_traits::{Board, Fault, LogError, Region};
 use guard_row::{GuardError, count, void_of};
 use sector_log::{Log, scan};
 use sector_switch::{Images, Shape, SurveyError, survey};

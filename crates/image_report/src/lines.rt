@@ -4,7 +4,7 @@ ghost use Rattle.std.specs.Char.{to_ascii_uppercase};
 ghost use Rattle.image_report.specs.Texts as texts;
 
 use arrayvec::ArrayVec;
-use flash_board::{Mark, Region};
+use flash_traits::{Mark, Region};
 use itoa::Buffer;
 use sector_switch::Shape;
 

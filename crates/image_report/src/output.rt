@@ -1,7 +1,7 @@
 // One piece of a text.
 ghost use Rattle.image_report.specs.Writes.{Writes};
 
-use flash_board::{Failed, Sink};
+use flash_traits::{Failed, Sink};
 
 /// Writes a piece.
 pub(crate) fn write<K: Sink>(out: &mut K, piece: &[u8]) -> Result<(), Failed>

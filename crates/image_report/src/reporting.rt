@@ -1,10 +1,10 @@
 // How each part of an image is, as text.
 ghost use Rattle.std.specs.Prelude.{◌≡◌, ◌≤◌, ◌+◌, ◌++◌, length, IfOk, OnOk, IfErr};
-ghost use Rattle.flash_board.specs.declared.board.Fault.TheVariants.{Read};
-ghost use Rattle.flash_board.specs.Words.{IsSectorSize};
-ghost use Rattle.flash_board.specs.Causes.{Rose};
+ghost use Rattle.flash_traits.specs.declared.board.Fault.TheVariants.{Read};
+ghost use Rattle.flash_traits.specs.Words.{IsSectorSize};
+ghost use Rattle.flash_traits.specs.Causes.{Rose};
 ghost use Rattle.sector_log.specs.Storage.{storage_bytes};
-ghost use Rattle.sector_log.specs.Reads.{OnlyReads};
+ghost use Rattle.flash_traits.specs.Calls.{OnlyReads};
 ghost use Rattle.image_report.specs.Refusals.{OnForeign, OnFault, OnOutput, OnMemory, BeforeOutput};
 ghost use Rattle.image_report.specs.Reports as reports;
 ghost use Rattle.image_report.specs.Reports.{IsReport, report_text};
@@ -15,7 +15,7 @@ use crate::findings::{Findings, GuardFound, SectorFound, findings_of};
 use crate::lines::{Line, mark_name, push, push_foreign, push_number, region_name, shape_name};
 use crate::output::write;
 use arrayvec::ArrayVec;
-use flash_board::{Board, Failed, Region, Sink};
+use flash_traits::{Board, Failed, Region, Sink};
 use sector_log::Log;
 use sector_switch::{Images, Shape};
 use std::alloc::Global;

@@ -2,8 +2,9 @@
 use Rattle.std.proofs.Common.{◌≡◌, inl, inr, ℕ, suc, ◌+◌, ◌-◌, ◌*◌, ◌/◌, ◌%◌, ◌<◌, ◌≤◌, List, [], ◌∷◌, ◌++◌, length, get_or, take, drop, refl, sym, ◌∙◌, ap, arith}
 use Rattle.std.proofs.lemmas.List.{length-take-le, length-drop, get_or-take, get_or-drop, ext_get_or, take-append-drop, drop-drop, get_or_past, length-take}
 use Rattle.std.proofs.lemmas.Bool.{cases_lt}
-use Rattle.sector_log.specs.Bytes.{bytes_of, put, halfwords_of}
-use Rattle.sector_log.proofs.ValueLemmas.{length_put, put_below, put_within, put_above}
+use Rattle.flash_traits.specs.Values.{put}
+use Rattle.flash_traits.specs.Words.{bytes_of, halfwords_of}
+use Rattle.flash_traits.proofs.ValueLemmas.{length_put, put_below, put_within, put_above}
 use Rattle.sector_switch.specs.Room.{chunk_at}
 
 pub length_chunk : (bytes : List ℕ) (c : ℕ) → 64 * c + 64 ≤ length bytes → length (chunk_at bytes c) ≡ 64

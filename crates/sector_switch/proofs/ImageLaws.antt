@@ -3,15 +3,16 @@ use Rattle.std.proofs.Common.{◌≡◌, ◌⊎◌, inl, inr, ℕ, ◌%◌, ◌�
 use Rattle.std.specs.Prelude.{All, IsTrue}
 use Rattle.std.proofs.lemmas.List.Elements.{All-append}
 use Rattle.std.proofs.lemmas.Bool.{cases_eq}
-use Rattle.flash_board.specs.Words.{Words, halfwords_in, HasShape, IsSectorSize, IsSectorRegion}
-use Rattle.flash_board.specs.declared.board.Region.{Region}
-use Rattle.flash_board.specs.declared.board.Region.TheVariants.{S0, S1, Guard}
-use Rattle.flash_board.specs.declared.board.Mark.{Mark}
-use Rattle.flash_board.specs.declared.board.Mark.TheVariants.{Available, InUse, Full}
+use Rattle.flash_traits.specs.Words.{Words, halfwords_in, HasShape, IsSectorSize, IsSectorRegion}
+use Rattle.flash_traits.specs.declared.board.Region.{Region}
+use Rattle.flash_traits.specs.declared.board.Region.TheVariants.{S0, S1, Guard}
+use Rattle.flash_traits.specs.declared.board.Mark.{Mark}
+use Rattle.flash_traits.specs.declared.board.Mark.TheVariants.{Available, InUse, Full}
 use Rattle.guard_row.specs.Row.{IsGuardRow}
 use Rattle.guard_row.specs.Row as guard
 use Rattle.sector_log.specs.Entries.{Entry, IsEntry}
-use Rattle.sector_log.specs.Sector.{mark_word, IsSector, HasHead, BadHead, BadLog}
+use Rattle.sector_log.specs.Sector.{IsSector, HasHead, BadHead, BadLog}
+use Rattle.flash_traits.specs.Marks.{mark_word}
 use Rattle.sector_log.specs.Bytes.{applied, IsValue}
 use Rattle.sector_log.specs.Storage.{storage_bytes}
 use Rattle.sector_log.proofs.ValueLemmas.{value_applied}

@@ -2,17 +2,17 @@
 use Rattle.std.proofs.Common.{◌≡◌, ◌⊎◌, inl, inr, ⊎_elim, ℕ, ◌+◌, ◌*◌, ◌/◌, ◌%◌, ◌<◌, ◌≤◌, Some, List, length, get_or, replicate, refl, sym, ◌∙◌, ap, subst, arith}
 use Rattle.std.specs.Prelude.{All}
 use Rattle.std.proofs.lemmas.List.Elements.{All-replicate}
-use Rattle.flash_board.specs.Words.{Words, halfwords_in, with_halfwords, programmed, HasShape, IsSectorSize, ProgramMayLeave, Programs, EraseMayLeave, Erases}
-use Rattle.flash_board.specs.Pairs.{ProgramsPair, PairMayLeave}
-use Rattle.flash_board.specs.declared.board.Region.{Region}
-use Rattle.flash_board.specs.declared.board.Region.TheVariants.{Guard}
-use Rattle.flash_board.specs.Losses.{Outcome}
-use Rattle.flash_board.specs.declared.board.Board.{Ghosts}
-use Rattle.flash_board.specs.Calls.{Changes}
-use Rattle.flash_board.proofs.Moments.{first_words, chained_words, row-with_row}
+use Rattle.flash_traits.specs.Words.{Words, halfwords_in, with_halfwords, programmed, HasShape, IsSectorSize, ProgramMayLeave, Programs, EraseMayLeave, Erases}
+use Rattle.flash_traits.specs.Pairs.{ProgramsPair, PairMayLeave}
+use Rattle.flash_traits.specs.declared.board.Region.{Region}
+use Rattle.flash_traits.specs.declared.board.Region.TheVariants.{Guard}
+use Rattle.flash_traits.specs.Losses.{Outcome}
+use Rattle.flash_traits.specs.declared.board.Board.{Ghosts}
+use Rattle.flash_traits.specs.Calls.{Changes}
+use Rattle.flash_traits.proofs.Moments.{first_words, chained_words, row-with_row}
 use Rattle.sector_log.specs.declared.log.Log.{Log}
 use Rattle.sector_log.specs.Storage.{storage_bytes}
-use Rattle.sector_log.specs.Bytes.{put}
+use Rattle.flash_traits.specs.Values.{put}
 use Rattle.sector_log.specs.Appends.{AppendMayLeave, Appends, appended}
 use Rattle.sector_switch.specs.declared.kept.Kept.{Kept}
 use Rattle.sector_switch.specs.declared.kept.Shape.TheVariants as shape

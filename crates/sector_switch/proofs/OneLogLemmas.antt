@@ -3,22 +3,24 @@ use Rattle.std.proofs.Common.{◌≡◌, inl, inr, ℕ, ◌+◌, ◌*◌, ◌/�
 use Rattle.std.specs.Prelude.{All, bit_and, slice_set, slice_index}
 use Rattle.std.proofs.lemmas.List.{append-nil, length-set}
 use Rattle.std.proofs.lemmas.List.Elements.{All-nil}
-use Rattle.flash_board.specs.Words.{Words, halfwords_in, with_halfwords, programmed, HasShape, IsSectorSize}
-use Rattle.flash_board.specs.Pairs.{ProgramsPair, PairMayLeave}
-use Rattle.flash_board.specs.declared.board.Region.{Region}
-use Rattle.flash_board.specs.declared.board.Region.TheVariants.{Guard}
-use Rattle.flash_board.specs.declared.board.Mark.TheVariants.{Available, InUse, Full}
-use Rattle.flash_board.proofs.Moments.{row-with_row, with_row-row, with_row-with_row}
+use Rattle.flash_traits.specs.Words.{Words, halfwords_in, with_halfwords, programmed, HasShape, IsSectorSize, halfwords_of}
+use Rattle.flash_traits.specs.Pairs.{ProgramsPair, PairMayLeave}
+use Rattle.flash_traits.specs.declared.board.Region.{Region}
+use Rattle.flash_traits.specs.declared.board.Region.TheVariants.{Guard}
+use Rattle.flash_traits.specs.declared.board.Mark.TheVariants.{Available, InUse, Full}
+use Rattle.flash_traits.proofs.Moments.{row-with_row, with_row-row, with_row-with_row}
 use Rattle.guard_row.specs.Row.{IsGuardRow}
 use Rattle.guard_row.proofs.StepLemmas.{next_count}
 use Rattle.sector_log.specs.declared.log.Log.{Log}
 use Rattle.sector_log.specs.Storage.{storage_bytes}
 use Rattle.sector_log.specs.Entries.{Entry, IsEntry}
 use Rattle.sector_log.specs.Sector.{IsSector}
-use Rattle.sector_log.specs.Bytes.{put, halfwords_of, IsValue}
+use Rattle.sector_log.specs.Bytes.{IsValue}
+use Rattle.flash_traits.specs.Values.{put}
 use Rattle.sector_log.specs.Log.{IsLogOf}
 use Rattle.sector_log.specs.Appends.{AppendMayLeave, Appends, appended, entry_of}
-use Rattle.sector_log.proofs.ValueLemmas.{value_applied, length_put}
+use Rattle.sector_log.proofs.ValueLemmas.{value_applied}
+use Rattle.flash_traits.proofs.ValueLemmas.{length_put}
 use Rattle.sector_switch.specs.declared.kept.Kept.{Kept}
 use Rattle.sector_switch.specs.declared.kept.Shape.TheVariants as shape
 use Rattle.sector_switch.specs.Images.{Bytes, both_bytes}

@@ -4,12 +4,14 @@ use Rattle.std.specs.Prelude.{All, if◌then◌else◌, ◌==◌, ◌&&◌}
 use Rattle.std.specs.Option.{option_and_then, option_or, option_map, is_some}
 use Rattle.std.proofs.lemmas.Bool.{cases_Bool, and_from, and_parts, eqb-true}
 use Rattle.std.proofs.lemmas.List.Elements.{All-append, All-push}
-use Rattle.flash_board.specs.declared.board.Region.{Region}
-use Rattle.flash_board.specs.declared.board.Mark.{Mark}
+use Rattle.flash_traits.specs.declared.board.Region.{Region}
+use Rattle.flash_traits.specs.declared.board.Mark.{Mark}
 use Rattle.sector_log.specs.declared.log.Log.{Log}
 use Rattle.sector_log.specs.declared.log.Torn.{Torn}
 use Rattle.sector_log.specs.Entries.{Entry, IsEntry, entry_words}
-use Rattle.sector_log.specs.Bytes.{bytes_of, put, apply, IsValue, value_of, halfwords_of, programmable}
+use Rattle.sector_log.specs.Bytes.{apply, IsValue, value_of, programmable}
+use Rattle.flash_traits.specs.Values.{put}
+use Rattle.flash_traits.specs.Words.{bytes_of, halfwords_of}
 use Rattle.sector_log.specs.Log.{end_of, last_of, torn_at, torn_of, IsLogOf}
 use Rattle.sector_log.specs.Appends.{entry_of, appended, finished}
 use Rattle.sector_log.proofs.ValueLemmas.{one_value}

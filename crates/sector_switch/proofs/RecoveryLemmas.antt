@@ -1,12 +1,12 @@
 -- What a survey finds, and what the recovery behind it makes of the image.
 use Rattle.std.proofs.Common.{◌≡◌, ℕ, true, [], refl, sym, subst}
 use Rattle.std.specs.Prelude.{Result, Ok, Err, IfErr}
-use Rattle.flash_board.specs.Words.{Words, Same}
-use Rattle.flash_board.specs.Losses.{Outcome}
-use Rattle.flash_board.specs.declared.board.Board.{Ghosts}
-use Rattle.flash_board.specs.Calls.{Changes}
-use Rattle.flash_board.specs.declared.board.Mark.TheVariants.{Available, InUse, Full}
-use Rattle.flash_board.proofs.Moments.{first_words, chained_words}
+use Rattle.flash_traits.specs.Words.{Words, Same}
+use Rattle.flash_traits.specs.Losses.{Outcome}
+use Rattle.flash_traits.specs.declared.board.Board.{Ghosts}
+use Rattle.flash_traits.specs.Calls.{Changes}
+use Rattle.flash_traits.specs.declared.board.Mark.TheVariants.{Available, InUse, Full}
+use Rattle.flash_traits.proofs.Moments.{first_words, chained_words}
 use Rattle.sector_switch.specs.declared.kept.Kept.{Kept}
 use Rattle.sector_switch.specs.declared.kept.Shape.{Shape}
 use Rattle.sector_switch.specs.declared.kept.Shape.TheVariants.{Alone, Marked, Spilled, Voided}

@@ -2,9 +2,9 @@
 use Rattle.std.proofs.Common.{◌≡◌, ◌≤◌, ◌⊎◌, inl, inr, ℕ, ◌+◌, ◌*◌, ◌/◌, ◌%◌, Bool, List, length, refl, sym, ◌∙◌, ap, subst, arith}
 use Rattle.std.specs.Prelude.{if◌then◌else◌, ◌==◌, ◌||◌}
 use Rattle.std.proofs.lemmas.Bool.{cases_Bool}
-use Rattle.flash_board.specs.Words.{Words, halfwords_in, with_halfwords, IsSectorRegion, IsSectorSize, region_length}
-use Rattle.flash_board.specs.declared.board.Region.{Region}
-use Rattle.flash_board.specs.declared.board.Region.TheVariants.{S0, S1, Guard}
+use Rattle.flash_traits.specs.Words.{Words, halfwords_in, with_halfwords, IsSectorRegion, IsSectorSize, region_length}
+use Rattle.flash_traits.specs.declared.board.Region.{Region}
+use Rattle.flash_traits.specs.declared.board.Region.TheVariants.{S0, S1, Guard}
 use Rattle.sector_switch.specs.Stands.{first_of, second_of}
 
 abbrev side : ℕ → Region

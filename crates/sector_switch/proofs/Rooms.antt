@@ -4,7 +4,7 @@ use Rattle.std.specs.Prelude.{◌||◌, ◌==◌, if◌then◌else◌}
 use Rattle.std.proofs.lemmas.List.{ext_get_or}
 use Rattle.std.proofs.lemmas.Slice.Eq.{bytes_eq-Decides}
 use Rattle.std.proofs.lemmas.Bool.{cases_eq, not-true, not-false, or_parts, or_cases, or_from, or_right, or_left, not_from_false, not_from_true, false_from_ne_true, ne_eqb, both_ways}
-use Rattle.sector_log.specs.Bytes.{put}
+use Rattle.flash_traits.specs.Values.{put}
 use Rattle.sector_switch.specs.Room.{chunk_at, is_covered, is_chunk, is_left, count_below, left_below}
 use Rattle.sector_switch.proofs.Counts.{count_le, count_le_one, count_less, count_none, count_of_none, count_most}
 use Rattle.sector_switch.proofs.ChunkLemmas.{put_both, put_chunk_here, put_chunk_other, length_chunk, chunk_byte}

@@ -1,13 +1,13 @@
 -- The calls of a spilled state on a board that tells its words or doesn't.
 use Rattle.std.proofs.Common.{◌≡◌, inr, ℕ, ◌+◌, ◌*◌, ◌/◌, ◌<◌, ◌≤◌, true, false, Some, None, List, length, get_or, sym, ◌∙◌, ap, subst, arith}
 use Rattle.std.specs.Prelude.{Result, Ok, Err, IsErr}
-use Rattle.flash_board.specs.Words.{Words, HasShape, IsSectorSize}
-use Rattle.flash_board.specs.Losses.{Outcome, ByResult}
-use Rattle.flash_board.specs.declared.board.Board.{Ghosts}
-use Rattle.flash_board.specs.Calls.{Changes}
-use Rattle.flash_board.proofs.Moments.{first_words, started_words, chained_words}
+use Rattle.flash_traits.specs.Words.{Words, HasShape, IsSectorSize}
+use Rattle.flash_traits.specs.Losses.{Outcome, ByResult}
+use Rattle.flash_traits.specs.declared.board.Board.{Ghosts}
+use Rattle.flash_traits.specs.Calls.{Changes}
+use Rattle.flash_traits.proofs.Moments.{first_words, started_words, chained_words}
 use Rattle.sector_log.specs.declared.log.Log.{Log}
-use Rattle.sector_log.specs.Bytes.{put}
+use Rattle.flash_traits.specs.Values.{put}
 use Rattle.sector_log.specs.Appends.{AppendMayLeave, Appends, appended, FinishMayLeave, Finishes, finished}
 use Rattle.sector_switch.specs.declared.kept.Kept.{Kept}
 use Rattle.sector_switch.specs.Images.{Bytes, both_bytes}

@@ -4,18 +4,19 @@ use Rattle.std.specs.Prelude.{All}
 use Rattle.std.specs.Option.{option_and_then, is_some}
 use Rattle.std.proofs.lemmas.Bool.{cases_Bool}
 use Rattle.std.proofs.lemmas.List.Elements.{All-append, All-push}
-use Rattle.flash_board.specs.Words.{Words, halfwords_in, with_halfwords, HasShape}
-use Rattle.flash_board.specs.declared.board.Region.{Region}
-use Rattle.flash_board.specs.declared.board.Mark.TheVariants.{InUse, Full}
-use Rattle.flash_board.proofs.Moments.{row-with_row}
+use Rattle.flash_traits.specs.Words.{Words, halfwords_in, with_halfwords, HasShape, bytes_of, halfwords_of}
+use Rattle.flash_traits.specs.declared.board.Region.{Region}
+use Rattle.flash_traits.specs.declared.board.Mark.TheVariants.{InUse, Full}
+use Rattle.flash_traits.proofs.Moments.{row-with_row}
 use Rattle.guard_row.specs.Row.{IsGuardRow}
 use Rattle.sector_log.specs.declared.log.Log.{Log}
 use Rattle.sector_log.specs.Entries.{Entry, IsEntry}
 use Rattle.sector_log.specs.Sector.{IsSector}
-use Rattle.sector_log.specs.Bytes.{bytes_of, put, IsValue, halfwords_of, programmable}
+use Rattle.sector_log.specs.Bytes.{IsValue, programmable}
+use Rattle.flash_traits.specs.Values.{put}
 use Rattle.sector_log.specs.Log.{end_of, last_of, IsLogOf}
 use Rattle.sector_log.specs.Appends.{entry_of, IsOneOfThree, IsTornLast, AppendMayLeave, Appends, appended, FinishMayLeave, Finishes, finished, IsLogIn}
-use Rattle.sector_log.proofs.ValueLemmas.{length_put}
+use Rattle.flash_traits.proofs.ValueLemmas.{length_put}
 use Rattle.sector_switch.specs.declared.kept.Kept.{Kept}
 use Rattle.sector_switch.specs.Images.{Bytes, both_bytes}
 use Rattle.sector_switch.specs.Room.{chunk_at, is_left, left_to_copy, finishing, chunk_to_finish}

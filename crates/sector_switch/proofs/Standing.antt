@@ -3,14 +3,16 @@ use Rattle.std.proofs.Common.{◌≡◌, ◌≢◌, ◌⊎◌, ℕ, ◌+◌, ◌
 use Rattle.std.specs.Prelude.{All, bit_and, slice_set, slice_index, nat_le}
 use Rattle.std.proofs.lemmas.Bool.{le-leb}
 use Rattle.std.proofs.lemmas.List.Elements.{All-head, All-tail, All-nil}
-use Rattle.flash_board.specs.Words.{Words, halfwords_in}
-use Rattle.flash_board.specs.declared.board.Mark.{Mark}
-use Rattle.flash_board.specs.declared.board.Mark.TheVariants.{Available, InUse, Full}
+use Rattle.flash_traits.specs.Words.{Words, halfwords_in}
+use Rattle.flash_traits.specs.declared.board.Mark.{Mark}
+use Rattle.flash_traits.specs.declared.board.Mark.TheVariants.{Available, InUse, Full}
 use Rattle.guard_row.specs.Row.{IsGuardRow}
 use Rattle.guard_row.proofs.StepLemmas.{next_count}
 use Rattle.sector_log.specs.Entries.{Entry, IsEntry, spelling}
-use Rattle.sector_log.specs.Sector.{IsSector, mark_word}
-use Rattle.sector_log.specs.Bytes.{IsValue, value_of, put}
+use Rattle.sector_log.specs.Sector.{IsSector}
+use Rattle.flash_traits.specs.Marks.{mark_word}
+use Rattle.sector_log.specs.Bytes.{IsValue, value_of}
+use Rattle.flash_traits.specs.Values.{put}
 use Rattle.sector_log.specs.Log.{end_of}
 use Rattle.sector_switch.specs.Room.{left_to_copy, finishing, has_room}
 use Rattle.sector_switch.specs.Stands.{first_of, second_of, IsBoth, Stands}

@@ -6,16 +6,17 @@ use Rattle.std.specs.Option.{option_and_then, is_some}
 use Rattle.std.proofs.lemmas.Bool.{cases_Bool, eqb-true, ne_eqb, lt-leb}
 use Rattle.std.proofs.lemmas.List.Sums.{fold-append}
 use Rattle.std.proofs.lemmas.List.Elements.{All-append}
-use Rattle.flash_board.specs.Words.{Words, halfwords_in, IsSectorSize}
-use Rattle.flash_board.specs.declared.board.Region.{Region}
-use Rattle.flash_board.specs.declared.board.Mark.{Mark}
-use Rattle.flash_board.specs.declared.board.Mark.TheVariants.{Available, InUse, Full}
+use Rattle.flash_traits.specs.Words.{Words, halfwords_in, IsSectorSize, halfwords_of}
+use Rattle.flash_traits.specs.declared.board.Region.{Region}
+use Rattle.flash_traits.specs.declared.board.Mark.{Mark}
+use Rattle.flash_traits.specs.declared.board.Mark.TheVariants.{Available, InUse, Full}
 use Rattle.sector_log.specs.declared.log.Log.{Log}
 use Rattle.sector_log.specs.declared.log.Torn.{Torn}
 use Rattle.sector_log.specs.Storage.{storage_bytes}
 use Rattle.sector_log.specs.Entries.{Entry, IsEntry, entry_words}
-use Rattle.sector_log.specs.Sector.{mark_word, IsSector, HasHead, BadHead, BadLog}
-use Rattle.sector_log.specs.Bytes.{apply, applied, IsValue, halfwords_of, programmable}
+use Rattle.sector_log.specs.Sector.{IsSector, HasHead, BadHead, BadLog}
+use Rattle.flash_traits.specs.Marks.{mark_word}
+use Rattle.sector_log.specs.Bytes.{apply, applied, IsValue, programmable}
 use Rattle.sector_log.specs.Log.{end_of, last_of, torn_at, torn_of, IsLogOf}
 use Rattle.sector_log.specs.Appends.{entry_of, IsTornLast, IsLogIn}
 use Rattle.sector_log.proofs.ValueLemmas.{value_applied, one_value}

@@ -6,7 +6,9 @@ use Rattle.std.proofs.lemmas.List.Elements.{All-replicate}
 use Rattle.std.proofs.lemmas.List.Sums.{fold_push}
 use Rattle.std.proofs.lemmas.List.FromFn.{length-map-range_with_len, get_or-map-range_with_len}
 use Rattle.sector_log.specs.Entries.{Entry, IsEntry}
-use Rattle.sector_log.specs.Bytes.{bytes_of, put, apply, applied, byte_of, IsValue, value_up_to, value_of}
+use Rattle.sector_log.specs.Bytes.{apply, applied, byte_of, IsValue, value_up_to, value_of}
+use Rattle.flash_traits.specs.Values.{put}
+use Rattle.flash_traits.specs.Words.{bytes_of}
 use Rattle.sector_log.proofs.ValueLemmas.{value_applied, one_value}
 
 length_value : (n : ℕ) (es : List Entry) → length (value_up_to n es) ≡ n

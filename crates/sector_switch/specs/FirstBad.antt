@@ -1,13 +1,14 @@
 -- The first foreign word of words that are no image.
 use Rattle.std.specs.Prelude.{◌≡◌, ◌⊎◌, ℕ, ◌%◌, List, length, IsFalse, IsTrue}
-use Rattle.flash_board.specs.Words.{Words, halfwords_in}
-use Rattle.flash_board.specs.declared.board.Region.{Region}
-use Rattle.flash_board.specs.declared.board.Region.TheVariants.{Guard}
-use Rattle.flash_board.specs.declared.board.Mark.{Mark}
-use Rattle.flash_board.specs.declared.board.Mark.TheVariants.{InUse}
+use Rattle.flash_traits.specs.Words.{Words, halfwords_in}
+use Rattle.flash_traits.specs.declared.board.Region.{Region}
+use Rattle.flash_traits.specs.declared.board.Region.TheVariants.{Guard}
+use Rattle.flash_traits.specs.declared.board.Mark.{Mark}
+use Rattle.flash_traits.specs.declared.board.Mark.TheVariants.{InUse}
 use Rattle.guard_row.specs.Row as guard_row
 use Rattle.sector_log.specs.Entries.{Entry}
-use Rattle.sector_log.specs.Sector.{mark_word, IsSector, HasHead, BadHead, BadLog}
+use Rattle.sector_log.specs.Sector.{IsSector, HasHead, BadHead, BadLog}
+use Rattle.flash_traits.specs.Marks.{mark_word}
 use Rattle.sector_switch.specs.Stands.{first_of, second_of, home_mark, beside, only_in_use, room_kept}
 
 -- a halfword of the image, with where it stands

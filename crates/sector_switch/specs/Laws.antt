@@ -1,6 +1,6 @@
 -- The law of images.
 use Rattle.std.specs.Prelude.{◌≡◌, ◌⊎◌, ℕ, List}
-use Rattle.flash_board.specs.Words.{Words, HasShape, IsSectorSize}
+use Rattle.flash_traits.specs.Words.{Words, HasShape, IsSectorSize}
 use Rattle.sector_switch.specs.Stands.{Reading, Reads, Stands}
 use Rattle.sector_switch.specs.FirstBad.{Place, FirstBad}
 

@@ -1,8 +1,8 @@
 -- What calls do to the bytes of an image, and what a loss inside them leaves.
 use Rattle.std.specs.Prelude.{◌≡◌, ◌⊎◌, ℕ, ◌+◌, ◌*◌, ◌≤◌, List}
-use Rattle.flash_board.specs.Words.{Words}
+use Rattle.flash_traits.specs.Words.{Words}
 use Rattle.guard_row.specs.Row.{IsGuardRow}
-use Rattle.sector_log.specs.Bytes.{put}
+use Rattle.flash_traits.specs.Values.{put}
 use Rattle.sector_switch.specs.Stands.{Stands}
 
 -- the guard count rises by at most so much, and never falls

@@ -1,6 +1,6 @@
 -- What the answers of the calls say.
 use Rattle.std.specs.Prelude.{ℕ, Bool, true, false}
-use Rattle.flash_board.specs.declared.board.Fault.{Fault}
+use Rattle.flash_traits.specs.declared.board.Fault.{Fault}
 use Rattle.sector_switch.specs.FirstBad.{Place, place_of}
 use Rattle.sector_switch.specs.declared.kept.Kept.{Kept}
 use Rattle.sector_switch.specs.declared.spilled_state.CopyStep.{CopyStep}

@@ -3,7 +3,8 @@ use Rattle.std.specs.Prelude.{ℕ, zero, suc, ◌+◌, ◌*◌, ◌/◌, ◌%◌
 use Rattle.std.specs.Str.{bytes_eq}
 use Rattle.std.specs.Option.{option_and_then}
 use Rattle.sector_log.specs.Entries.{Entry}
-use Rattle.sector_log.specs.Bytes.{value_of, halfwords_of, programmable}
+use Rattle.sector_log.specs.Bytes.{value_of, programmable}
+use Rattle.flash_traits.specs.Words.{halfwords_of}
 use Rattle.sector_log.specs.Log.{end_of, last_of}
 
 -- the chunks of the storage

@@ -1,7 +1,7 @@
 -- What a survey knows of words that are told, as far as it has come.
 use Rattle.std.specs.Prelude.{◌≡◌, ℕ, ◌%◌, List, IsTrue}
-use Rattle.flash_board.specs.Words.{Words, halfwords_in}
-use Rattle.flash_board.specs.declared.board.Mark.{Mark}
+use Rattle.flash_traits.specs.Words.{Words, halfwords_in}
+use Rattle.flash_traits.specs.declared.board.Mark.{Mark}
 use Rattle.guard_row.specs.Row.{IsGuardRow}
 use Rattle.sector_log.specs.declared.log.Log.{Log}
 use Rattle.sector_log.specs.Entries.{Entry}

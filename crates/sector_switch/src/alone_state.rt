@@ -1,18 +1,19 @@
 // The image in one sector alone.
 ghost use Rattle.std.specs.Prelude.{◌≡◌, ◌+◌, ◌*◌, ◌/◌, ◌<◌, ◌≤◌, ◌↔◌, ℕ, List, length, IsTrue, IfOk, OnOk, OnErr, IfErr};
-ghost use Rattle.flash_board.specs.declared.board.Fault.TheVariants.{Flash};
-ghost use Rattle.flash_board.specs.Losses.{ByResult};
-ghost use Rattle.flash_board.specs.Calls.{Changes, ErasesNothing};
-ghost use Rattle.flash_board.specs.Causes.{HasCause};
-ghost use Rattle.sector_log.specs.Bytes.{put};
-ghost use Rattle.sector_log.specs.Appends.{AreLines, appended, raised_by};
+ghost use Rattle.flash_traits.specs.declared.board.Fault.TheVariants.{Flash};
+ghost use Rattle.flash_traits.specs.Losses.{ByResult};
+ghost use Rattle.flash_traits.specs.Calls.{Changes, ErasesNothing};
+ghost use Rattle.flash_traits.specs.Causes.{HasCause};
+ghost use Rattle.flash_traits.specs.Values.{put};
+ghost use Rattle.sector_log.specs.Appends.{AreLines, appended};
+ghost use Rattle.flash_traits.specs.Counts.{raised_by};
 ghost use Rattle.sector_switch.specs.Images.{Bytes, both_bytes};
 ghost use Rattle.sector_switch.specs.Losses.{KeepsBytes, Puts, MayPut};
 ghost use Rattle.sector_switch.specs.Fits.{FitsAlone, FitsMarked, free_of, with_home, marked_from};
 
 use crate::flash::program;
 use crate::{Images, Kept, Marked};
-use flash_board::{Board, Fault, Mark};
+use flash_traits::{Board, Fault, Mark};
 use sector_log::{Log, append};
 use std::marker::Model;
 

@@ -1,7 +1,7 @@
 // Chunks of 64 bytes: which are covered, and how many are left to copy.
 ghost use Rattle.std.specs.Prelude.{◌≡◌, ◌*◌, ◌<◌, ◌≤◌, ◌+◌, ℕ, true, length, IfSome, IfNone, None};
 ghost use Rattle.sector_log.specs.Storage.{storage_bytes};
-ghost use Rattle.sector_log.specs.Bytes.{put};
+ghost use Rattle.flash_traits.specs.Values.{put};
 ghost use Rattle.sector_switch.specs.Room as room;
 ghost use Rattle.sector_switch.specs.Room.{chunks, chunk_at, left_to_copy};
 ghost use Rattle.sector_switch.specs.Fits as fits;

@@ -1,17 +1,17 @@
 // The image in both sectors, with the other one whole.
 ghost use Rattle.std.specs.Prelude.{◌≡◌, ◌+◌, ◌<◌, ◌≤◌, IfOk, IfErr, IfSome};
-ghost use Rattle.flash_board.specs.declared.board.Fault.{Fault};
-ghost use Rattle.flash_board.specs.declared.board.Fault.TheVariants.{Flash};
-ghost use Rattle.flash_board.specs.Calls.{Changes, ErasesNothing};
-ghost use Rattle.flash_board.specs.Causes.{HasCause, Rose};
-ghost use Rattle.sector_log.specs.Appends.{raised_by};
+ghost use Rattle.flash_traits.specs.declared.board.Fault.{Fault};
+ghost use Rattle.flash_traits.specs.declared.board.Fault.TheVariants.{Flash};
+ghost use Rattle.flash_traits.specs.Calls.{Changes, ErasesNothing};
+ghost use Rattle.flash_traits.specs.Causes.{HasCause, Rose};
+ghost use Rattle.flash_traits.specs.Counts.{raised_by};
 ghost use Rattle.sector_switch.specs.Images.{Bytes};
 ghost use Rattle.sector_switch.specs.Losses.{KeepsBytes};
 ghost use Rattle.sector_switch.specs.Fits.{FitsCopied, FitsVoided, voided_from};
 ghost use Rattle.sector_switch.specs.Refusals.{OnVoidWorn, OnVoidFault};
 
 use crate::{Kept, Voided};
-use flash_board::{Board, Fault};
+use flash_traits::{Board, Fault};
 use guard_row::step;
 use std::marker::Model;
 

@@ -1,15 +1,15 @@
 // The image in one sector, with the other one erased.
 ghost use Rattle.std.specs.Prelude.{◌≡◌, IfOk, IfErr};
-ghost use Rattle.flash_board.specs.declared.board.Fault.TheVariants.{Flash};
-ghost use Rattle.flash_board.specs.Calls.{Changes, ErasesNothing};
-ghost use Rattle.flash_board.specs.Causes.{HasCause};
+ghost use Rattle.flash_traits.specs.declared.board.Fault.TheVariants.{Flash};
+ghost use Rattle.flash_traits.specs.Calls.{Changes, ErasesNothing};
+ghost use Rattle.flash_traits.specs.Causes.{HasCause};
 ghost use Rattle.sector_switch.specs.Images.{Bytes};
 ghost use Rattle.sector_switch.specs.Losses.{KeepsBytes};
 ghost use Rattle.sector_switch.specs.Fits.{FitsErased, FitsAlone, alone_from};
 
 use crate::flash::second_sector;
 use crate::{Alone, Kept};
-use flash_board::{Board, Fault, program_pair};
+use flash_traits::{Board, Fault, program_pair};
 use guard_row::step;
 use std::marker::Model;
 

@@ -1,14 +1,14 @@
 // Sectors by the guard count, and single programs.
 ghost use Rattle.std.specs.Prelude.{◌≡◌, ◌<◌, IfErr};
-ghost use Rattle.flash_board.specs.declared.board.Fault.TheVariants.{Flash};
-ghost use Rattle.flash_board.specs.Words.{IsSectorSize, ProgramMayLeave, Programs, region_length};
-ghost use Rattle.flash_board.specs.Losses.{ByResult};
-ghost use Rattle.flash_board.specs.Calls.{Changes, ErasesNothing};
-ghost use Rattle.flash_board.specs.Causes.{HasCause};
-ghost use Rattle.sector_log.specs.Appends.{raised_by};
+ghost use Rattle.flash_traits.specs.declared.board.Fault.TheVariants.{Flash};
+ghost use Rattle.flash_traits.specs.Words.{IsSectorSize, ProgramMayLeave, Programs, region_length};
+ghost use Rattle.flash_traits.specs.Losses.{ByResult};
+ghost use Rattle.flash_traits.specs.Calls.{Changes, ErasesNothing};
+ghost use Rattle.flash_traits.specs.Causes.{HasCause};
+ghost use Rattle.flash_traits.specs.Counts.{raised_by};
 ghost use Rattle.sector_switch.specs.Stands.{first_of, second_of};
 
-use flash_board::{Board, Fault, Region};
+use flash_traits::{Board, Fault, Region};
 
 /// The home sector where the guard count is even, and the sector that isn't void where it is odd.
 pub(crate) fn first_sector(guard: u16) -> Region

@@ -1,17 +1,18 @@
 // The heads of the two sectors.
 ghost use Rattle.std.specs.Prelude.{◌≡◌, ◌≢◌, ◌<◌, IsTrue, IfOk, OnOk, IfErr, IfSome, IfNone, slice_index};
-ghost use Rattle.flash_board.specs.declared.board.Fault.TheVariants.{Read};
-ghost use Rattle.flash_board.specs.declared.board.Mark.{Mark};
-ghost use Rattle.flash_board.specs.Words.{halfwords_in, region_length, IsSectorRegion, IsSectorSize};
-ghost use Rattle.flash_board.specs.Causes.{Rose};
-ghost use Rattle.sector_log.specs.Sector.{mark_word, HasHead, BadHead};
-ghost use Rattle.sector_log.specs.Reads.{OnlyReads};
+ghost use Rattle.flash_traits.specs.declared.board.Fault.TheVariants.{Read};
+ghost use Rattle.flash_traits.specs.declared.board.Mark.{Mark};
+ghost use Rattle.flash_traits.specs.Words.{halfwords_in, region_length, IsSectorRegion, IsSectorSize};
+ghost use Rattle.flash_traits.specs.Causes.{Rose};
+ghost use Rattle.sector_log.specs.Sector.{HasHead, BadHead};
+ghost use Rattle.flash_traits.specs.Marks.{mark_word};
+ghost use Rattle.flash_traits.specs.Calls.{OnlyReads};
 ghost use Rattle.sector_switch.specs.FirstBad.{Place, At};
 ghost use Rattle.sector_switch.specs.Heads.{allowed};
 ghost use Rattle.sector_switch.specs.Refusals.{OnForeign, OnSurveyFault};
 
 use crate::SurveyError;
-use flash_board::{Board, Fault, Mark, Region};
+use flash_traits::{Board, Fault, Mark, Region};
 
 /// Which marks may stand at the head of a sector.
 #[derive(Clone, Copy, Debug, PartialEq, Eq)]

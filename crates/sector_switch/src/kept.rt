@@ -1,6 +1,6 @@
 // What a state of the image keeps.
 
-use flash_board::{Fault, Region};
+use flash_traits::{Fault, Region};
 use sector_log::Log;
 
 /// The four states in which an image may be found.

@@ -1,24 +1,24 @@
 // The logs behind the heads, and the bytes of their entries.
 ghost use Rattle.std.specs.Prelude.{◌≡◌, ◌/◌, ◌%◌, ◌*◌, List, ℕ, true, length, IfOk, OnOk, IfErr, IsSome, IfSome};
 ghost use Rattle.std.specs.Option.{is_some};
-ghost use Rattle.flash_board.specs.declared.board.Fault.TheVariants.{Read};
-ghost use Rattle.flash_board.specs.declared.board.Mark.{Mark};
-ghost use Rattle.flash_board.specs.Words.{halfwords_in, IsSectorRegion, IsSectorSize};
-ghost use Rattle.flash_board.specs.Causes.{Rose};
+ghost use Rattle.flash_traits.specs.declared.board.Fault.TheVariants.{Read};
+ghost use Rattle.flash_traits.specs.declared.board.Mark.{Mark};
+ghost use Rattle.flash_traits.specs.Words.{halfwords_in, IsSectorRegion, IsSectorSize};
+ghost use Rattle.flash_traits.specs.Causes.{Rose};
 ghost use Rattle.sector_log.specs.Storage.{storage_bytes};
 ghost use Rattle.sector_log.specs.Entries.{Entry};
 ghost use Rattle.sector_log.specs.Sector.{IsSector, HasHead, BadLog};
 ghost use Rattle.sector_log.specs.Bytes.{IsValue, applied};
 ghost use Rattle.sector_log.specs.Log.{IsLogOf};
 ghost use Rattle.sector_log.specs.Appends.{IsLogIn};
-ghost use Rattle.sector_log.specs.Reads.{OnlyReads};
+ghost use Rattle.flash_traits.specs.Calls.{OnlyReads};
 ghost use Rattle.sector_switch.specs.Room.{finishing};
 ghost use Rattle.sector_switch.specs.FirstBad.{Place, At};
 ghost use Rattle.sector_switch.specs.Refusals.{OnForeign, OnSurveyFault};
 
 use crate::SurveyError;
 use crate::marked_state::clear;
-use flash_board::{Board, LogError, Mark, Region};
+use flash_traits::{Board, LogError, Mark, Region};
 use sector_log::{Log, scan, torn_fits};
 
 /// The log behind a head with this mark, whose valid entries are put at their lines in order.

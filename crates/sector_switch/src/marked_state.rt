@@ -1,9 +1,9 @@
 // The image with home full, and the other sector available.
 ghost use Rattle.std.specs.Prelude.{◌≡◌, ◌≤◌, All, IfOk, IfErr};
-ghost use Rattle.flash_board.specs.declared.board.Fault.TheVariants.{Flash};
-ghost use Rattle.flash_board.specs.Calls.{Changes, ErasesNothing};
-ghost use Rattle.flash_board.specs.Causes.{HasCause};
-ghost use Rattle.sector_log.specs.Appends.{raised_by};
+ghost use Rattle.flash_traits.specs.declared.board.Fault.TheVariants.{Flash};
+ghost use Rattle.flash_traits.specs.Calls.{Changes, ErasesNothing};
+ghost use Rattle.flash_traits.specs.Causes.{HasCause};
+ghost use Rattle.flash_traits.specs.Counts.{raised_by};
 ghost use Rattle.sector_switch.specs.Images.{Bytes, both_bytes};
 ghost use Rattle.sector_switch.specs.Room.{chunks};
 ghost use Rattle.sector_switch.specs.Losses.{KeepsBytes};
@@ -11,7 +11,7 @@ ghost use Rattle.sector_switch.specs.Fits.{FitsMarked, FitsSpilled, left_chunks,
 
 use crate::flash::{program, second_sector};
 use crate::{Images, Kept, Spilled};
-use flash_board::{Board, Fault, Mark};
+use flash_traits::{Board, Fault, Mark};
 use sector_log::Log;
 use std::marker::Model;
 

@@ -1,10 +1,10 @@
 // The way back to one sector alone.
 ghost use Rattle.std.specs.Prelude.{◌≡◌, ◌⊎◌, ◌≤◌, ◌+◌, IsTrue, IfOk, OnOk, IfErr};
-ghost use Rattle.flash_board.specs.declared.board.Fault.{Fault};
-ghost use Rattle.flash_board.specs.declared.board.Fault.TheVariants.{Read, Flash};
-ghost use Rattle.flash_board.specs.Words.{IsSectorSize};
-ghost use Rattle.flash_board.specs.Calls.{Changes};
-ghost use Rattle.flash_board.specs.Causes.{HasCause, Rose};
+ghost use Rattle.flash_traits.specs.declared.board.Fault.{Fault};
+ghost use Rattle.flash_traits.specs.declared.board.Fault.TheVariants.{Read, Flash};
+ghost use Rattle.flash_traits.specs.Words.{IsSectorSize};
+ghost use Rattle.flash_traits.specs.Calls.{Changes};
+ghost use Rattle.flash_traits.specs.Causes.{HasCause, Rose};
 ghost use Rattle.sector_switch.specs.declared.kept.Kept.{Kept};
 ghost use Rattle.sector_switch.specs.Images.{Bytes};
 ghost use Rattle.sector_switch.specs.Stands.{Reading, Reads, Stands, count_in, count_after, is_alone, is_due};
@@ -14,7 +14,7 @@ ghost use Rattle.sector_switch.specs.Fits.{FitsAlone, FitsMarked, FitsSpilled, F
 ghost use Rattle.sector_switch.specs.Refusals.{OnRecoverForeign, OnRecoverFault, OnWorn};
 
 use crate::{Alone, Images, Kept, Marked, Shape, Spilled, SurveyError, VoidError, Voided, survey};
-use flash_board::{Board, Fault, Region};
+use flash_traits::{Board, Fault, Region};
 
 /// Why an image can't be recovered.
 #[derive(Clone, Copy, Debug, PartialEq, Eq)]

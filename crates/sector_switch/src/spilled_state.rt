@@ -1,12 +1,13 @@
 // The image in both sectors, and the copy that makes the other sector whole.
 ghost use Rattle.std.specs.Prelude.{◌≡◌, ◌+◌, ◌-◌, ◌*◌, ◌/◌, ◌<◌, ◌≤◌, ◌↔◌, ℕ, List, true, false, length, IsTrue, IfOk, OnOk, OnErr, IfErr, IfSome, Some, None};
-ghost use Rattle.flash_board.specs.declared.board.Fault.TheVariants.{Flash};
-ghost use Rattle.flash_board.specs.Losses.{ByResult};
-ghost use Rattle.flash_board.specs.Calls.{Changes, ErasesNothing};
-ghost use Rattle.flash_board.specs.Causes.{HasCause};
+ghost use Rattle.flash_traits.specs.declared.board.Fault.TheVariants.{Flash};
+ghost use Rattle.flash_traits.specs.Losses.{ByResult};
+ghost use Rattle.flash_traits.specs.Calls.{Changes, ErasesNothing};
+ghost use Rattle.flash_traits.specs.Causes.{HasCause};
 ghost use Rattle.sector_log.specs.Storage.{storage_bytes};
-ghost use Rattle.sector_log.specs.Bytes.{put};
-ghost use Rattle.sector_log.specs.Appends.{AreLines, appended, raised_by};
+ghost use Rattle.flash_traits.specs.Values.{put};
+ghost use Rattle.sector_log.specs.Appends.{AreLines, appended};
+ghost use Rattle.flash_traits.specs.Counts.{raised_by};
 ghost use Rattle.sector_switch.specs.Images.{Bytes, both_bytes};
 ghost use Rattle.sector_switch.specs.Room.{chunks, is_left, left_to_copy};
 ghost use Rattle.sector_switch.specs.Losses.{KeepsBytes, Puts, MayPut};
@@ -16,7 +17,7 @@ ghost use Rattle.sector_switch.specs.Refusals.{kept_in, is_whole};
 use crate::alone_state::put_lines;
 use crate::chunks::{copy_bytes, count_left, first_left, torn_chunk};
 use crate::{Copied, Images, Kept};
-use flash_board::{Board, Fault};
+use flash_traits::{Board, Fault};
 use sector_log::{append, finish_torn};
 use std::marker::Model;
 

@@ -1,13 +1,13 @@
 // Which image the words of a board are.
 ghost use Rattle.std.specs.Prelude.{◌≡◌, ◌%◌, ◌/◌, ◌≤◌, IsTrue, length, IfOk, OnOk, IfErr};
-ghost use Rattle.flash_board.specs.declared.board.Fault.TheVariants.{Read};
-ghost use Rattle.flash_board.specs.declared.board.Mark.TheVariants.{Available, InUse, Full};
-ghost use Rattle.flash_board.specs.Words.{IsSectorSize};
-ghost use Rattle.flash_board.specs.Causes.{Rose};
+ghost use Rattle.flash_traits.specs.declared.board.Fault.TheVariants.{Read};
+ghost use Rattle.flash_traits.specs.declared.board.Mark.TheVariants.{Available, InUse, Full};
+ghost use Rattle.flash_traits.specs.Words.{IsSectorSize};
+ghost use Rattle.flash_traits.specs.Causes.{Rose};
 ghost use Rattle.guard_row.specs.Row.{IsGuardRow};
 ghost use Rattle.sector_log.specs.Storage.{storage_bytes};
 ghost use Rattle.sector_log.specs.Appends.{IsLogIn};
-ghost use Rattle.sector_log.specs.Reads.{OnlyReads};
+ghost use Rattle.flash_traits.specs.Calls.{OnlyReads};
 ghost use Rattle.sector_switch.specs.Images.{both_bytes};
 ghost use Rattle.sector_switch.specs.Stands.{first_of, second_of, home_mark, beside, Stands};
 ghost use Rattle.sector_switch.specs.FirstBad.{Place, FirstBad};
@@ -20,7 +20,7 @@ use crate::flash::{first_sector, second_sector};
 use crate::heads::{Expected, head_at};
 use crate::logs::{bytes_at, is_completable, log_at};
 use crate::{Images, Kept, Shape, Survey, SurveyError};
-use flash_board::{Board, Mark, Region};
+use flash_traits::{Board, Mark, Region};
 use guard_row::{GuardError, count};
 use sector_log::Log;
 

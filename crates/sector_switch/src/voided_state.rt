@@ -1,16 +1,16 @@
 // The image in one sector, with the other one void.
 ghost use Rattle.std.specs.Prelude.{◌≡◌, IfOk, IfErr};
-ghost use Rattle.flash_board.specs.declared.board.Fault.TheVariants.{Flash};
-ghost use Rattle.flash_board.specs.Losses.{after_erase};
-ghost use Rattle.flash_board.specs.Calls.{Changes};
-ghost use Rattle.flash_board.specs.Causes.{HasCause};
+ghost use Rattle.flash_traits.specs.declared.board.Fault.TheVariants.{Flash};
+ghost use Rattle.flash_traits.specs.Losses.{after_erase};
+ghost use Rattle.flash_traits.specs.Calls.{Changes};
+ghost use Rattle.flash_traits.specs.Causes.{HasCause};
 ghost use Rattle.sector_switch.specs.Images.{Bytes};
 ghost use Rattle.sector_switch.specs.Losses.{KeepsBytes};
 ghost use Rattle.sector_switch.specs.Fits.{FitsVoided, FitsErased};
 
 use crate::flash::second_sector;
 use crate::{Erased, Kept};
-use flash_board::{Board, Fault};
+use flash_traits::{Board, Fault};
 use std::marker::Model;
 
 /// One sector is in use and has all bytes, and the words of the other mean nothing.

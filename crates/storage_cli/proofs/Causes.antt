@@ -1,9 +1,9 @@
 -- Why a serve stops, by the error of its node's opening.
 use Rattle.std.proofs.Common.{◌≡◌, ◌⊎◌, inl, inr, ℕ, List, Result, Err}
-use Rattle.flash_board.specs.declared.board.Fault.{Fault}
-use Rattle.flash_board.specs.declared.board.Fault.TheVariants as fault
-use Rattle.flash_board.specs.Causes.{Rose}
-use Rattle.flash_board.specs.Words.{Words}
+use Rattle.flash_traits.specs.declared.board.Fault.{Fault}
+use Rattle.flash_traits.specs.declared.board.Fault.TheVariants as fault
+use Rattle.flash_traits.specs.Causes.{Rose}
+use Rattle.flash_traits.specs.Words.{Words}
 use Rattle.sector_switch.specs.FirstBad.{Place, FirstBad, place_of}
 use Rattle.sector_switch.specs.Stands.{Stands}
 use Rattle.sector_switch.proofs.ImageLaws as image

@@ -1,8 +1,8 @@
 -- What a serve has done, by its ending.
 use Rattle.std.proofs.Common.{◌≡◌, ◌≢◌, ◌⊎◌, inl, inr, ℕ, List, length, refl, subst, arith, Ok, Err}
 use Rattle.std.specs.Prelude.{⊤}
-use Rattle.flash_board.specs.declared.board.Board.{Ghosts}
-use Rattle.flash_board.specs.Words.{Words}
+use Rattle.flash_traits.specs.declared.board.Board.{Ghosts}
+use Rattle.flash_traits.specs.Words.{Words}
 use Rattle.vehicle_node.specs.Standing.{counts}
 use Rattle.storage_cli.specs.declared.endings.Served.{Served}
 use Rattle.storage_cli.specs.declared.endings.Stop.{Stop}

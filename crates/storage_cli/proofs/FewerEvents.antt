@@ -1,8 +1,8 @@
 -- What is safe is safe with one event fewer finished: fewer events of a run have fewer answers and a lower floor.
 use Rattle.std.proofs.Common.{◌≡◌, ◌⊎◌, inl, inr, ℕ, zero, suc, ◌+◌, ◌-◌, ◌≤◌, List, [], ◌∷◌, length, take, refl, ap, subst, arith, length-append}
 use Rattle.std.proofs.lemmas.List.{take_all}
-use Rattle.flash_board.specs.Words.{Words}
-use Rattle.flash_board.specs.Losses.{Received, SentFrame}
+use Rattle.flash_traits.specs.Words.{Words}
+use Rattle.flash_traits.specs.Losses.{Received, SentFrame}
 use Rattle.sector_switch.specs.Stands.{Stands}
 use Rattle.vehicle_core.specs.Acts.{Act}
 use Rattle.vehicle_node.specs.Frames.{numbered}

@@ -1,7 +1,7 @@
 -- What a status says, by the ending that it comes from.
 use Rattle.std.proofs.Common.{◌≡◌, ◌≢◌, ◌⊎◌, inl, inr, ℕ, List, refl, sym, ◌∙◌, subst, arith, Result, Err}
-use Rattle.flash_board.specs.declared.board.Fault.{Fault}
-use Rattle.flash_board.specs.Words.{Words}
+use Rattle.flash_traits.specs.declared.board.Fault.{Fault}
+use Rattle.flash_traits.specs.Words.{Words}
 use Rattle.sector_switch.specs.FirstBad.{place_of}
 use Rattle.storage_cli.specs.declared.endings.Served.{Served}
 use Rattle.storage_cli.specs.declared.endings.Foreign.{Foreign}

@@ -1,11 +1,11 @@
 -- A serve from its attach on.
 use Rattle.std.proofs.Common.{◌≡◌, ⊎_elim, ℕ, ◌+◌, List, [], ◌++◌, length, refl, sym, ◌∙◌, ap, subst, Option, Some, None, Result, Ok, Err}
 use Rattle.std.specs.Prelude.{⊤}
-use Rattle.flash_board.specs.declared.board.Board.{Ghosts}
-use Rattle.flash_board.specs.Words.{Words}
-use Rattle.flash_board.specs.Losses.{Received, SentFrame, Moment, Outcome, After}
-use Rattle.flash_board.specs.Calls.{Passes}
-use Rattle.flash_board.proofs.Moments.{up_to_self, chained, weaker}
+use Rattle.flash_traits.specs.declared.board.Board.{Ghosts}
+use Rattle.flash_traits.specs.Words.{Words}
+use Rattle.flash_traits.specs.Losses.{Received, SentFrame, Moment, Outcome, After}
+use Rattle.flash_traits.specs.Calls.{Passes}
+use Rattle.flash_traits.proofs.Moments.{up_to_self, chained, weaker}
 use Rattle.sector_switch.specs.Stands.{Stands}
 use Rattle.storage_lines.specs.Lines.{after}
 use Rattle.vehicle_node.specs.Runs.{Run}

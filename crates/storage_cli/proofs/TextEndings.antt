@@ -1,7 +1,7 @@
 -- How a command ends that prints a text of an image.
 use Rattle.std.proofs.Common.{◌≡◌, ◌≢◌, ◌⊎◌, inl, inr, ℕ, List, refl, sym, subst, arith, Result, Ok, Err, Option, Some, ap, true, ◌∙◌}
 use Rattle.std.specs.Prelude.{IfErr, is_err, option_map}
-use Rattle.flash_board.specs.Words.{Words}
+use Rattle.flash_traits.specs.Words.{Words}
 use Rattle.command_line.specs.Commands.{line_of}
 use Rattle.command_line.specs.Lines.{CommandLine}
 use Rattle.command_line.specs.declared.Command.{Command}

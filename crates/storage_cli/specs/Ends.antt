@@ -1,9 +1,9 @@
 -- How a command ends, as the program keeps it: its status, its line and its cause.
 use Rattle.std.specs.Prelude.{◌≡◌, ◌⊎◌, ◌≤◌, ℕ, List, Result, Ok, Err}
-use Rattle.flash_board.specs.Words.{Words}
-use Rattle.flash_board.specs.Causes.{Rose}
-use Rattle.flash_board.specs.declared.board.Fault.{Fault}
-use Rattle.flash_board.specs.declared.board.Fault.TheVariants as fault
+use Rattle.flash_traits.specs.Words.{Words}
+use Rattle.flash_traits.specs.Causes.{Rose}
+use Rattle.flash_traits.specs.declared.board.Fault.{Fault}
+use Rattle.flash_traits.specs.declared.board.Fault.TheVariants as fault
 use Rattle.sector_switch.specs.FirstBad.{FirstBad, place_of}
 use Rattle.vehicle_node.specs.declared.NodeError.{NodeError}
 use Rattle.vehicle_node.specs.declared.NodeError.TheVariants as node_error

@@ -1,8 +1,8 @@
 -- The words of a fresh image.
 use Rattle.std.specs.Prelude.{◌≡◌, ℕ, ◌<◌, ◌==◌, length, slice_index, if◌then◌else◌}
-use Rattle.flash_board.specs.Words.{Words, halfwords_in, HasShape}
-use Rattle.flash_board.specs.declared.board.Region.{Region}
-use Rattle.flash_board.specs.declared.board.Region.TheVariants.{S0, S1, Guard}
+use Rattle.flash_traits.specs.Words.{Words, halfwords_in, HasShape}
+use Rattle.flash_traits.specs.declared.board.Region.{Region}
+use Rattle.flash_traits.specs.declared.board.Region.TheVariants.{S0, S1, Guard}
 
 -- a sector that holds only its header: the state and 5168, and behind it FFFF
 abbrev pub header_only : ℕ → ℕ → ℕ

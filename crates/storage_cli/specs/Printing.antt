@@ -1,6 +1,6 @@
 -- How a command ends that prints a text of an image.
 use Rattle.std.specs.Prelude.{ℕ, List, Result, Ok, Err}
-use Rattle.flash_board.specs.Words.{Words}
+use Rattle.flash_traits.specs.Words.{Words}
 use Rattle.image_report.specs.declared.errors.ReportError.{ReportError}
 use Rattle.image_report.specs.declared.errors.ReportError.TheVariants as errors
 use Rattle.image_report.specs.Dumps.{IsDump}

@@ -1,9 +1,9 @@
 -- How far a serve has come: what was received and sent, and what a loss of power leaves of it.
 use Rattle.std.specs.Prelude.{◌≡◌, ℕ, ◌+◌, ◌-◌, List, ◌++◌, length, Option, Some, None, Result, Ok, Err}
-use Rattle.flash_board.specs.declared.board.Board.{Ghosts}
-use Rattle.flash_board.specs.Words.{Words}
-use Rattle.flash_board.specs.Losses.{Received, SentFrame, Outcome}
-use Rattle.flash_board.specs.Calls.{Passes}
+use Rattle.flash_traits.specs.declared.board.Board.{Ghosts}
+use Rattle.flash_traits.specs.Words.{Words}
+use Rattle.flash_traits.specs.Losses.{Received, SentFrame, Outcome}
+use Rattle.flash_traits.specs.Calls.{Passes}
 use Rattle.sector_switch.specs.Stands.{Stands}
 use Rattle.vehicle_node.specs.Safe.{Safe, SafeSince, Adds}
 use Rattle.vehicle_node.specs.Standing.{Node, StandsForRun, counts}

@@ -1,7 +1,7 @@
 -- What a `serve` and a `format` have done.
 use Rattle.std.specs.Prelude.{◌≡◌, ◌≢◌, ℕ, ◌-◌, List, [], ◌∷◌, ◌++◌, length, IsTrue}
-use Rattle.flash_board.specs.Words.{Words}
-use Rattle.flash_board.specs.Losses.{Received, End, SentFrame, Moment}
+use Rattle.flash_traits.specs.Words.{Words}
+use Rattle.flash_traits.specs.Losses.{Received, End, SentFrame, Moment}
 use Rattle.storage_lines.specs.Lines.{after}
 use Rattle.sector_switch.specs.FirstBad.{Place, FirstBad}
 use Rattle.sector_switch.specs.Stands as image

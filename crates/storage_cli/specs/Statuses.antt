@@ -1,11 +1,11 @@
 -- Which statuses a call may end with, and what each tells.
 use Rattle.std.specs.Prelude.{◌≡◌, ◌≢◌, ◌⊎◌, ℕ, List, ◌++◌, map, take, Option, Some, None}
 use Rattle.std.specs.Borrow.{Bor}
-use Rattle.flash_board.specs.declared.board.Fault.{Fault}
-use Rattle.flash_board.specs.declared.board.Fault.TheVariants.{Attach, Read, Flash, Recv, Send}
-use Rattle.flash_board.specs.Causes.{Rose}
+use Rattle.flash_traits.specs.declared.board.Fault.{Fault}
+use Rattle.flash_traits.specs.declared.board.Fault.TheVariants.{Attach, Read, Flash, Recv, Send}
+use Rattle.flash_traits.specs.Causes.{Rose}
 use Rattle.command_line.specs.Arguments.{Text}
-use Rattle.flash_board.specs.Words.{Words}
+use Rattle.flash_traits.specs.Words.{Words}
 use Rattle.command_line.specs.Lines.{CommandLine, serve, format, dump, report, line_of_words}
 use Rattle.image_report.specs.Dumps.{IsDump}
 use Rattle.image_report.specs.Reports.{IsReport}

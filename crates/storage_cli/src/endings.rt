@@ -1,5 +1,5 @@
 // How a command ends.
-use flash_board::Region;
+use flash_traits::Region;
 
 /// What a `serve` has done by its end.
 #[derive(Clone, Copy, Debug, PartialEq, Eq)]

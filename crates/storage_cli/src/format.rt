@@ -1,12 +1,12 @@
 // Makes a fresh image.
 ghost use Rattle.std.specs.Prelude.{◌≡◌, [], IfErr, IsOk};
-ghost use Rattle.flash_board.specs.Words.{IsSectorSize};
+ghost use Rattle.flash_traits.specs.Words.{IsSectorSize};
 ghost use Rattle.storage_cli.specs.Ends.{IsAttached, IsFormatStop, StopsByCause};
 ghost use Rattle.storage_cli.specs.Serving.{LeavesLink};
 ghost use Rattle.storage_cli.specs.Fresh.{IsFreshImage};
 
 use crate::endings::Stop;
-use flash_board::{Board, Region, program_pair};
+use flash_traits::{Board, Region, program_pair};
 
 /// The first halfword of a sector that is in use.
 const IN_USE: u16 = 0x5BFE;

@@ -1,9 +1,9 @@
 // Prints a text of an image.
 ghost use Rattle.std.specs.Prelude.{◌≡◌, ◌≤◌, List, ℕ, OnOk, OnErr, IfOk, IfErr, IsErr};
-ghost use Rattle.flash_board.specs.declared.board.Fault.{Fault};
-ghost use Rattle.flash_board.specs.declared.board.Fault.TheVariants.{Read};
-ghost use Rattle.flash_board.specs.Words.{IsSectorSize};
-ghost use Rattle.flash_board.specs.Causes.{Rose};
+ghost use Rattle.flash_traits.specs.declared.board.Fault.{Fault};
+ghost use Rattle.flash_traits.specs.declared.board.Fault.TheVariants.{Read};
+ghost use Rattle.flash_traits.specs.Words.{IsSectorSize};
+ghost use Rattle.flash_traits.specs.Causes.{Rose};
 ghost use Rattle.sector_switch.specs.FirstBad.{Place, FirstBad};
 ghost use Rattle.sector_switch.specs.Stands.{Stands};
 ghost use Rattle.image_report.specs.Refusals.{OnForeign, OnFault, OnOutput, BeforeOutput, OnceRead};
@@ -14,7 +14,7 @@ ghost use Rattle.storage_cli.specs.Statuses.{IsCutShort};
 
 use crate::endings::{Foreign, Stop};
 use crate::serving::stop_of_fault;
-use flash_board::{Board, Sink};
+use flash_traits::{Board, Sink};
 use image_report::{ReportError, dump, report};
 use std::alloc::Global;
 

@@ -1,8 +1,8 @@
 // Serves an image.
 ghost use Rattle.std.specs.Prelude.{◌≡◌, List, ℕ, [], IfOk, IfErr, OnOk, OnErr, ⊤};
-ghost use Rattle.flash_board.specs.Words.{IsSectorSize};
-ghost use Rattle.flash_board.specs.Losses.{Received, SentFrame, Outcome};
-ghost use Rattle.flash_board.specs.Calls.{Passes};
+ghost use Rattle.flash_traits.specs.Words.{IsSectorSize};
+ghost use Rattle.flash_traits.specs.Losses.{Received, SentFrame, Outcome};
+ghost use Rattle.flash_traits.specs.Calls.{Passes};
 ghost use Rattle.sector_switch.specs.FirstBad.{Place, FirstBad};
 ghost use Rattle.sector_switch.specs.Stands.{Stands};
 ghost use Rattle.block_store.specs.Refusals.{IsWorn};
@@ -12,7 +12,7 @@ ghost use Rattle.storage_cli.specs.Ends.{stop_of_fault, stop_of, IsAttached, IsD
 ghost use Rattle.storage_cli.specs.Progress.{IsSafe, Finishes, Completes, IsSafeRun};
 
 use crate::endings::{Foreign, Served, Stop};
-use flash_board::{Board, Fault};
+use flash_traits::{Board, Fault};
 use std::alloc::Global;
 use vehicle_node::{Node, NodeError, Turn};
 

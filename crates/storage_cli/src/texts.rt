@@ -5,7 +5,7 @@ ghost use Rattle.storage_cli.specs.Ends.{line_of_stop};
 
 use crate::endings::{Foreign, Served, Stop};
 use arrayvec::ArrayVec;
-use flash_board::Region;
+use flash_traits::Region;
 use itoa::Buffer;
 
 /// A line with its LF.

@@ -1,9 +1,9 @@
 // The top call.
 ghost use Rattle.std.specs.Prelude.{◌≡◌, ◌≢◌, ◌⊎◌, ◌≤◌, ◌-◌, ◌++◌, [], List, ℕ, length, take, None, ⊤};
-ghost use Rattle.flash_board.specs.declared.board.Fault.{Fault};
-ghost use Rattle.flash_board.specs.Words.{IsSectorSize};
-ghost use Rattle.flash_board.specs.Causes.{Rose};
-ghost use Rattle.flash_board.specs.Losses.{Outcome};
+ghost use Rattle.flash_traits.specs.declared.board.Fault.{Fault};
+ghost use Rattle.flash_traits.specs.Words.{IsSectorSize};
+ghost use Rattle.flash_traits.specs.Causes.{Rose};
+ghost use Rattle.flash_traits.specs.Losses.{Outcome};
 ghost use Rattle.command_line.specs.Lines.{line_of_words};
 ghost use Rattle.sector_switch.specs.FirstBad.{Place, FirstBad};
 ghost use Rattle.sector_switch.specs.Stands.{Stands};
@@ -25,7 +25,7 @@ use crate::printing::{ImageText, print_text, status_of_printed};
 use crate::serving::serve;
 use crate::texts::{line_of_stop, served_line};
 use command_line::{Command, command_of};
-use flash_board::{Board, Sink, Source};
+use flash_traits::{Board, Sink, Source};
 use std::alloc::{AllocError, Global};
 
 /// How a call ended: 0 where the command did all of its work.

@@ -4,11 +4,11 @@ use Rattle.std.specs.Prelude.{◌↔◌, ⊤, All, OnOk, IsTrue}
 use Rattle.std.specs.Str.{bytes_eq}
 use Rattle.std.proofs.lemmas.List.Elements.{All-nil, All-cons, All-append, All-weaker}
 use Rattle.std.proofs.lemmas.Slice.Eq.{bytes_eq-Decides}
-use Rattle.flash_board.specs.Words.{Words}
-use Rattle.flash_board.specs.declared.board.Board.{Ghosts}
-use Rattle.flash_board.specs.Calls.{Passes, Changes}
-use Rattle.flash_board.specs.Losses.{SentFrame, Outcome, After, OnWords}
-use Rattle.flash_board.proofs.Moments.{weaker, elapses_of}
+use Rattle.flash_traits.specs.Words.{Words}
+use Rattle.flash_traits.specs.declared.board.Board.{Ghosts}
+use Rattle.flash_traits.specs.Calls.{Passes, Changes}
+use Rattle.flash_traits.specs.Losses.{SentFrame, Outcome, After, OnWords}
+use Rattle.flash_traits.proofs.Moments.{weaker, elapses_of}
 use Rattle.storage_lines.specs.declared.areas.Area.TheVariants.{Param}
 use Rattle.storage_lines.specs.declared.lines.LineWrite.{LineWrite}
 use Rattle.storage_lines.specs.declared.lines.TheConstants.{LINES}

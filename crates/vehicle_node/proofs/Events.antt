@@ -2,9 +2,9 @@
 use Rattle.std.proofs.Common.{◌≡◌, inl, inr, ℕ, ◌+◌, ◌≤◌, List, [], ◌∷◌, ◌++◌, length, refl, sym, ◌∙◌, ap, subst, arith, append-nil, length-append, Result, Ok, Err}
 use Rattle.std.specs.Prelude.{⊤, OnOk, IsErr}
 use Rattle.std.proofs.lemmas.List.{length-set}
-use Rattle.flash_board.specs.declared.board.Board.{Ghosts}
-use Rattle.flash_board.specs.Losses.{Received, Datagram, Idle, End, SentFrame, Outcome, Unchanged, Receives, Either}
-use Rattle.flash_board.proofs.Moments.{weaker}
+use Rattle.flash_traits.specs.declared.board.Board.{Ghosts}
+use Rattle.flash_traits.specs.Losses.{Received, Datagram, Idle, End, SentFrame, Outcome, Unchanged, Receives, Either}
+use Rattle.flash_traits.proofs.Moments.{weaker}
 use Rattle.sector_switch.specs.Stands.{Stands}
 use Rattle.block_store.specs.Store.{durable_of}
 use Rattle.vehicle_core.specs.Acts.{Act}

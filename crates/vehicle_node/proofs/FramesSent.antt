@@ -3,10 +3,10 @@ use Rattle.std.proofs.Common.{◌≡◌, inl, ⊎_elim, ℕ, Bool, ◌+◌, List
 use Rattle.std.specs.Prelude.{slice_index}
 use Rattle.std.proofs.lemmas.List.{append-nil}
 use Rattle.std.proofs.lemmas.List.Sums.{fold-append}
-use Rattle.flash_board.specs.declared.board.Board.{Ghosts}
-use Rattle.flash_board.specs.Losses.{SentFrame, sent_frame, Outcome, After, Either, Unchanged, Sends, ByResult}
-use Rattle.flash_board.specs.Calls.{Passes}
-use Rattle.flash_board.proofs.Moments.{weaker, chained, up_to_self}
+use Rattle.flash_traits.specs.declared.board.Board.{Ghosts}
+use Rattle.flash_traits.specs.Losses.{SentFrame, sent_frame, Outcome, After, Either, Unchanged, Sends, ByResult}
+use Rattle.flash_traits.specs.Calls.{Passes}
+use Rattle.flash_traits.proofs.Moments.{weaker, chained, up_to_self}
 use Rattle.vehicle_core.specs.Vehicle.{Vehicle, Content, is_version_two}
 use Rattle.vehicle_core.specs.Replies.{Tells}
 use Rattle.mav_messages.specs.declared.messages.Message.{Message}

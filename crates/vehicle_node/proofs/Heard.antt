@@ -2,9 +2,9 @@
 use Rattle.std.proofs.Common.{◌≡◌, inl, inr, ℕ, ◌+◌, ◌<◌, arith, length, take, drop, get_or, take-append-drop, List, [], ◌∷◌, ◌++◌, refl, sym, ◌∙◌, ap, subst, append_assoc, Option, Some, None, Result, Ok, Err}
 use Rattle.std.specs.Prelude.{⊤, IsOk, IsErr, MatchOption, slice_get, slice_set, option_to_list}
 use Rattle.std.proofs.lemmas.List.{take_more}
-use Rattle.flash_board.specs.declared.board.Board.{Ghosts}
-use Rattle.flash_board.specs.Losses.{SentFrame, Outcome}
-use Rattle.flash_board.proofs.Moments.{weaker}
+use Rattle.flash_traits.specs.declared.board.Board.{Ghosts}
+use Rattle.flash_traits.specs.Losses.{SentFrame, Outcome}
+use Rattle.flash_traits.proofs.Moments.{weaker}
 use Rattle.mav_frames.specs.Cut.{Pushes}
 use Rattle.mav_frames.specs.Frames.{is_v2, IsReadFrom}
 use Rattle.mav_frames.specs.declared.frames.Frame.{SentFrame as Read}

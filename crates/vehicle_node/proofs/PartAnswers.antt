@@ -2,11 +2,11 @@
 use Rattle.std.proofs.Common.{◌≡◌, ℕ, ◌+◌, ◌<◌, ◌^◌, List, [], ◌++◌, length, take, Result, Ok, sym, ◌∙◌, ap, subst, arith, append_assoc}
 use Rattle.std.specs.Prelude.{⊤, IsErr}
 use Rattle.std.proofs.lemmas.List.{append-nil}
-use Rattle.flash_board.specs.declared.board.Board.{Ghosts}
-use Rattle.flash_board.specs.Words.{Words, IsSectorSize}
-use Rattle.flash_board.specs.Losses.{SentFrame, Outcome, KeepsWords}
-use Rattle.flash_board.specs.Calls.{Passes}
-use Rattle.flash_board.proofs.Moments.{weaker, chained}
+use Rattle.flash_traits.specs.declared.board.Board.{Ghosts}
+use Rattle.flash_traits.specs.Words.{Words, IsSectorSize}
+use Rattle.flash_traits.specs.Losses.{SentFrame, Outcome, KeepsWords}
+use Rattle.flash_traits.specs.Calls.{Passes}
+use Rattle.flash_traits.proofs.Moments.{weaker, chained}
 use Rattle.storage_lines.specs.declared.lines.LineWrite.{LineWrite}
 use Rattle.sector_switch.specs.Stands.{Stands}
 use Rattle.sector_switch.specs.Images.{Bytes}

@@ -1,9 +1,9 @@
 -- Calls one after another, each with what it adds.
 use Rattle.std.proofs.Common.{◌≡◌, inl, ⊎_elim, List, [], ◌++◌, sym, ◌∙◌, ap, append_assoc, append-nil}
-use Rattle.flash_board.specs.declared.board.Board.{Ghosts}
-use Rattle.flash_board.specs.Calls.{Passes}
-use Rattle.flash_board.specs.Losses.{Received, SentFrame, Outcome, After}
-use Rattle.flash_board.proofs.Moments.{up_to_self, chained, weaker}
+use Rattle.flash_traits.specs.declared.board.Board.{Ghosts}
+use Rattle.flash_traits.specs.Calls.{Passes}
+use Rattle.flash_traits.specs.Losses.{Received, SentFrame, Outcome, After}
+use Rattle.flash_traits.proofs.Moments.{up_to_self, chained, weaker}
 use Rattle.vehicle_node.specs.Safe.{Adds, Anything}
 
 module _ {B : Type 0} (g : Ghosts B) where

@@ -3,11 +3,11 @@ use Rattle.std.proofs.Common.{◌≡◌, inl, ℕ, suc, Bool, ◌+◌, ◌-◌, 
 use Rattle.std.proofs.lemmas.List.{append-nil}
 use Rattle.std.proofs.lemmas.List.Sums.{fold-append}
 use Rattle.std.specs.Prelude.{OnOk}
-use Rattle.flash_board.specs.Words.{Words}
-use Rattle.flash_board.specs.declared.board.Board.{Ghosts}
-use Rattle.flash_board.specs.Losses.{Outcome, After, OnWords, ByResult}
-use Rattle.flash_board.specs.Calls.{Changes, Passes}
-use Rattle.flash_board.proofs.Moments.{up_to_self, weaker, elapses_of}
+use Rattle.flash_traits.specs.Words.{Words}
+use Rattle.flash_traits.specs.declared.board.Board.{Ghosts}
+use Rattle.flash_traits.specs.Losses.{Outcome, After, OnWords, ByResult}
+use Rattle.flash_traits.specs.Calls.{Changes, Passes}
+use Rattle.flash_traits.proofs.Moments.{up_to_self, weaker, elapses_of}
 use Rattle.storage_lines.specs.declared.lines.LineWrite.{LineWrite}
 use Rattle.storage_lines.specs.Lines.{after, put_line}
 use Rattle.sector_switch.specs.Stands.{Stands}

@@ -4,7 +4,7 @@ use Rattle.std.specs.Prelude.{All, slice_get, slice_set}
 use Rattle.std.proofs.lemmas.List.{set-set, set-get_or, get_or-set_same, length-set}
 use Rattle.std.proofs.lemmas.Option.{slice_get_within, slice_get-get_or, get_or_from_slice_get}
 use Rattle.std.proofs.lemmas.List.Elements.{All-head, All-tail}
-use Rattle.flash_board.specs.Losses.{Received, Datagram, Idle, End}
+use Rattle.flash_traits.specs.Losses.{Received, Datagram, Idle, End}
 use Rattle.mav_frames.specs.Cut.{Piece, Skipped, Whole, Cut, frames_in}
 use Rattle.mav_frames.specs.Frames.{IsMessageOf, is_v2}
 use Rattle.mav_messages.specs.declared.messages.Message.{Message}

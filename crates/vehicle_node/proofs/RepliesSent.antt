@@ -5,9 +5,9 @@ use Rattle.std.specs.List.{range_with_len}
 use Rattle.std.proofs.lemmas.List.{append-nil, map-append}
 use Rattle.std.proofs.lemmas.List.Elements.{filter-append}
 use Rattle.std.proofs.lemmas.Grind.{flat_map-append}
-use Rattle.flash_board.specs.declared.board.Board.{Ghosts}
-use Rattle.flash_board.specs.Losses.{Outcome, KeepsWords}
-use Rattle.flash_board.proofs.Moments.{weaker}
+use Rattle.flash_traits.specs.declared.board.Board.{Ghosts}
+use Rattle.flash_traits.specs.Losses.{Outcome, KeepsWords}
+use Rattle.flash_traits.proofs.Moments.{weaker}
 use Rattle.mav_messages.specs.declared.messages.Reply.{Reply}
 use Rattle.vehicle_core.specs.Vehicle.{Vehicle, Content, Told, is_heard}
 use Rattle.vehicle_core.specs.Replies.{IsReplyOf, AreRepliesOf}

@@ -1,12 +1,12 @@
 -- One event, from its reception to the flush behind it.
 use Rattle.std.proofs.Common.{◌≡◌, ℕ, ◌+◌, ◌≤◌, List, [], ◌∷◌, ◌++◌, length, sym, ◌∙◌, ap, subst, arith, append_assoc, append-nil, length-append, Result, Ok, Err}
 use Rattle.std.specs.Prelude.{◌↔◌, ⊤, IsErr}
-use Rattle.flash_board.specs.declared.board.Board.{Ghosts}
-use Rattle.flash_board.specs.declared.board.Event.{Event}
-use Rattle.flash_board.specs.declared.board.Event.TheVariants as event
-use Rattle.flash_board.specs.Calls.{Passes}
-use Rattle.flash_board.specs.Losses.{Received, received, IsEventInRange, End, after_recv, ByResult, SentFrame, Outcome, After, Unchanged, Receives, Either, KeepsWords}
-use Rattle.flash_board.proofs.Moments.{weaker}
+use Rattle.flash_traits.specs.declared.board.Board.{Ghosts}
+use Rattle.flash_traits.specs.declared.board.Event.{Event}
+use Rattle.flash_traits.specs.declared.board.Event.TheVariants as event
+use Rattle.flash_traits.specs.Calls.{Passes}
+use Rattle.flash_traits.specs.Losses.{Received, received, IsEventInRange, End, after_recv, ByResult, SentFrame, Outcome, After, Unchanged, Receives, Either, KeepsWords}
+use Rattle.flash_traits.proofs.Moments.{weaker}
 use Rattle.storage_lines.specs.declared.lines.LineWrite.{LineWrite}
 use Rattle.sector_switch.specs.declared.kept.Shape.TheVariants as shape
 use Rattle.sector_switch.specs.Fits.{OneLogRules, OneLogWords, TwoLogRules, TwoLogWords}

@@ -1,8 +1,8 @@
 -- One part of an event: what was sent and put when it is answered, and what a loss inside leaves of it.
 use Rattle.std.specs.Prelude.{◌≡◌, ◌⊎◌, ◌≤◌, ◌<◌, ℕ, ◌+◌, List, [], ◌++◌, length, take, Option, Result, ⊤, OnOk, IsOk}
-use Rattle.flash_board.specs.declared.board.Board.{Ghosts}
-use Rattle.flash_board.specs.Calls.{Passes}
-use Rattle.flash_board.specs.Losses.{Received, SentFrame, Outcome, After}
+use Rattle.flash_traits.specs.declared.board.Board.{Ghosts}
+use Rattle.flash_traits.specs.Calls.{Passes}
+use Rattle.flash_traits.specs.Losses.{Received, SentFrame, Outcome, After}
 use Rattle.storage_lines.specs.declared.lines.LineWrite.{LineWrite}
 use Rattle.storage_lines.specs.Lines.{after}
 use Rattle.sector_switch.specs.Stands.{Stands}

@@ -1,7 +1,7 @@
 -- What the vehicle sends: which frames go to whom.
 use Rattle.std.specs.Prelude.{◌≡◌, ℕ, ◌+◌, ◌%◌, Bool, List, [], ◌∷◌, map, filter, slice_index, slice_set}
 use Rattle.std.specs.List.{AllZip, flat_map, fold, range_with_len}
-use Rattle.flash_board.specs.Losses.{SentFrame}
+use Rattle.flash_traits.specs.Losses.{SentFrame}
 use Rattle.mav_messages.specs.declared.messages.Message.{Message}
 use Rattle.mav_messages.specs.declared.messages.To.{To}
 use Rattle.mav_messages.specs.declared.messages.To.TheVariants.{Station, All}

@@ -1,8 +1,8 @@
 -- Several parts of an event, one after another: what was answered, and what a loss inside leaves.
 use Rattle.std.specs.Prelude.{◌≡◌, ◌≤◌, ℕ, ◌+◌, List, [], ◌++◌, length, Option, Some, Result, ⊤, OnOk, slice_get, slice_set}
-use Rattle.flash_board.specs.declared.board.Board.{Ghosts}
-use Rattle.flash_board.specs.Calls.{Passes}
-use Rattle.flash_board.specs.Losses.{Received, SentFrame, Outcome, After}
+use Rattle.flash_traits.specs.declared.board.Board.{Ghosts}
+use Rattle.flash_traits.specs.Calls.{Passes}
+use Rattle.flash_traits.specs.Losses.{Received, SentFrame, Outcome, After}
 use Rattle.storage_lines.specs.declared.lines.LineWrite.{LineWrite}
 use Rattle.mav_frames.specs.Cut.{Piece, Cut, Pushes, frames_in}
 use Rattle.vehicle_core.specs.Acts.{Act}

@@ -1,6 +1,6 @@
 -- What holds of every reading.
 use Rattle.std.specs.Prelude.{◌≡◌, ◌⊎◌, ◌<◌, ℕ, List, All, Option}
-use Rattle.flash_board.specs.Losses.{Received, Datagram, Idle, End}
+use Rattle.flash_traits.specs.Losses.{Received, Datagram, Idle, End}
 use Rattle.vehicle_core.specs.Vehicle.{Asked}
 use Rattle.vehicle_core.specs.Acts.{Act}
 use Rattle.vehicle_node.specs.Reading.{Says, IsSilent, Reads, no_rests}

@@ -1,7 +1,7 @@
 -- How events are read: the bytes of each station are one stream, whatever the borders of its datagrams, and each right
 -- frame in it has a message.
 use Rattle.std.specs.Prelude.{◌≡◌, ◌⊎◌, ℕ, List, [], ◌∷◌, ◌++◌, map, replicate, Option, Some, slice_get, slice_set}
-use Rattle.flash_board.specs.Losses.{Received, Datagram, Idle, End}
+use Rattle.flash_traits.specs.Losses.{Received, Datagram, Idle, End}
 use Rattle.mav_messages.specs.declared.messages.Message.{Message}
 use Rattle.mav_messages.specs.Messages.{FitsTypes}
 use Rattle.mav_frames.specs.Cut.{Piece, Cut, frames_in}

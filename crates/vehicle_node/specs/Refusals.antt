@@ -1,6 +1,6 @@
 -- What the refusals say.
 use Rattle.std.specs.Prelude.{ℕ}
-use Rattle.flash_board.specs.declared.board.Fault.{Fault}
+use Rattle.flash_traits.specs.declared.board.Fault.{Fault}
 use Rattle.sector_switch.specs.FirstBad.{Place, place_of}
 use Rattle.vehicle_node.specs.declared.NodeError.{NodeError}
 use Rattle.vehicle_node.specs.declared.NodeError.TheVariants as node_error

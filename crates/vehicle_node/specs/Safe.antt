@@ -1,7 +1,7 @@
 -- What a loss of power leaves of a run.
 use Rattle.std.specs.Prelude.{◌≡◌, ◌⊎◌, ◌≤◌, ℕ, ◌+◌, List, ◌++◌, length, take}
-use Rattle.flash_board.specs.Words.{Words}
-use Rattle.flash_board.specs.Losses.{Received, SentFrame, Outcome}
+use Rattle.flash_traits.specs.Words.{Words}
+use Rattle.flash_traits.specs.Losses.{Received, SentFrame, Outcome}
 use Rattle.storage_lines.specs.Lines.{after}
 use Rattle.sector_switch.specs.Stands.{Stands}
 use Rattle.vehicle_core.specs.Acts.{Act}

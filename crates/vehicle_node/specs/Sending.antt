@@ -1,8 +1,8 @@
 -- Inside the answer of a part: lines are issued, and then frames are sent.
 use Rattle.std.specs.Prelude.{◌≡◌, ◌≤◌, ◌<◌, ℕ, ◌+◌, ◌%◌, List, [], ◌++◌, max, length, take, map, filter, slice_index, slice_set, Result, ⊤, OnOk}
-use Rattle.flash_board.specs.declared.board.Board.{Ghosts}
-use Rattle.flash_board.specs.Calls.{Passes}
-use Rattle.flash_board.specs.Losses.{Received, SentFrame, Outcome, After}
+use Rattle.flash_traits.specs.declared.board.Board.{Ghosts}
+use Rattle.flash_traits.specs.Calls.{Passes}
+use Rattle.flash_traits.specs.Losses.{Received, SentFrame, Outcome, After}
 use Rattle.storage_lines.specs.declared.lines.LineWrite.{LineWrite}
 use Rattle.storage_lines.specs.Lines.{after}
 use Rattle.sector_switch.specs.Stands.{Stands}

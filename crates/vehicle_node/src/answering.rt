@@ -1,8 +1,8 @@
 // One part of an event: answered, with its lines issued and its frames sent.
 ghost use Rattle.std.specs.Prelude.{◌≡◌, ◌⊎◌, ◌<◌, ◌≤◌, List, ℕ, All, length, IfErr, OnOk};
-ghost use Rattle.flash_board.specs.declared.board.Fault.{Fault};
-ghost use Rattle.flash_board.specs.declared.board.Fault.TheVariants.{Read, Flash, Send};
-ghost use Rattle.flash_board.specs.Causes.{Rose};
+ghost use Rattle.flash_traits.specs.declared.board.Fault.{Fault};
+ghost use Rattle.flash_traits.specs.declared.board.Fault.TheVariants.{Read, Flash, Send};
+ghost use Rattle.flash_traits.specs.Causes.{Rose};
 ghost use Rattle.mav_frames.specs.Frames.{IsReadFrom};
 ghost use Rattle.block_store.specs.Refusals.{IsWorn};
 ghost use Rattle.dirty_lines.specs.Lines.{AreInside};
@@ -19,7 +19,7 @@ mod issuing;
 mod sending;
 
 use crate::{Node, NodeError};
-use flash_board::Board;
+use flash_traits::Board;
 use mav_frames::{Frame, message};
 use mav_messages::{Replies, Sender};
 use storage_lines::Batch;

@@ -1,9 +1,9 @@
 // An event: the bytes of a station, or an idle turn, and the lists that go on behind it.
 ghost use Rattle.std.specs.Prelude.{◌≡◌, ◌⊎◌, ◌<◌, ◌≤◌, ◌+◌, ◌∷◌, [], ◌++◌, List, ℕ, length, Some, None, MatchOption, IfErr, OnOk};
-ghost use Rattle.flash_board.specs.declared.board.Fault.{Fault};
-ghost use Rattle.flash_board.specs.declared.board.Fault.TheVariants.{Read, Flash, Send};
-ghost use Rattle.flash_board.specs.Losses.{received, IsEventInRange, Datagram, Idle};
-ghost use Rattle.flash_board.specs.Causes.{Rose};
+ghost use Rattle.flash_traits.specs.declared.board.Fault.{Fault};
+ghost use Rattle.flash_traits.specs.declared.board.Fault.TheVariants.{Read, Flash, Send};
+ghost use Rattle.flash_traits.specs.Losses.{received, IsEventInRange, Datagram, Idle};
+ghost use Rattle.flash_traits.specs.Causes.{Rose};
 ghost use Rattle.mav_frames.specs.Frames.{IsReadFrom};
 ghost use Rattle.block_store.specs.Refusals.{IsWorn};
 ghost use Rattle.vehicle_node.specs.Reading.{beats, streams};
@@ -13,7 +13,7 @@ ghost use Rattle.vehicle_node.specs.Refusals.{OnMemory, OnFault, OnForeign, OnWo
 
 use crate::laws::frames_are_read;
 use crate::{Node, NodeError};
-use flash_board::{Board, Event};
+use flash_traits::{Board, Event};
 use mav_frames::Frame;
 
 impl Node {

@@ -5,12 +5,12 @@
 #![tactic(auto)]
 
 ghost use Rattle.std.specs.Prelude.{◌≡◌, ◌⊎◌, ◌+◌, ◌≤◌, ◌↔◌, ◌++◌, [], List, ℕ, length, IfOk, IfErr, OnOk, IsTrue};
-ghost use Rattle.flash_board.specs.Words.{IsSectorSize};
-ghost use Rattle.flash_board.specs.declared.board.Fault.{Fault};
-ghost use Rattle.flash_board.specs.declared.board.Fault.TheVariants.{Read, Flash, Recv, Send};
-ghost use Rattle.flash_board.specs.Losses.{Received, received, End, SentFrame, Outcome, After, ByResult};
-ghost use Rattle.flash_board.specs.Calls.{Passes};
-ghost use Rattle.flash_board.specs.Causes.{Rose};
+ghost use Rattle.flash_traits.specs.Words.{IsSectorSize};
+ghost use Rattle.flash_traits.specs.declared.board.Fault.{Fault};
+ghost use Rattle.flash_traits.specs.declared.board.Fault.TheVariants.{Read, Flash, Recv, Send};
+ghost use Rattle.flash_traits.specs.Losses.{Received, received, End, SentFrame, Outcome, After, ByResult};
+ghost use Rattle.flash_traits.specs.Calls.{Passes};
+ghost use Rattle.flash_traits.specs.Causes.{Rose};
 ghost use Rattle.storage_lines.specs.Lines.{after};
 ghost use Rattle.sector_switch.specs.FirstBad.{FirstBad};
 ghost use Rattle.sector_switch.specs.Stands.{Stands, Reads, is_due, count_in};
@@ -28,7 +28,7 @@ mod opening;
 
 use crate::opening::{booted, error_of};
 use dirty_lines::DirtyLines;
-use flash_board::{Board, Event, Fault, Region};
+use flash_traits::{Board, Event, Fault, Region};
 pub use laws::{events_are_read, events_are_read_once, frames_are_read};
 use mav_frames::Cutter;
 use std::alloc::Global;

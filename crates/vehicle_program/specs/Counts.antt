@@ -1,8 +1,8 @@
 -- What a board over a file and a socket counts.
 use Rattle.std.specs.Prelude.{ℕ, []}
-use Rattle.flash_board.specs.Words.{Words}
-use Rattle.flash_board.specs.declared.board.Fault.{Fault}
-use Rattle.flash_board.specs.declared.board.Fault.TheVariants.{Attach, Read, Flash, Recv, Send}
+use Rattle.flash_traits.specs.Words.{Words}
+use Rattle.flash_traits.specs.declared.board.Fault.{Fault}
+use Rattle.flash_traits.specs.declared.board.Fault.TheVariants.{Attach, Read, Flash, Recv, Send}
 
 -- the count of each kind
 abbrev pub count_of : (attach read flash recv send : ℕ) → Fault → ℕ

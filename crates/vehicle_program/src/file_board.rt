@@ -1,12 +1,12 @@
 // A flash image in a file, and a UDP socket on this host.
 ghost use Rattle.std.specs.Prelude.{◌≡◌, ◌<◌, ◌≤◌, ◌+◌, ◌*◌, length, IfSome, IfOk, OnOk, vec_len};
 ghost use Rattle.std.specs.Option.{ForSome};
-ghost use Rattle.flash_board.specs.Words.{IsSectorSize};
-ghost use Rattle.flash_board.specs.Losses.{IsEventInRange};
+ghost use Rattle.flash_traits.specs.Words.{IsSectorSize};
+ghost use Rattle.flash_traits.specs.Losses.{IsEventInRange};
 
 use crate::image_file::{Image, make_image, open_image, place};
 use byteorder::{ByteOrder, LittleEndian};
-use flash_board::{Board, Event, Failed, Geometry, Region};
+use flash_traits::{Board, Event, Failed, Geometry, Region};
 use std::alloc::Global;
 use std::fs::File;
 use std::io;

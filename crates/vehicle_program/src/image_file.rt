@@ -1,8 +1,8 @@
 // An image file: sector 0, sector 1, then the guard row, in little endian halfwords.
 ghost use Rattle.std.specs.Prelude.{◌≡◌, ◌<◌, ◌≤◌, ◌+◌, ◌*◌, IfSome, IfOk, vec_len};
-ghost use Rattle.flash_board.specs.Words.{IsSectorSize, region_length};
+ghost use Rattle.flash_traits.specs.Words.{IsSectorSize, region_length};
 
-use flash_board::Region;
+use flash_traits::Region;
 use std::alloc::Global;
 use std::fs::{File, OpenOptions};
 use std::io;

@@ -1,7 +1,7 @@
 // Standard input and output as a source and a sink.
 ghost use Rattle.std.specs.Prelude.{[], ℕ};
 
-use flash_board::{Failed, Sink, Source};
+use flash_traits::{Failed, Sink, Source};
 use std::io::{Read, Write};
 
 /// The bytes of a reader.

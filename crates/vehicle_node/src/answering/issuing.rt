@@ -1,8 +1,8 @@
 // Pending lines put, and new ones issued.
 ghost use Rattle.std.specs.Prelude.{◌≡◌, ◌⊎◌, ◌<◌, ◌≤◌, ◌-◌, length, IfErr, OnOk};
-ghost use Rattle.flash_board.specs.declared.board.Fault.{Fault};
-ghost use Rattle.flash_board.specs.declared.board.Fault.TheVariants.{Read, Flash};
-ghost use Rattle.flash_board.specs.Causes.{Rose};
+ghost use Rattle.flash_traits.specs.declared.board.Fault.{Fault};
+ghost use Rattle.flash_traits.specs.declared.board.Fault.TheVariants.{Read, Flash};
+ghost use Rattle.flash_traits.specs.Causes.{Rose};
 ghost use Rattle.block_store.specs.Refusals.{IsWorn, OnNoRoom};
 ghost use Rattle.dirty_lines.specs.Lines.{AreInside};
 ghost use Rattle.vehicle_node.specs.Standing.{Fits};
@@ -12,7 +12,7 @@ ghost use Rattle.vehicle_node.specs.Refusals.{OnMemory, OnFault, OnForeign, OnWo
 
 use crate::{Node, NodeError};
 use block_store::PutError;
-use flash_board::Board;
+use flash_traits::Board;
 use storage_lines::Batch;
 
 /// The most pending lines with which the lines of any change are issued.

@@ -1,10 +1,10 @@
 // Replies sent as frames.
 ghost use Rattle.std.specs.Prelude.{◌≡◌, ◌<◌, ◌≤◌, [], ◌∷◌, List, All, IfErr};
-ghost use Rattle.flash_board.specs.Words.{IsSectorSize};
-ghost use Rattle.flash_board.specs.declared.board.Fault.{Fault};
-ghost use Rattle.flash_board.specs.declared.board.Fault.TheVariants.{Send};
-ghost use Rattle.flash_board.specs.Losses.{KeepsWords};
-ghost use Rattle.flash_board.specs.Causes.{Rose};
+ghost use Rattle.flash_traits.specs.Words.{IsSectorSize};
+ghost use Rattle.flash_traits.specs.declared.board.Fault.{Fault};
+ghost use Rattle.flash_traits.specs.declared.board.Fault.TheVariants.{Send};
+ghost use Rattle.flash_traits.specs.Losses.{KeepsWords};
+ghost use Rattle.flash_traits.specs.Causes.{Rose};
 ghost use Rattle.vehicle_core.specs.Vehicle.{Content, Told};
 ghost use Rattle.vehicle_core.specs.Replies.{Tells, IsReplyOf, AreRepliesOf};
 ghost use Rattle.vehicle_node.specs.Frames.{stations, deliveries_of, deliveries};
@@ -12,7 +12,7 @@ ghost use Rattle.vehicle_node.specs.Sending.{IsInside, SendDone, delivery, deliv
 ghost use Rattle.vehicle_node.specs.Refusals.{OnMemory, OnFault, OnForeign, OnWorn};
 
 use crate::{Node, NodeError};
-use flash_board::{Board, Fault};
+use flash_traits::{Board, Fault};
 use mav_frames::write_frame;
 use mav_messages::{Message, Replies, Reply, To};
 

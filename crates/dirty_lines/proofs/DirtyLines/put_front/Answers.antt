@@ -5,7 +5,7 @@ use Rattle.storage_lines.specs.Lines.{after}
 use Rattle.storage_lines.proofs.LineLemmas.{after-append, length-after}
 use Rattle.block_store.specs.declared.PutError.TheVariants.{NoRoom}
 use Rattle.block_store.specs.Store.{Fits, IsEntry, durable_of, entry_bytes, is_spilled, raise, room_of}
-use Rattle.flash_board.specs.Calls.{Changes}
+use Rattle.flash_traits.specs.Calls.{Changes}
 use Rattle.dirty_lines.specs.Lines.{Lines, AreInside, lines_of}
 use Rattle.dirty_lines.specs.Entries.{IsNext}
 use Rattle.dirty_lines.specs.Losses.{MayPutFirst, NextExceeds}

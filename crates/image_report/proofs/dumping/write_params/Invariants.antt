@@ -1,5 +1,5 @@
 use Rattle.std.specs.Prelude.{Ok}
-use Rattle.flash_board.specs.declared.board.Failed.{Failed}
+use Rattle.flash_traits.specs.declared.board.Failed.{Failed}
 use Rattle.image_report.specs.Writes.{Writes}
 use Rattle.image_report.proofs.Table.{lines_to}
 use Rattle.image_report.proofs.dumping.write_params.Given as goal

@@ -1,5 +1,5 @@
 use Rattle.std.proofs.Common.{subst}
-use Rattle.flash_board.specs.Words.{Words}
+use Rattle.flash_traits.specs.Words.{Words}
 use Rattle.sector_switch.specs.Stands.{Reads}
 use Rattle.sector_switch.specs.FirstBad.{place_of}
 use Rattle.sector_switch.proofs.ImageLaws.{never_both}

@@ -1,7 +1,7 @@
 use Rattle.std.proofs.Common.{inr, subst}
-use Rattle.flash_board.specs.Words.{ProgramMayLeave, Programs}
-use Rattle.flash_board.specs.Calls.{Changes}
-use Rattle.flash_board.specs.declared.board.Region.{Region}
+use Rattle.flash_traits.specs.Words.{ProgramMayLeave, Programs}
+use Rattle.flash_traits.specs.Calls.{Changes}
+use Rattle.flash_traits.specs.declared.board.Region.{Region}
 use Rattle.sector_switch.proofs.OneLogCalls.{mark_changes}
 use Rattle.sector_switch.proofs.alone_state.mark_full.Goals as goal
 

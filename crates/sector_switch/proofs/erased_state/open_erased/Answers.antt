@@ -1,8 +1,8 @@
 use Rattle.std.proofs.Common.{ℕ, inr, sym, subst}
 use Rattle.sector_switch.specs.Fits.{FitsAlone}
-use Rattle.flash_board.specs.Pairs.{ProgramsPair, PairMayLeave}
-use Rattle.flash_board.specs.Calls.{Changes}
-use Rattle.flash_board.specs.declared.board.Region.{Region}
+use Rattle.flash_traits.specs.Pairs.{ProgramsPair, PairMayLeave}
+use Rattle.flash_traits.specs.Calls.{Changes}
+use Rattle.flash_traits.specs.declared.board.Region.{Region}
 use Rattle.sector_switch.proofs.OneLogCalls.{open_changes_first, open_changes, open_fits}
 use Rattle.sector_switch.proofs.erased_state.open_erased.Goals as goal
 

@@ -1,7 +1,7 @@
 use Rattle.std.proofs.Common.{◌≡◌, ◌≤◌, length, refl, sym, ◌∙◌, ap, arith}
 use Rattle.std.specs.Prelude.{slice_index}
-use Rattle.flash_board.specs.Words.{Words, halfwords_in}
-use Rattle.sector_log.specs.Sector.{mark_word}
+use Rattle.flash_traits.specs.Words.{Words, halfwords_in}
+use Rattle.flash_traits.specs.Marks.{mark_word}
 use Rattle.sector_log.proofs.LogLemmas.{two_inside}
 use Rattle.sector_switch.specs.Heads.{allowed}
 use Rattle.sector_switch.proofs.SurveyLemmas.{bad_second}

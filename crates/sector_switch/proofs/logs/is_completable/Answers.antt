@@ -1,5 +1,6 @@
 use Rattle.std.proofs.Common.{inl, inr, ℕ, List, sym, ◌∙◌, ap}
-use Rattle.sector_log.specs.Bytes.{halfwords_of, programmable}
+use Rattle.sector_log.specs.Bytes.{programmable}
+use Rattle.flash_traits.specs.Words.{halfwords_of}
 use Rattle.sector_switch.proofs.SurveyLemmas.{not_torn, not_chunk, is_chunk, lines_slice}
 use Rattle.sector_switch.proofs.logs.is_completable.Goals.{then-torn-ne8-via-then-torn-ne8, then-torn-ne8-via-else-torn-ne8+then-torn-ne0}
 use Rattle.sector_switch.proofs.logs.is_completable.Goals as goal

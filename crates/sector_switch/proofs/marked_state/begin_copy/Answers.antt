@@ -1,7 +1,7 @@
 use Rattle.std.proofs.Common.{inr, sym, subst, arith}
-use Rattle.flash_board.specs.Words.{ProgramMayLeave, Programs}
-use Rattle.flash_board.specs.Calls.{Changes}
-use Rattle.flash_board.specs.declared.board.Region.{Region}
+use Rattle.flash_traits.specs.Words.{ProgramMayLeave, Programs}
+use Rattle.flash_traits.specs.Calls.{Changes}
+use Rattle.flash_traits.specs.declared.board.Region.{Region}
 use Rattle.sector_switch.specs.Images.{both_bytes}
 use Rattle.sector_switch.specs.Fits.{FitsSpilled, new_log, with_other}
 use Rattle.sector_switch.proofs.Rooms.{left_most}

@@ -1,6 +1,6 @@
 use Rattle.std.proofs.Common.{sym, ◌∙◌, ap, subst}
 use Rattle.std.proofs.lemmas.Result.{IfOk-weaker}
-use Rattle.flash_board.specs.Words.{Words}
+use Rattle.flash_traits.specs.Words.{Words}
 use Rattle.sector_switch.specs.Stands.{Reads, count_in, count_after, is_alone, is_due}
 use Rattle.sector_switch.proofs.RecoveryLemmas.{found, found_as, reads_keep, reads_then_keep, worn_through}
 use Rattle.sector_switch.proofs.recovery.recover.Goals as goal

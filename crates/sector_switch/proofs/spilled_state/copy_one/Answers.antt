@@ -1,5 +1,5 @@
 use Rattle.std.proofs.Common.{◌≡◌, ℕ, ◌*◌, ◌/◌, ◌<◌, None, List, sym, ◌∙◌, ap, subst, arith, ◌+◌, ◌≤◌, length}
-use Rattle.flash_board.specs.Words.{region_length}
+use Rattle.flash_traits.specs.Words.{region_length}
 use Rattle.sector_switch.specs.Room.{left_to_copy}
 use Rattle.sector_switch.specs.Images.{both_bytes}
 use Rattle.sector_log.specs.declared.log.Log.{Log}

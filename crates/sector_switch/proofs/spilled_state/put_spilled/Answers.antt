@@ -1,7 +1,7 @@
 use Rattle.std.proofs.Common.{◌≡◌, ℕ, ◌+◌, ◌-◌, ◌*◌, ◌≤◌, ◌/◌, Option, Some, None, List, length, sym, ap, subst, arith}
 use Rattle.std.specs.Option.{option_map_or}
 use Rattle.sector_log.specs.declared.log.Log.{Log}
-use Rattle.sector_log.specs.Bytes.{put}
+use Rattle.flash_traits.specs.Values.{put}
 use Rattle.sector_switch.specs.declared.kept.Kept.{Kept}
 use Rattle.sector_switch.specs.Images.{Bytes, both_bytes}
 use Rattle.sector_switch.specs.Room.{left_to_copy}

@@ -1,6 +1,6 @@
 use Rattle.std.proofs.Common.{◌≡◌, subst}
-use Rattle.flash_board.specs.Words.{Words, halfwords_in}
-use Rattle.flash_board.specs.declared.board.Region.{Region}
+use Rattle.flash_traits.specs.Words.{Words, halfwords_in}
+use Rattle.flash_traits.specs.declared.board.Region.{Region}
 use Rattle.sector_log.specs.Sector.{IsSector, BadLog}
 use Rattle.sector_log.specs.Log.{IsLogOf}
 use Rattle.sector_switch.specs.Stands.{second_of}

@@ -1,5 +1,5 @@
 use Rattle.std.proofs.Common.{subst}
-use Rattle.flash_board.specs.Words.{Words}
+use Rattle.flash_traits.specs.Words.{Words}
 use Rattle.sector_switch.specs.FirstBad.{FirstBad}
 use Rattle.sector_switch.proofs.SurveyLemmas.{foreign_through}
 use Rattle.sector_switch.proofs.surveying.survey.Goals as goal

@@ -1,5 +1,5 @@
 use Rattle.std.proofs.Common.{ℕ, List, refl, false, None, sym, ◌∙◌, subst}
-use Rattle.flash_board.specs.Words.{Words}
+use Rattle.flash_traits.specs.Words.{Words}
 use Rattle.sector_switch.specs.declared.kept.Kept.{Kept}
 use Rattle.sector_switch.specs.declared.kept.Shape.TheVariants.{Alone}
 use Rattle.sector_switch.specs.Images.{both_bytes}

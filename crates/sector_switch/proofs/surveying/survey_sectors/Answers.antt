@@ -1,5 +1,5 @@
 use Rattle.std.proofs.Common.{sym, subst}
-use Rattle.flash_board.specs.Words.{Words}
+use Rattle.flash_traits.specs.Words.{Words}
 use Rattle.sector_switch.specs.declared.kept.Shape.{Shape}
 use Rattle.sector_switch.specs.FirstBad.{FirstBad}
 use Rattle.sector_switch.specs.Fits.{mark_of, other_mark_of}

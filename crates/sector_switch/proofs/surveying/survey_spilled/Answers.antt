@@ -1,7 +1,7 @@
 use Rattle.std.proofs.Common.{◌≡◌, ℕ, ◌*◌, ◌/◌, Option, Some, length, refl, sym, ◌∙◌, ap, subst, arith}
-use Rattle.flash_board.specs.Words.{Words, halfwords_in}
-use Rattle.flash_board.specs.declared.board.Region.{Region}
-use Rattle.flash_board.specs.declared.board.Mark.TheVariants.{InUse}
+use Rattle.flash_traits.specs.Words.{Words, halfwords_in}
+use Rattle.flash_traits.specs.declared.board.Region.{Region}
+use Rattle.flash_traits.specs.declared.board.Mark.TheVariants.{InUse}
 use Rattle.sector_log.specs.Sector.{IsSector, BadLog}
 use Rattle.sector_log.specs.Appends.{IsLogIn}
 use Rattle.sector_switch.specs.declared.kept.Kept.{Kept}

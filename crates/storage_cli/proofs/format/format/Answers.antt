@@ -1,5 +1,5 @@
 use Rattle.std.proofs.Common.{◌≡◌, ◌∙◌, sym, subst, ℕ}
-use Rattle.flash_board.specs.Words.{HasShape, IsSectorSize}
+use Rattle.flash_traits.specs.Words.{HasShape, IsSectorSize}
 use Rattle.storage_cli.proofs.Formatting.{on_ok_part, done_part, formatted_fresh, geometry_part}
 use Rattle.storage_cli.proofs.format.format.Goals as goal
 

@@ -1,5 +1,5 @@
 use Rattle.std.proofs.Common.{◌∙◌, sym, subst}
-use Rattle.flash_board.specs.Words.{Words}
+use Rattle.flash_traits.specs.Words.{Words}
 use Rattle.sector_switch.specs.FirstBad.{FirstBad}
 use Rattle.sector_switch.specs.Stands.{Stands}
 use Rattle.storage_cli.proofs.Formatting.{on_ok_part}

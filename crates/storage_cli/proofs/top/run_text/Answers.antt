@@ -1,5 +1,5 @@
 use Rattle.std.proofs.Common.{◌∙◌, ap, sym, subst, refl, inl, inr, ℕ, List, ◌++◌, arith, true≢false}
-use Rattle.flash_board.specs.Causes.{Rose}
+use Rattle.flash_traits.specs.Causes.{Rose}
 use Rattle.storage_cli.specs.Texts.{Line}
 use Rattle.storage_cli.specs.Ends.{line_of_stop}
 use Rattle.storage_cli.specs.Statuses.{IsCutShort}

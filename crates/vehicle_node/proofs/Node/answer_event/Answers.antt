@@ -1,6 +1,6 @@
 use Rattle.std.proofs.Common.{sym, subst, Ok}
-use Rattle.flash_board.specs.declared.board.Event.{Event}
-use Rattle.flash_board.specs.Losses.{received}
+use Rattle.flash_traits.specs.declared.board.Event.{Event}
+use Rattle.flash_traits.specs.Losses.{received}
 use Rattle.vehicle_node.specs.Hearing.{TakeDone}
 use Rattle.vehicle_node.proofs.Events.{take_end}
 use Rattle.vehicle_node.proofs.Node.answer_event.Goals as goal

@@ -1,5 +1,5 @@
 use Rattle.vehicle_node.specs.Safe.{SafeSince}
-use Rattle.flash_board.proofs.Moments.{weaker}
+use Rattle.flash_traits.proofs.Moments.{weaker}
 use Rattle.vehicle_node.proofs.Events.{since_put}
 use Rattle.vehicle_node.proofs.Boot.{closed_at}
 use Rattle.vehicle_node.proofs.Node.close.Goals as goal

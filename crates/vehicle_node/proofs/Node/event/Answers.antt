@@ -1,5 +1,5 @@
 use Rattle.std.proofs.Common.{◌+◌, ap, arith}
-use Rattle.flash_board.specs.Losses.{Moment, received}
+use Rattle.flash_traits.specs.Losses.{Moment, received}
 use Rattle.vehicle_node.specs.Safe.{SafeSince}
 use Rattle.vehicle_node.proofs.Turns.{received_in_range, fits_kept, failed_losses, taking_losses, flushing_losses, turn_losses, turn_finished, passes_err}
 use Rattle.vehicle_node.proofs.Passing.{any_of, any_then, if_told}

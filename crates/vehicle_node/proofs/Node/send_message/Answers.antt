@@ -1,5 +1,5 @@
 use Rattle.std.proofs.Common.{[], ◌∷◌, ap}
-use Rattle.flash_board.specs.Losses.{sent_frame, Moment}
+use Rattle.flash_traits.specs.Losses.{sent_frame, Moment}
 use Rattle.vehicle_node.specs.Inside.{view_of}
 use Rattle.vehicle_node.specs.Frames.{AreFramesOf}
 use Rattle.vehicle_node.specs.Sending.{delivery, answers_of, machine_after}

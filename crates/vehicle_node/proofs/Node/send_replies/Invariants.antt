@@ -1,6 +1,6 @@
 use Rattle.std.proofs.Common.{◌≡◌, ◌≤◌, Ok, List, take}
-use Rattle.flash_board.specs.declared.board.Fault.{Fault}
-use Rattle.flash_board.specs.Losses.{KeepsWords}
+use Rattle.flash_traits.specs.declared.board.Fault.{Fault}
+use Rattle.flash_traits.specs.Losses.{KeepsWords}
 use Rattle.vehicle_core.specs.Vehicle.{Told}
 use Rattle.vehicle_core.specs.Replies.{AreRepliesOf}
 use Rattle.vehicle_node.specs.Frames.{deliveries}

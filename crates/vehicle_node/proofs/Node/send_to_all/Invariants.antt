@@ -1,7 +1,7 @@
 use Rattle.std.proofs.Common.{◌≡◌, ◌≤◌, Ok}
 use Rattle.std.specs.List.{range_with_len}
-use Rattle.flash_board.specs.declared.board.Fault.{Fault}
-use Rattle.flash_board.specs.Losses.{KeepsWords}
+use Rattle.flash_traits.specs.declared.board.Fault.{Fault}
+use Rattle.flash_traits.specs.Losses.{KeepsWords}
 use Rattle.vehicle_core.specs.Vehicle.{Content}
 use Rattle.vehicle_core.specs.Replies.{Tells}
 use Rattle.vehicle_node.specs.Sending.{SendDone, deliveries_to}

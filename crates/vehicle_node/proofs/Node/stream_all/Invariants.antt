@@ -1,5 +1,5 @@
 use Rattle.std.proofs.Common.{◌≡◌, ◌≤◌, take, Ok}
-use Rattle.flash_board.specs.declared.board.Fault.{Fault}
+use Rattle.flash_traits.specs.declared.board.Fault.{Fault}
 use Rattle.vehicle_node.specs.Reading.{streams}
 use Rattle.vehicle_node.specs.Standing.{Fits}
 use Rattle.vehicle_node.specs.Hearing.{PartsDone}

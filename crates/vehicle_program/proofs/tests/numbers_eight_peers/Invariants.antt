@@ -1,4 +1,4 @@
-use Rattle.flash_board.specs.Words.{IsSectorSize}
+use Rattle.flash_traits.specs.Words.{IsSectorSize}
 use Rattle.vehicle_program.proofs.tests.numbers_eight_peers.Given as goal
 
 abbrev pub invariant-loop-peer : goal.invariant-loop-peer

@@ -1,5 +1,5 @@
 use Rattle.std.proofs.Common.{◌≤◌, refl, sym, ◌∙◌, ap, subst, arith}
-use Rattle.flash_board.proofs.Moments.{chained_erases_nothing}
+use Rattle.flash_traits.proofs.Moments.{chained_erases_nothing}
 use Rattle.sector_switch.specs.declared.spilled_state.CopyStep.{CopyStep}
 use Rattle.sector_switch.specs.Fits.{FitsSpilled, taken_of, left_chunks}
 use Rattle.sector_switch.specs.Refusals.{kept_in}

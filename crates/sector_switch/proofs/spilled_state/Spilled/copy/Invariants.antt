@@ -1,5 +1,5 @@
 use Rattle.std.proofs.Common.{◌≡◌, ◌≤◌}
-use Rattle.flash_board.specs.Calls.{Changes, ErasesNothing}
+use Rattle.flash_traits.specs.Calls.{Changes, ErasesNothing}
 use Rattle.sector_switch.specs.Losses.{KeepsBytes}
 use Rattle.sector_switch.specs.Fits.{FitsSpilled, left_in, taken_of}
 use Rattle.sector_switch.proofs.spilled_state.Spilled.copy.Given as goal
