@@ -7,7 +7,7 @@ use Rattle.storage_lines.specs.declared.lines.TheConstants.{STORAGE_BYTES}
 use Rattle.storage_lines.specs.declared.lines.LineWrite.{LineWrite}
 use Rattle.storage_lines.specs.declared.areas.Area.TheVariants.{Param}
 use Rattle.storage_lines.specs.Areas.{logical_of}
-use Rattle.storage_lines.specs.Lines.{after}
+use Rattle.storage_lines.specs.Lines.{after, EachPrefix}
 use Rattle.storage_lines.specs.Pieces.{writes_of_piece, Piece, writes_of}
 use Rattle.storage_lines.proofs.LineLemmas.{length-after, after-append}
 use Rattle.param_records.specs.declared.records.TheConstants.{PARAM_BYTES}
@@ -15,7 +15,7 @@ use Rattle.param_records.specs.Records.{Record, four_bytes, header, encoding, Is
 use Rattle.param_records.specs.Changes.{piece, header_pieces, appending}
 use Rattle.param_records.proofs.RecordLemmas.{Keeps, kept_records, appended_records}
 use Rattle.storage_lines.specs.Laws.{HasPut}
-use Rattle.storage_lines.proofs.PieceLemmas.{EachPrefix, prefix_append, prefix_weaker}
+use Rattle.storage_lines.proofs.PrefixLemmas.{prefix_append, prefix_weaker}
 use Rattle.param_records.proofs.PieceLemmas.{piece_prefix, piece_whole, one_line, length-logical}
 
 -- Below the end, and in the byte that holds the type there, all is as it was.

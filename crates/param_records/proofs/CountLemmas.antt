@@ -8,7 +8,7 @@ use Rattle.storage_lines.specs.declared.lines.LineWrite.{LineWrite}
 use Rattle.storage_lines.specs.declared.areas.Area.TheVariants.{Param}
 use Rattle.storage_lines.specs.declared.pieces.SplitError.{SplitError}
 use Rattle.storage_lines.specs.declared.pieces.SplitError.TheVariants.{OutOfArea, NoPlace}
-use Rattle.storage_lines.specs.Areas.{place_in, put_in, parts_of}
+use Rattle.storage_lines.specs.Areas.{place_in, put_in, spans_of}
 use Rattle.storage_lines.specs.Lines.{line_change, changes_below}
 use Rattle.storage_lines.specs.Pieces.{writes_of_piece}
 use Rattle.storage_lines.proofs.LineLemmas.{line_cases, changes_more}
@@ -23,20 +23,20 @@ pub record FewLines (at n lines c : ℕ) : Type 0 where
   pub some : 0 < c → 8 * lines ≤ at % 8 + c + 7
 
 -- where the bytes below a border end, a line ends, or the piece
-whole_lines : (at n m lines c : ℕ) → at + n ≤ PARAM_BYTES → Cut (parts_of Param) at n (8 * m) c → FewLines at n lines c → 0 < c → c < n → 8 * lines ≤ at % 8 + c
+whole_lines : (at n m lines c : ℕ) → at + n ≤ PARAM_BYTES → Cut (spans_of Param) at n (8 * m) c → FewLines at n lines c → 0 < c → c < n → 8 * lines ≤ at % 8 + c
 whole_lines at n m lines c fits k few some less = let bound = few.some some in elim (cut_at_line at n m c fits k) [
   | inl none ↦ absurd (omega arith)
   | inr x ↦ elim x [ inl all ↦ absurd (omega arith) | inr border ↦ omega arith ]
 ]
 
-pub few_lines : (k at : ℕ) (new b : List ℕ) → length b ≡ STORAGE_BYTES → k ≤ 1920 → at + length new ≤ PARAM_BYTES → (c : ℕ) → Cut (parts_of Param) at (length new) (8 * k) c →
-    FewLines at (length new) (length (changes_below k b (put_in (parts_of Param) at new b))) c
+pub few_lines : (k at : ℕ) (new b : List ℕ) → length b ≡ STORAGE_BYTES → k ≤ 1920 → at + length new ≤ PARAM_BYTES → (c : ℕ) → Cut (spans_of Param) at (length new) (8 * k) c →
+    FewLines at (length new) (length (changes_below k b (put_in (spans_of Param) at new b))) c
 few_lines zero at new b size small fits c is =
-    let none : length (changes_below zero b (put_in (parts_of Param) at new b)) ≡ 0 = ap (λ (l : List LineWrite). length l) (no_lines b (put_in (parts_of Param) at new b)) in
+    let none : length (changes_below zero b (put_in (spans_of Param) at new b)) ≡ 0 = ap (λ (l : List LineWrite). length l) (no_lines b (put_in (spans_of Param) at new b)) in
     let few = is.few in
     record { none = λ e. none; some = λ h. omega arith }
 few_lines (suc k) at new b size small fits c is =
-    let p = parts_of Param in
+    let p = spans_of Param in
     let N = put_in p at new b in
     let found = cut p at (length new) (8 * k) param_rises fits in
     let d = found.0 in
@@ -81,7 +81,7 @@ few_lines (suc k) at new b size small fits c is =
 
 pub few_writes : (at : ℕ) (new b : List ℕ) → length b ≡ STORAGE_BYTES → at + length new ≤ PARAM_BYTES → 8 * length (writes_of_piece Param at new b) ≤ at % 8 + length new + 7
 few_writes at new b size fits =
-    let found = cut (parts_of Param) at (length new) STORAGE_BYTES param_rises fits in
+    let found = cut (spans_of Param) at (length new) STORAGE_BYTES param_rises fits in
     let few = few_lines 1920 at new b size (omega arith) fits found.0 found.1 in
     let c = found.1.few in
     elim (cases_order found.0 0) [

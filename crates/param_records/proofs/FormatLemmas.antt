@@ -12,7 +12,8 @@ use Rattle.storage_lines.specs.Pieces.{writes_of, writes_of_piece}
 use Rattle.storage_lines.proofs.LineLemmas.{length-after, after-append}
 use Rattle.param_records.specs.Records.{IsRecord, HasRecords}
 use Rattle.param_records.specs.Changes.{formatting, total_zero}
-use Rattle.param_records.specs.Steps.{Formats}
+use Rattle.param_records.specs.Steps.{Formats, FormatsInSteps}
+use Rattle.param_records.proofs.OtherAreas.{other_areas, two_fit}
 use Rattle.param_records.proofs.RecordLemmas.{sentinel_ends}
 use Rattle.param_records.proofs.PieceLemmas.{piece_prefix, piece_whole, length-logical}
 use Rattle.param_records.proofs.AppendLemmas.{spelled_at}
@@ -81,8 +82,9 @@ format_front bytes j size h =
     (λ i l. let low : i < 4 = omega (arith, length-take 4 N) in get_or-take 4 N i 0 low ∙ found.3.below i (omega arith) ∙ sym (get_or-take 4 L i 0 low)) in
     subst (λ (ws : List LineWrite). take 4 (logical_of Param (after bytes ws)) ≡ take 4 L) (sym cut) same
 
-formats : (bytes : List ℕ) → length bytes ≡ STORAGE_BYTES → Formats bytes (writes_of bytes formatting)
+pub formats : FormatsInSteps
 formats bytes size = record {
+  areas = other_areas bytes formatting size (two_fit 8 0 line1 line0 (omega arith) (omega arith));
   whole = format_whole bytes size;
   unformatted = λ other j h e. other (sym (format_front bytes j size h) ∙ e);
 }

@@ -6,6 +6,7 @@ pub mod WalkLemmas
 pub mod ValueLemmas
 pub mod CountLemmas
 pub mod StoreLemmas
+pub mod OtherAreas
 pub mod PatternLemmas
 pub mod OtherLemmas
 pub mod StepLemmas

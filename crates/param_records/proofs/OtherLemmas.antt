@@ -12,7 +12,7 @@ use Rattle.param_tree.specs.declared.Var.{Var}
 use Rattle.param_tree.specs.Rules.{is_part, is_three_floats, parts_of, SamePlace}
 use Rattle.param_records.specs.declared.values.Value.{Value}
 use Rattle.param_records.specs.declared.values.Value.TheVariants.{Bits}
-use Rattle.param_records.specs.Records.{Record, number_of, size_of, matches, value_in, place_from}
+use Rattle.param_records.specs.Records.{Record, size_of, matches, value_in, place_from, type_number}
 use Rattle.param_records.specs.Values.{value_from, value_of_number, value_in_records}
 use Rattle.param_records.specs.Changes.{part_bytes, overwritten, default_at, part_number, fresh_bytes, fresh}
 use Rattle.param_records.proofs.RecordLemmas.{with_value}
@@ -55,8 +55,8 @@ pub record Same (k e : ℕ) (of : Kind) (r : Record) : Type 0 where
 
 pub match_same : (k e : ℕ) (kind : Kind) (r : Record) → matches k e kind r ≡ true → Same k e kind r
 match_same k e kind r is =
-    let rest = and_parts (r.key == k) ((r.element == e) && (number_of r.kind == number_of kind)) is in
-    let last = and_parts (r.element == e) (number_of r.kind == number_of kind) rest.1 in
+    let rest = and_parts (r.key == k) ((r.element == e) && (type_number r.kind == type_number kind)) is in
+    let last = and_parts (r.element == e) (type_number r.kind == type_number kind) rest.1 in
     record { key = eqb-true r.key k rest.0; element = eqb-true r.element e last.0; kind = match_kind k e kind r is }
 
 pub match_triple : (k e k' e' : ℕ) (kind kind' : Kind) (rs : List Record) (start : ℕ) → k ≡ k' → e ≡ e' → kind ≡ kind' → place_from start k e kind rs ≡ place_from start k' e' kind' rs
@@ -197,8 +197,8 @@ pub own_appended : (rows : List Var) (row : Var) (number : ℕ) (records : List 
     value_in_records (records ++ fresh rows row number ∷ []) row ≡ value_from row.kind 0 (part_bytes row.kind number)
 own_appended rows row number records none part few =
     let r = fresh rows row number in
-    let here : matches row.key row.element row.kind r ≡ true = and_from (row.key == row.key) ((row.element == row.element) && (number_of row.kind == number_of row.kind)) (eq-eqb row.key row.key refl)
-    (and_from (row.element == row.element) (number_of row.kind == number_of row.kind) (eq-eqb row.element row.element refl) (eq-eqb (number_of row.kind) (number_of row.kind) refl)) in
+    let here : matches row.key row.element row.kind r ≡ true = and_from (row.key == row.key) ((row.element == row.element) && (type_number row.kind == type_number row.kind)) (eq-eqb row.key row.key refl)
+    (and_from (row.element == row.element) (type_number row.kind == type_number row.kind) (eq-eqb row.element row.element refl) (eq-eqb (type_number row.kind) (type_number row.kind) refl)) in
     ap (λ (o : Option (List ℕ)). option_map_or (value_from row.kind row.part) o (value_of_number row.kind row.default)) (value_first 4 row.key row.element row.kind records [] r none here)
     ∙ own_fresh row.kind rows row number part few
 

@@ -4,7 +4,7 @@ use Rattle.std.specs.Prelude.{ℤ, pos, ◌*ℤ◌, Result, Ok, Err, IsErr, IfEr
 use Rattle.std.proofs.lemmas.Int.{ints}
 use Rattle.param_tree.specs.declared.Kind.{Kind}
 use Rattle.param_tree.specs.declared.Kind.TheVariants.{I8, I16, I32, F32, Vec3}
-use Rattle.param_records.specs.declared.refusal.SetError.{SetError}
+use Rattle.param_records.specs.declared.setting.SetError.{SetError}
 use Rattle.param_records.specs.Patterns.{IsWholeOf, IsNumberOf, number_of_whole}
 
 one_product : (z w : ℤ) → z *ℤ pos (2 ^ 149) ≡ w *ℤ pos (2 ^ 149) → z ≡ w

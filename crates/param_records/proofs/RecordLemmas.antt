@@ -11,16 +11,16 @@ use Rattle.std.proofs.lemmas.Bool.Decides.{nat_tests}
 use Rattle.std.proofs.lemmas.Slice.Eq.{bytes_eq-Decides}
 use Rattle.param_tree.specs.declared.Kind.{Kind}
 use Rattle.param_tree.specs.declared.Kind.TheVariants.{I8, I16, I32, F32, Vec3}
-use Rattle.param_records.specs.Records.{Record, number_of, size_of, kind_of, four_bytes, header, encoding, spelling, IsRecord, IsEnd, magic, sentinel, HasRecords, read_as, read_whole, record_at, records_in, records_of, end_of}
+use Rattle.param_records.specs.Records.{Record, size_of, kind_of, four_bytes, header, encoding, spelling, IsRecord, IsEnd, magic, sentinel, HasRecords, read_as, read_whole, record_at, records_in, records_of, end_of, type_number}
 
-pub kind_of-number : (kind : Kind) → kind_of (number_of kind) ≡ Some kind
+pub kind_of-number : (kind : Kind) → kind_of (type_number kind) ≡ Some kind
 kind_of-number I8 = refl
 kind_of-number I16 = refl
 kind_of-number I32 = refl
 kind_of-number F32 = refl
 kind_of-number Vec3 = refl
 
-pub number-low : (kind : Kind) → number_of kind < 32
+pub number-low : (kind : Kind) → type_number kind < 32
 number-low I8 = omega arith
 number-low I16 = omega arith
 number-low I32 = omega arith
@@ -31,7 +31,7 @@ number-low Vec3 = omega arith
 pub header_key : (r : Record) → IsRecord r → get_or (four_bytes (header r)) 0 0 + 256 * (get_or (four_bytes (header r)) 1 0 / 32 % 2) ≡ r.key
 header_key r h = let k = h.key in let e = h.element in let n = number-low r.kind in omega arith
 
-pub header_kind : (r : Record) → IsRecord r → get_or (four_bytes (header r)) 1 0 % 32 ≡ number_of r.kind
+pub header_kind : (r : Record) → IsRecord r → get_or (four_bytes (header r)) 1 0 % 32 ≡ type_number r.kind
 header_kind r h = let k = h.key in let e = h.element in let n = number-low r.kind in omega arith
 
 pub header_element : (r : Record) → IsRecord r → get_or (four_bytes (header r)) 1 0 / 64 + 4 * get_or (four_bytes (header r)) 2 0 + 1024 * get_or (four_bytes (header r)) 3 0 ≡ r.element
@@ -58,7 +58,7 @@ decode r more h =
     ∙ ap (λ (x : Record). Some x) made
 
 -- a number is a kind's, or none's
-pub kind_cases : (n : ℕ) → (kind_of n ≡ None) ⊎ ((kind : Kind) × (kind_of n ≡ Some kind) × (n ≡ number_of kind))
+pub kind_cases : (n : ℕ) → (kind_of n ≡ None) ⊎ ((kind : Kind) × (kind_of n ≡ Some kind) × (n ≡ type_number kind))
 kind_cases n = elim (cases_eq n 1) [
   | inl e ↦ inr (I8, ap kind_of e, e)
   | inr a ↦ elim (cases_eq n 2) [
@@ -147,7 +147,7 @@ kept_records old new rs at h k =
       place = h.place;
     }
 
-sentinel_type : (kind : Kind) → 31 ≡ number_of kind → ⊥
+sentinel_type : (kind : Kind) → 31 ≡ type_number kind → ⊥
 sentinel_type I8 e = omega arith
 sentinel_type I16 e = omega arith
 sentinel_type I32 e = omega arith

@@ -17,12 +17,13 @@ use Rattle.storage_lines.proofs.LineLemmas.{after-append}
 use Rattle.word_bits.specs.Pattern.{IsFinite}
 use Rattle.param_records.specs.declared.values.Value.{Value}
 use Rattle.param_records.specs.declared.values.Value.TheVariants.{Whole, Bits}
-use Rattle.param_records.specs.declared.refusal.SetError.{SetError}
+use Rattle.param_records.specs.declared.setting.SetError.{SetError}
 use Rattle.param_records.specs.Records.{records_of}
 use Rattle.param_records.specs.Values.{value_of_number, params_of}
 use Rattle.param_records.specs.Changes.{set_pieces, IsFull}
 use Rattle.param_records.specs.Patterns.{IsInRange, IsNumberOf, IsValueOf, number_of_whole}
-use Rattle.param_records.specs.Steps.{IsBytes, HasMagic, IsKept, SetsRow, SetsWell}
+use Rattle.param_records.specs.Steps.{HasMagic, IsKept, SetsRow, SetsWell}
+use Rattle.storage_lines.specs.Bytes.{IsBytes}
 use Rattle.param_records.proofs.OtherLemmas.{four_number}
 use Rattle.param_records.proofs.PatternLemmas.{one_number}
 use Rattle.param_records.proofs.StepLemmas.{set_steps}

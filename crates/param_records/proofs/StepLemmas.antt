@@ -15,17 +15,18 @@ use Rattle.storage_lines.specs.declared.lines.LineWrite.{LineWrite}
 use Rattle.storage_lines.specs.declared.lines.TheConstants.{STORAGE_BYTES}
 use Rattle.storage_lines.specs.declared.areas.Area.{Area}
 use Rattle.storage_lines.specs.declared.areas.Area.TheVariants.{Param}
-use Rattle.storage_lines.specs.Areas.{logical_of, place_of, parts_of as parts_in}
-use Rattle.storage_lines.specs.Lines.{after}
+use Rattle.storage_lines.specs.Areas.{logical_of, place_of, spans_of as parts_in}
+use Rattle.storage_lines.specs.Lines.{after, EachPrefix}
 use Rattle.storage_lines.specs.Laws.{EndsWithLine}
 use Rattle.storage_lines.specs.Pieces.{Piece, writes_of, writes_of_piece}
 use Rattle.storage_lines.proofs.LineLemmas.{length-after}
 use Rattle.storage_lines.proofs.SplitLemmas.{between_ends}
-use Rattle.storage_lines.proofs.PieceLemmas.{EachPrefix, prefix_nil, prefix_append}
+use Rattle.storage_lines.proofs.PrefixLemmas.{prefix_nil, prefix_append}
 use Rattle.param_records.specs.declared.records.TheConstants.{PARAM_BYTES}
 use Rattle.param_records.specs.Records.{Record, size_of, four_bytes, header, sentinel, encoding, spelling, IsRecord, magic, HasRecords, matches, records_in, records_of, value_in, place_from}
 use Rattle.param_records.specs.Values.{value_from, value_of_number, value_in_records, params_of}
 use Rattle.param_records.specs.Changes.{piece, part_size, part_bytes, overwritten, fresh, fresh_bytes, appending, set_pieces, IsFull}
+use Rattle.storage_lines.specs.Bytes.{IsBytes}
 use Rattle.param_records.specs.Steps.{records_in_storage, HasMagic, place_of_row, IsKept, torn_value, IsInOneLine, ReadsBetween, SetsRow, SetsInSteps}
 use Rattle.param_records.proofs.RecordLemmas.{with_value, records_are, end_is, all_right}
 use Rattle.param_records.proofs.PieceLemmas.{piece_prefix, param_rises, length-logical}
@@ -34,7 +35,8 @@ use Rattle.param_records.proofs.RewriteLemmas.{rewrite_prefix, rewrite_whole, va
 use Rattle.param_records.proofs.WalkLemmas.{has_records}
 use Rattle.param_records.proofs.WholeLemmas.{own_over}
 use Rattle.param_records.proofs.ValueLemmas.{First, first_at, value_none, value_first, match_kind}
-use Rattle.param_records.proofs.StoreLemmas.{get_all, in_place, set_at, set_default, set_fresh, Fits, row_is}
+use Rattle.param_records.proofs.StoreLemmas.{get_all, in_place, set_at, set_default, set_fresh, Fits, row_is, full_from}
+use Rattle.param_records.proofs.OtherAreas.{other_areas, set_pieces_fit}
 use Rattle.param_records.proofs.OtherLemmas.{other_rewritten, other_appended, own_appended, rows_apart}
 
 -- a row's value depends on the records alone
@@ -124,9 +126,15 @@ record Setting (bytes : List ℕ) (rows : List Var) (var : ℕ) (row : Var) (num
   pub kept : IsKept row.kind number
   pub room : ¬ IsFull (records_in_storage bytes) row number
 
+-- what `SetsRow` says of the parameters
+record SetsRecords (rows : List Var) (var : ℕ) (row : Var) (number : ℕ) (old : List ℕ) (writes : List LineWrite) : Type 0 where
+  pub each : (j : ℕ) → j ≤ length writes → ReadsBetween rows var row number old (after old (take j writes))
+  pub whole : HasMagic old → params_of (after old writes) row ≡ value_of_number row.kind number
+  pub new_record : HasMagic old → place_of_row old row ≡ None → number ≢ row.default → records_in_storage (after old writes) ≡ records_in_storage old ++ fresh rows row number ∷ []
+
 -- the row is set by the writes of these pieces
 abbrev SetBy : List ℕ → List Var → ℕ → Var → ℕ → List Piece → Type 0
-SetBy bytes rows var row number pieces = SetsRow rows var row number bytes (writes_of bytes pieces)
+SetBy bytes rows var row number pieces = SetsRecords rows var row number bytes (writes_of bytes pieces)
 
 -- the same records, and none for the row
 same_records : (rows : List Var) (var : ℕ) (row : Var) (number : ℕ) (old now : List ℕ) → take 4 (logical_of Param now) ≡ take 4 (logical_of Param old) → records_in_storage now ≡ records_in_storage old → place_of_row old row ≡ None →
@@ -163,7 +171,7 @@ appends bytes rows var row number end s has none other =
     let one : IsRecord r = record { key = fits.key; element = fits.element; value = value } in
     let place = has.place in
     let room : end + 8 + length r.value ≤ PARAM_BYTES = elim (cases_lt PARAM_BYTES (4 + length (spelling R) + 8 + size_of row.kind)) [
-      | inl beyond ↦ absurd (s.room (record { none = none; other = other; beyond = beyond }))
+      | inl beyond ↦ absurd (s.room (full_from (records_in_storage bytes) row number none other beyond))
       | inr inside ↦ omega arith
     ] in
     let done = append_done R end r bytes s.size has one room in
@@ -378,7 +386,7 @@ rewrites bytes rows var row number end at s has here =
     let writes : writes_of bytes (in_place row number at) ≡ ws = no_more bytes (piece (at + 4 * row.part) x) ∙ ap (λ (n : ℕ). writes_of_piece Param n x bytes) (sym place) in
     let done = rewrite_whole bytes f.front f.back r end (4 * row.part) x s.size w.has (omega arith) in
     let t = with_value r (overwritten (4 * row.part) x r.value) in
-    subst (λ (l : List LineWrite). SetsRow rows var row number bytes l) (sym writes) (record {
+    subst (λ (l : List LineWrite). SetsRecords rows var row number bytes l) (sym writes) (record {
       each = λ j h.
           let found = rewrite_prefix bytes f.front f.back r end (4 * row.part) x j s.size w.has (omega arith) h in
           let c = found.0 in
@@ -413,8 +421,9 @@ without_magic bytes rows var row number s other =
           (unread bytes rows var row number s other none)
     ]
 
-pub set_steps : SetsInSteps
-set_steps bytes rows var row number size low table is kept room =
+records_set : (bytes : List ℕ) (rows : List Var) (var : ℕ) (row : Var) (number : ℕ) → length bytes ≡ STORAGE_BYTES → IsBytes (logical_of Param bytes) → IsTable rows → slice_get rows var ≡ Some row → IsKept row.kind number →
+    ¬ IsFull (records_in_storage bytes) row number → SetBy bytes rows var row number (set_pieces rows (records_in_storage bytes) row number)
+records_set bytes rows var row number size low table is kept room =
     let L = logical_of Param bytes in
     let s : Setting bytes rows var row number = record { size = size; table = table; is = is; kept = kept; room = room } in
     elim (cases_Bool (bytes_eq (take 4 L) magic)) [
@@ -424,3 +433,14 @@ set_steps bytes rows var row number size low table is kept room =
           with_magic bytes rows var row number found.1 (place_of_row bytes row) s has refl
       | inr differ ↦ without_magic bytes rows var row number s (λ e. let holds : bytes_eq (take 4 L) magic ≡ true = (bytes_eq-Decides (take 4 L) magic).1 e in cc)
     ]
+
+pub set_steps : SetsInSteps
+set_steps bytes rows var row number size low table is kept room =
+    let set = records_set bytes rows var row number size low table is kept room in
+    let fit = set_pieces_fit rows bytes row number low (facts_of rows var row table is).fits room in
+    record {
+      each = set.each;
+      whole = set.whole;
+      new_record = set.new_record;
+      areas = other_areas bytes (set_pieces rows (records_in_storage bytes) row number) size fit;
+    }

@@ -14,11 +14,11 @@ use Rattle.std.proofs.lemmas.Slice.Eq.{bytes_eq-Decides}
 use Rattle.param_tree.specs.declared.Kind.{Kind}
 use Rattle.param_tree.specs.declared.Kind.TheVariants.{I8, I16, I32, F32, Vec3}
 use Rattle.param_records.specs.declared.values.Value.TheVariants.{Whole, Bits}
-use Rattle.param_records.specs.Records.{Record, number_of, size_of, encoding, spelling, IsRecord, magic, HasRecords, records_in, records_of, matches, value_in, place_from}
+use Rattle.param_records.specs.Records.{Record, size_of, encoding, spelling, IsRecord, magic, HasRecords, records_in, records_of, matches, value_in, place_from, type_number}
 use Rattle.param_records.specs.Values.{number_at, value_from}
 use Rattle.param_records.proofs.RecordLemmas.{records_are, all_right}
 use Rattle.param_records.proofs.RewriteLemmas.{value_at, value_fits}
-use Rattle.param_records.specs.Steps.{IsBytes}
+use Rattle.storage_lines.specs.Bytes.{IsBytes}
 use Rattle.param_records.proofs.WalkLemmas.{has_records, same_kind}
 
 -- The first record that matches, with the place of its value.
@@ -77,9 +77,9 @@ value_first start k e kind front back r none is = value_skip start k e kind fron
 -- what matches has the kind
 pub match_kind : (k e : ℕ) (kind : Kind) (r : Record) → matches k e kind r ≡ true → r.kind ≡ kind
 match_kind k e kind r is =
-    let rest = and_parts (r.key == k) ((r.element == e) && (number_of r.kind == number_of kind)) is in
-    let last = and_parts (r.element == e) (number_of r.kind == number_of kind) rest.1 in
-    same_kind r.kind kind (eqb-true (number_of r.kind) (number_of kind) last.1)
+    let rest = and_parts (r.key == k) ((r.element == e) && (type_number r.kind == type_number kind)) is in
+    let last = and_parts (r.element == e) (type_number r.kind == type_number kind) rest.1 in
+    same_kind r.kind kind (eqb-true (type_number r.kind) (type_number kind) last.1)
 
 -- bytes that have no records, or their records up to the end
 pub read_records : (L : List ℕ) → IsBytes L → (records_of L ≡ []) ⊎ ((at : ℕ) × HasRecords L (records_of L) at)

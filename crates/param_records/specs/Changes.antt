@@ -1,7 +1,7 @@
 -- The pieces of a change.
-use Rattle.std.specs.Prelude.{ℕ, ◌≡◌, ◌≢◌, ◌<◌, ◌+◌, ◌-◌, ◌*◌, ◌%◌, nat_lt, ◌==◌, List, [], ◌∷◌, ◌++◌, length, take, drop, if◌then◌else◌, All, None}
+use Rattle.std.specs.Prelude.{ℕ, ◌≡◌, Bool, not, ◌&&◌, IsTrue, ◌+◌, ◌-◌, ◌*◌, ◌%◌, nat_lt, ◌==◌, List, [], ◌∷◌, ◌++◌, length, take, drop, if◌then◌else◌, All}
 use Rattle.std.specs.List.{find}
-use Rattle.std.specs.Option.{option_map_or}
+use Rattle.std.specs.Option.{option_map_or, is_none}
 use Rattle.param_tree.specs.declared.Kind.{Kind}
 use Rattle.param_tree.specs.declared.Kind.TheVariants.{I8, I16, I32, F32, Vec3}
 use Rattle.param_tree.specs.declared.Var.{Var}
@@ -16,15 +16,18 @@ use Rattle.param_records.specs.Records.{Record, size_of, four_bytes, header, sen
 abbrev pub piece : ℕ → List ℕ → Piece
 piece at bytes = record { area = Param; at = at; bytes = bytes }
 
--- Of a header that stands in two lines, the bytes in the line with byte 1, which has the type, come last.
+-- Of a header that stands in two lines, the bytes in the line with byte 1, which has the type, come
+-- last.
 abbrev pub header_pieces : ℕ → List ℕ → List Piece
 header_pieces at head = if nat_lt (at % 8) 5 then piece at head ∷ []
     else (if at % 8 == 7 then piece at (take 1 head) ∷ piece (at + 1) (drop 1 head) ∷ []
-    else piece (at + (8 - at % 8)) (drop (8 - at % 8) head) ∷ piece at (take (8 - at % 8) head) ∷ [])
+    else piece (at + (8 - at % 8)) (drop (8 - at % 8) head)
+    ∷ piece at (take (8 - at % 8) head) ∷ [])
 
--- a record appended at a place: the sentinel behind it, its value, its header
+-- a record appended at a place: the sentinel after it, its value, its header
 abbrev pub appending : ℕ → Record → List Piece
-appending at r = piece (at + 4 + length r.value) sentinel ∷ piece (at + 4) r.value ∷ header_pieces at (four_bytes (header r))
+appending at r = piece (at + 4 + length r.value) sentinel ∷ piece (at + 4) r.value
+    ∷ header_pieces at (four_bytes (header r))
 
 -- some bytes of a value replaced, from byte k on
 abbrev pub overwritten : ℕ → List ℕ → List ℕ → List ℕ
@@ -50,35 +53,55 @@ default_at rows row p = option_map_or (λ v. v.default) (find (is_part row p) ro
 abbrev pub part_number : List Var → Var → ℕ → ℕ → ℕ
 part_number rows row number p = if row.part == p then number else default_at rows row p
 
--- the value of a new record: the number, for three floats at the row's part and beside the defaults of the other parts
+-- the value of a new record: the number, for three floats at the row's part and beside the defaults
+-- of the other parts
 abbrev pub fresh_bytes : Kind → List Var → Var → ℕ → List ℕ
-fresh_bytes Vec3 rows row number = four_bytes (part_number rows row number 0) ++ (four_bytes (part_number rows row number 1) ++ four_bytes (part_number rows row number 2))
+fresh_bytes Vec3 rows row number = four_bytes (part_number rows row number 0)
+    ++ (four_bytes (part_number rows row number 1) ++ four_bytes (part_number rows row number 2))
 fresh_bytes kind rows row number = part_bytes kind number
 
 -- a new record for the row
 abbrev pub fresh : List Var → Var → ℕ → Record
-fresh rows row number = record { key = row.key; element = row.element; kind = row.kind; value = fresh_bytes row.kind rows row number }
+fresh rows row number = record {
+  key = row.key;
+  element = row.element;
+  kind = row.kind;
+  value = fresh_bytes row.kind rows row number;
+}
 
--- The pieces that set a row: the part's bytes in the first record that matches; where there is none, nothing for the default, and else a new record.
+-- The pieces that set a row: the part's bytes in the first record that matches; where there is
+-- none, nothing for the default, and else a new record.
 abbrev pub set_pieces : List Var → List Record → Var → ℕ → List Piece
-set_pieces rows records row number = option_map_or (λ at. piece (at + 4 * row.part) (part_bytes row.kind number) ∷ [])
+set_pieces rows records row number = option_map_or
+    (λ at. piece (at + 4 * row.part) (part_bytes row.kind number) ∷ [])
     (place_from 4 row.key row.element row.kind records)
-    (if number == row.default then [] else appending (4 + length (spelling records)) (fresh rows row number))
+    (if number == row.default then []
+    else appending (4 + length (spelling records)) (fresh rows row number))
 
--- A record must be appended, and doesn't fit with the sentinel behind it: each takes four bytes beside the value.
-pub record IsFull (records : List Record) (row : Var) (number : ℕ) : Type 0 where
-  pub none : place_from 4 row.key row.element row.kind records ≡ None
-  pub other : number ≢ row.default
-  pub beyond : PARAM_BYTES < 4 + length (spelling records) + 8 + size_of row.kind
+-- A record must be appended, and doesn't fit with the sentinel after it: each takes four bytes
+-- beside the value.
+abbrev pub is_full : List Record → Var → ℕ → Bool
+is_full records row number =
+    is_none (place_from 4 row.key row.element row.kind records)
+    && (not (number == row.default)
+    && nat_lt PARAM_BYTES (4 + length (spelling records) + 8 + size_of row.kind))
+
+-- the same as a fact
+abbrev pub IsFull : List Record → Var → ℕ → Type 0
+IsFull records row number = IsTrue (is_full records row number)
 
 -- the records of the table's rows are where they were, and so is the end
-pub record StandAs (rows : List Var) (old new : List ℕ) : Type 0 where
-  pub places : All (λ row. place_from 4 row.key row.element row.kind (records_of (logical_of Param new)) ≡ place_from 4 row.key row.element row.kind (records_of (logical_of Param old))) rows
+pub record SamePlaces (rows : List Var) (old new : List ℕ) : Type 0 where
+  pub places : All (λ row.
+      place_from 4 row.key row.element row.kind (records_of (logical_of Param new))
+      ≡ place_from 4 row.key row.element row.kind (records_of (logical_of Param old))) rows
   pub end : end_of (logical_of Param new) ≡ end_of (logical_of Param old)
 
--- The storage formatted: line 1 has the value of MIS_TOTAL, which is 0, and the sentinel; then line 0 has the magic and the header of MIS_TOTAL.
+-- The storage formatted: line 1 has the value of MIS_TOTAL, which is 0, and the sentinel; then line
+-- 0 has the magic and the header of MIS_TOTAL.
 abbrev pub formatting : List Piece
-formatting = piece 8 (0 ∷ 0 ∷ 255 ∷ 255 ∷ 63 ∷ 0 ∷ 0 ∷ 0 ∷ []) ∷ piece 0 (80 ∷ 65 ∷ 6 ∷ 0 ∷ 20 ∷ 66 ∷ 0 ∷ 0 ∷ []) ∷ []
+formatting = piece 8 (0 ∷ 0 ∷ 0xFF ∷ 0xFF ∷ 0x3F ∷ 0 ∷ 0 ∷ 0 ∷ [])
+    ∷ piece 0 (0x50 ∷ 0x41 ∷ 0x06 ∷ 0 ∷ 0x14 ∷ 0x42 ∷ 0 ∷ 0 ∷ []) ∷ []
 
 -- what the storage then has: MIS_TOTAL, of key 20 and element 1, with the value 0
 abbrev pub total_zero : Record

@@ -6,7 +6,8 @@ use Rattle.std.specs.Str.{bytes_eq}
 use Rattle.param_tree.specs.declared.Kind.{Kind}
 use Rattle.param_tree.specs.declared.Kind.TheVariants.{I8, I16, I32, F32, Vec3}
 
--- A stored value: the key says which parameter or group of parameters, the element which one of a group, by its path of indices.
+-- A stored value: the key says which parameter or group of parameters, the element which one of a
+-- group, by its path of indices.
 pub record Record : Type 0 where
   pub key : ℕ
   pub element : ℕ
@@ -14,12 +15,12 @@ pub record Record : Type 0 where
   pub value : List ℕ
 
 -- the kind's type number
-abbrev pub number_of : Kind → ℕ
-number_of I8 = 1
-number_of I16 = 2
-number_of I32 = 3
-number_of F32 = 4
-number_of Vec3 = 5
+abbrev pub type_number : Kind → ℕ
+type_number I8 = 1
+type_number I16 = 2
+type_number I32 = 3
+type_number F32 = 4
+type_number Vec3 = 5
 
 -- the bytes of a value
 abbrev pub size_of : Kind → ℕ
@@ -31,15 +32,17 @@ size_of Vec3 = 12
 
 -- the kind with this type number
 abbrev pub kind_of : ℕ → Option Kind
-kind_of n = if n == 1 then Some I8 else (if n == 2 then Some I16 else (if n == 3 then Some I32 else (if n == 4 then Some F32 else (if n == 5 then Some Vec3 else None))))
+kind_of n = if n == 1 then Some I8 else (if n == 2 then Some I16 else (if n == 3 then Some I32
+    else (if n == 4 then Some F32 else (if n == 5 then Some Vec3 else None))))
 
 -- four bytes, little endian
 abbrev pub four_bytes : ℕ → List ℕ
-four_bytes n = n % 256 ∷ n / 256 % 256 ∷ n / 65536 % 256 ∷ n / 16777216 % 256 ∷ []
+four_bytes n = n % 0x100 ∷ n / 0x100 % 0x100 ∷ n / 0x1_0000 % 0x100 ∷ n / 0x100_0000 % 0x100 ∷ []
 
--- bits 0 to 7 are the key's low byte, bits 8 to 12 the type, bit 13 the key's bit 8, bits 14 to 31 the element
+-- bits 0 to 7 are the key's low byte, bits 8 to 12 the type, bit 13 the key's bit 8, bits 14 to 31
+-- the element
 abbrev pub header_of : ℕ → ℕ → Kind → ℕ
-header_of key element kind = key % 256 + 256 * number_of kind + 8192 * (key / 256) + 16384 * element
+header_of key element kind = key % 256 + 256 * type_number kind + 8192 * (key / 256) + 16384 * element
 
 -- the number that stands before the record's value
 abbrev pub header : Record → ℕ
@@ -49,27 +52,29 @@ header r = header_of r.key r.element r.kind
 abbrev pub encoding : Record → List ℕ
 encoding r = four_bytes (header r) ++ r.value
 
--- the bytes of records, one behind the other
+-- the bytes of records, one after the other
 abbrev pub spelling : List Record → List ℕ
 spelling records = flat_map encoding records
 
 -- what a header can hold, and a value of the kind's size
 pub record IsRecord (r : Record) : Type 0 where
-  pub key : r.key < 512
-  pub element : r.element < 262144
+  pub key : r.key < 0x200
+  pub element : r.element < 0x4_0000
   pub value : length r.value ≡ size_of r.kind
 
--- No record begins here: the type isn't one of the five, or its value, or the header itself, runs past the area.
+-- No record begins here: the type isn't one of the five, or its value, or the header itself, runs
+-- past the area.
 abbrev pub IsEnd : List ℕ → Type 0
-IsEnd bytes = (kind : Kind) → slice_index bytes 1 % 32 ≡ number_of kind → length bytes < 4 + size_of kind
+IsEnd bytes = (kind : Kind) → slice_index bytes 1 % 32 ≡ type_number kind
+    → length bytes < 4 + size_of kind
 
 -- what the parameter storage begins with
 abbrev pub magic : List ℕ
-magic = 80 ∷ 65 ∷ 6 ∷ 0 ∷ []
+magic = 0x50 ∷ 0x41 ∷ 0x06 ∷ 0 ∷ []
 
--- behind each record stands the sentinel
+-- after each record stands the sentinel
 abbrev pub sentinel : List ℕ
-sentinel = 255 ∷ 255 ∷ 63 ∷ 0 ∷ []
+sentinel = 0xFF ∷ 0xFF ∷ 0x3F ∷ 0 ∷ []
 
 -- The logical bytes are the magic, then these records, then an end, at this place.
 pub record HasRecords (bytes : List ℕ) (records : List Record) (at : ℕ) : Type 0 where
@@ -90,11 +95,12 @@ read_as kind bytes = record {
 
 -- the record of this kind, where the bytes have it whole
 abbrev pub read_whole : List ℕ → Kind → Option Record
-read_whole bytes kind = if nat_le (4 + size_of kind) (length bytes) then Some (read_as kind bytes) else None
+read_whole bytes kind =
+    if nat_le (4 + size_of kind) (length bytes) then Some (read_as kind bytes) else None
 
 -- a record of this key, element and kind begins the bytes
 pub record Begins (of_key of_element : ℕ) (of_kind : Kind) (bytes : List ℕ) : Type 0 where
-  pub type : slice_index bytes 1 % 32 ≡ number_of of_kind
+  pub type : slice_index bytes 1 % 32 ≡ type_number of_kind
   pub fits : 4 + size_of of_kind ≤ length bytes
   pub key : of_key ≡ (read_as of_kind bytes).key
   pub element : of_element ≡ (read_as of_kind bytes).element
@@ -106,11 +112,14 @@ record_at bytes = option_and_then (read_whole bytes) (kind_of (slice_index bytes
 -- the records up to the first end, at most n of them
 unfoldable pub records_in : ℕ → List ℕ → List Record
 records_in zero bytes = []
-records_in (suc n) bytes = option_map_or (λ r. r ∷ records_in n (drop (length (encoding r)) bytes)) (record_at bytes) []
+records_in (suc n) bytes =
+    option_map_or (λ r. r ∷ records_in n (drop (length (encoding r)) bytes)) (record_at bytes) []
 
--- The records of the parameter storage; none where it doesn't begin with the magic. They are the one list with `HasRecords` (the law `records_are_read`).
+-- The records of the parameter storage; none where it doesn't begin with the magic. They are the
+-- one list with `HasRecords` (the law `records_are_read`).
 abbrev pub records_of : List ℕ → List Record
-records_of bytes = if bytes_eq (take 4 bytes) magic then records_in (length bytes) (drop 4 bytes) else []
+records_of bytes =
+    if bytes_eq (take 4 bytes) magic then records_in (length bytes) (drop 4 bytes) else []
 
 -- the place of the first end, where the next record begins
 abbrev pub end_of : List ℕ → ℕ
@@ -118,7 +127,7 @@ end_of bytes = 4 + length (spelling (records_of bytes))
 
 -- the same kind
 abbrev pub kind_eq : Kind → Kind → Bool
-kind_eq a b = number_of a == number_of b
+kind_eq a b = type_number a == type_number b
 
 -- the record has this key, element and kind
 abbrev pub matches : ℕ → ℕ → Kind → Record → Bool
@@ -126,9 +135,11 @@ matches key element kind r = (r.key == key) && ((r.element == element) && kind_e
 
 -- the value of the first record of the key, the element and the kind
 abbrev pub value_in : ℕ → ℕ → Kind → List Record → Option (List ℕ)
-value_in key element kind records = option_map_or (λ r. Some r.value) (find (matches key element kind) records) None
+value_in key element kind records =
+    option_map_or (λ r. Some r.value) (find (matches key element kind) records) None
 
 -- the place of that value, where the first record begins at this place
 abbrev pub place_from : ℕ → ℕ → ℕ → Kind → List Record → Option ℕ
 place_from at key element kind [] = None
-place_from at key element kind (r ∷ records) = if matches key element kind r then Some (at + 4) else place_from (at + length (encoding r)) key element kind records
+place_from at key element kind (r ∷ records) = if matches key element kind r then Some (at + 4)
+    else place_from (at + length (encoding r)) key element kind records

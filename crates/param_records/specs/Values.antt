@@ -13,17 +13,20 @@ use Rattle.param_records.specs.Records.{Record, records_of, value_in}
 
 -- the number of four bytes from a place on, little endian
 abbrev pub number_at : ℕ → List ℕ → ℕ
-number_at at v = slice_index v at + 256 * slice_index v (at + 1) + 65536 * slice_index v (at + 2) + 16777216 * slice_index v (at + 3)
+number_at at v = slice_index v at + 0x100 * slice_index v (at + 1)
+    + 0x1_0000 * slice_index v (at + 2) + 0x100_0000 * slice_index v (at + 3)
 
--- the value that bytes of this kind have at a part: integers in two's complement, floats as patterns
+-- the value that bytes of this kind have at a part: integers in two's complement, floats as
+-- patterns
 abbrev pub value_from : Kind → ℕ → List ℕ → Value
 value_from I8 part v = Whole (cast_signed w8 (slice_index v 0))
-value_from I16 part v = Whole (cast_signed w16 (slice_index v 0 + 256 * slice_index v 1))
+value_from I16 part v = Whole (cast_signed w16 (slice_index v 0 + 0x100 * slice_index v 1))
 value_from I32 part v = Whole (cast_signed w32 (number_at 0 v))
 value_from F32 part v = Bits (number_at 0 v)
 value_from Vec3 part v = Bits (number_at (4 * part) v)
 
--- the value of a number of 32 bits, as the table's defaults are: a whole number in two's complement, or a float's pattern
+-- the value of a number of 32 bits, as the table's defaults are: a whole number in two's
+-- complement, or a float's pattern
 abbrev pub value_of_number : Kind → ℕ → Value
 value_of_number I8 d = Whole (cast_signed w32 d)
 value_of_number I16 d = Whole (cast_signed w32 d)
@@ -33,7 +36,8 @@ value_of_number Vec3 d = Bits d
 
 -- the row's value in these records: that of the first one that matches, else the default
 abbrev pub value_in_records : List Record → Var → Value
-value_in_records records row = option_map_or (value_from row.kind row.part) (value_in row.key row.element row.kind records) (value_of_number row.kind row.default)
+value_in_records records row = option_map_or (value_from row.kind row.part)
+    (value_in row.key row.element row.kind records) (value_of_number row.kind row.default)
 
 -- the row's value in the storage
 abbrev pub params_of : List ℕ → Var → Value

@@ -1,21 +1,20 @@
 //! Parameter records: the values that the storage has, and the line writes that change one.
 #![tactic(auto)]
 
-mod bytes;
-mod change;
+mod appending;
+mod formatting;
 mod laws;
-mod pieces;
+mod reading;
 mod records;
-mod refusal;
-mod rows;
-mod store;
+mod setting;
 mod values;
 
-pub use change::{format_batch, set, set_whole};
-pub use laws::{records_are_read, sets_in_steps};
-pub use records::{PARAM_BYTES, end_place, place};
-pub use refusal::SetError;
-pub use rows::value;
+pub use appending::{APPEND_LINES, append};
+pub use formatting::{FORMAT_LINES, format_batch};
+pub use laws::{formats_in_steps, numbers_are_kept, records_are_read, sets_in_steps};
+pub use reading::value;
+pub use records::{Lookup, MAGIC, PARAM_BYTES, end_place, has_magic, look_up, place, size_of};
+pub use setting::{SET_LINES, SetError, fresh_value, set, set_whole};
 pub use values::Value;
 
 #[cfg(test)]

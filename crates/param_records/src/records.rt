@@ -1,14 +1,31 @@
-//! The records in the parameter storage.
-ghost use Rattle.std.specs.Prelude.{◌≡◌, ◌≤◌, ◌+◌, ◌==◌, ◌&&◌, ◌↔◌, length, take, drop, IsTrue, MatchOption, MatchResult};
+//! The records in the parameter storage, one after the other from logical place 4 on, up to the
+//! first end.
+ghost use Rattle.std.specs.Prelude.{◌≡◌, ◌≤◌, ◌+◌, ◌==◌, ◌&&◌, ◌↔◌, length, take, drop, IsTrue, MatchOption};
 ghost use Rattle.storage_lines.specs.Areas.{logical_of};
 ghost use Rattle.storage_lines.specs.declared.areas.Area.TheVariants.{Param};
-ghost use Rattle.param_records.specs.Records.{number_of, size_of, kind_of, IsEnd, magic, Begins, records_of, end_of, place_from, kind_eq};
+ghost use Rattle.param_records.specs.Lookups.{IsLookup};
+ghost use Rattle.param_records.specs.Records.{size_of, kind_of, IsEnd, magic, Begins, records_of, end_of, place_from, kind_eq, type_number};
 
 use param_tree::Kind;
 use storage_lines::{Area, STORAGE_BYTES, read};
 
 /// The bytes of the parameter storage.
 pub const PARAM_BYTES: usize = 9728;
+
+/// What the parameter storage begins with.
+pub const MAGIC: [u8; 4] = *b"PA\x06\0";
+
+/// Where the first record begins.
+const FIRST: u16 = 4;
+
+/// What the look-up of a record gives.
+#[derive(Clone, Copy, Debug, PartialEq, Eq, Drop)]
+pub enum Lookup {
+    /// The logical place of the value of the first record that matches.
+    At(u16),
+    /// No record matches: the logical place of the first end, where the next record begins.
+    End(u16),
+}
 
 /// What stands before a value.
 #[derive(Clone, Copy)]
@@ -20,7 +37,7 @@ pub struct Header {
 
 /// The kind's type number.
 pub fn type_of(kind: Kind) -> u8
-    ensures number { result ≡ number_of kind }
+    ensures number { result ≡ type_number kind }
 {
     match kind {
         Kind::I8 => 1,
@@ -69,19 +86,21 @@ pub fn four_at(current: &[u8], at: usize) -> [u8; 4]
     bytes
 }
 
-/// Whether the storage begins with the magic, `50 41 06 00`.
+/// Whether the parameter storage begins with the magic, `50 41 06 00`; where it doesn't it has no
+/// records.
 pub fn has_magic(current: &[u8]) -> bool
     requires { length current.now ≡ STORAGE_BYTES }
     ensures { IsTrue result ↔ (take 4 (logical_of Param current.now) ≡ magic) }
 {
-    four_at(current, 0) == [80, 65, 6, 0]
+    four_at(current, 0) == MAGIC
 }
 
 /// The record that begins at a place, or None at an end.
 fn header_at(current: &[u8], at: usize) -> Option<Header>
     requires size { length current.now ≡ STORAGE_BYTES }
     requires inside { at ≤ PARAM_BYTES }
-    ensures { let bytes = drop at (logical_of Param current.now) in MatchOption result (IsEnd bytes) (λ h. Begins h.key h.element h.kind bytes) }
+    ensures { let bytes = drop at (logical_of Param current.now) in
+        MatchOption result (IsEnd bytes) (λ h. Begins h.key h.element h.kind bytes) }
 {
     if at > PARAM_BYTES - 4 {
         return None;
@@ -92,36 +111,36 @@ fn header_at(current: &[u8], at: usize) -> Option<Header>
         return None;
     }
     Some(Header {
-        key: bytes[0] as u16 + 256 * (bytes[1] / 32 % 2) as u16,
-        element: (bytes[1] / 64) as u32 + 4 * bytes[2] as u32 + 1024 * bytes[3] as u32,
+        key: bytes[0] as u16 + 0x100 * (bytes[1] / 32 % 2) as u16,
+        element: (bytes[1] / 64) as u32 + 4 * bytes[2] as u32 + 0x400 * bytes[3] as u32,
         kind,
     })
 }
 
 /// Whether a record with this header is the one that is looked for.
 fn is_match(header: &Header, key: u16, element: u32, kind: Kind) -> bool
-    ensures { result ≡ ((header.now.key == key) && ((header.now.element == element) && kind_eq header.now.kind kind)) }
+    ensures { result ≡ ((header.now.key == key)
+        && ((header.now.element == element) && kind_eq header.now.kind kind)) }
 {
     header.key == key && header.element == element && type_of(header.kind) == type_of(kind)
 }
 
-/// The logical place of the value of the first record that matches; where none does, the place of the first end as an `Err`.
-pub fn search(current: &[u8], key: u16, element: u32, kind: Kind) -> Result<u16, u16>
+/// Looks for the first record of this key, element and kind.
+pub fn look_up(current: &[u8], key: u16, element: u32, kind: Kind) -> Lookup
     requires { length current.now ≡ STORAGE_BYTES }
-    ensures { let bytes = logical_of Param current.now in let at = place_from 4 key element kind (records_of bytes) in
-        MatchResult result (λ found. at ≡ Some found) (λ end. (at ≡ None) × (end ≡ end_of bytes)) }
+    ensures { IsLookup (logical_of Param current.now) key element kind result }
 {
     if !has_magic(current) {
-        return Err(4);
+        return Lookup::End(FIRST);
     }
-    let mut at = 4;
+    let mut at = FIRST as usize;
     while let Some(header) = header_at(current, at) {
         if is_match(&header, key, element, kind) {
-            return Ok((at + 4) as u16);
+            return Lookup::At((at + 4) as u16);
         }
         at += 4 + size_of(header.kind);
     }
-    Err(at as u16)
+    Lookup::End(at as u16)
 }
 
 /// The logical place of the value of the first record of this key, element and kind.
@@ -129,7 +148,10 @@ pub fn place(current: &[u8], key: u16, element: u32, kind: Kind) -> Option<u16>
     requires { length current.now ≡ STORAGE_BYTES }
     ensures { result ≡ place_from 4 key element kind (records_of (logical_of Param current.now)) }
 {
-    search(current, key, element, kind).ok()
+    match look_up(current, key, element, kind) {
+        Lookup::At(at) => Some(at),
+        Lookup::End(_) => None,
+    }
 }
 
 /// The logical place of the first end: where the next record begins.
@@ -138,9 +160,9 @@ pub fn end_place(current: &[u8]) -> u16
     ensures { result ≡ end_of (logical_of Param current.now) }
 {
     if !has_magic(current) {
-        return 4;
+        return FIRST;
     }
-    let mut at = 4;
+    let mut at = FIRST as usize;
     while let Some(header) = header_at(current, at) {
         at += 4 + size_of(header.kind);
     }

@@ -6,7 +6,7 @@ use Rattle.std.proofs.lemmas.Bool.Decides.{nat_tests}
 use Rattle.storage_lines.specs.declared.lines.TheConstants.{STORAGE_BYTES, LINES}
 use Rattle.storage_lines.specs.declared.areas.Area.{Area}
 use Rattle.storage_lines.specs.declared.areas.Area.TheVariants.{Param, Mission, Rally, Fence, Keys, Bind}
-use Rattle.storage_lines.specs.Areas.{parts_of, size_of_area, place_of, IsAscending}
+use Rattle.storage_lines.specs.Areas.{spans_of, size_of_area, place_of, IsAscending}
 use Rattle.storage_lines.specs.Lines.{after, changes}
 use Rattle.storage_lines.specs.Laws.{UpToLine}
 use Rattle.storage_lines.proofs.AreaLemmas.{place_cases}
@@ -28,27 +28,27 @@ number Bind = 5
 
 owner_of : (a : Area) (i : ℕ) → i < size_of_area a → owner (place_of a i) ≡ number a
 unfolding owner number
-owner_of Param i h = elim (place_cases (parts_of Param) i) [
+owner_of Param i h = elim (place_cases (spans_of Param) i) [
   | inl a ↦ grind (arith, nat_tests)
   | inr x ↦ elim x [ inl a ↦ grind (arith, nat_tests) | inr a ↦ grind (arith, nat_tests) ]
 ]
-owner_of Mission i h = elim (place_cases (parts_of Mission) i) [
+owner_of Mission i h = elim (place_cases (spans_of Mission) i) [
   | inl a ↦ grind (arith, nat_tests)
   | inr x ↦ elim x [ inl a ↦ grind (arith, nat_tests) | inr a ↦ grind (arith, nat_tests) ]
 ]
-owner_of Rally i h = elim (place_cases (parts_of Rally) i) [
+owner_of Rally i h = elim (place_cases (spans_of Rally) i) [
   | inl a ↦ grind (arith, nat_tests)
   | inr x ↦ elim x [ inl a ↦ grind (arith, nat_tests) | inr a ↦ grind (arith, nat_tests) ]
 ]
-owner_of Fence i h = elim (place_cases (parts_of Fence) i) [
+owner_of Fence i h = elim (place_cases (spans_of Fence) i) [
   | inl a ↦ grind (arith, nat_tests)
   | inr x ↦ elim x [ inl a ↦ grind (arith, nat_tests) | inr a ↦ grind (arith, nat_tests) ]
 ]
-owner_of Keys i h = elim (place_cases (parts_of Keys) i) [
+owner_of Keys i h = elim (place_cases (spans_of Keys) i) [
   | inl a ↦ grind (arith, nat_tests)
   | inr x ↦ elim x [ inl a ↦ grind (arith, nat_tests) | inr a ↦ grind (arith, nat_tests) ]
 ]
-owner_of Bind i h = elim (place_cases (parts_of Bind) i) [
+owner_of Bind i h = elim (place_cases (spans_of Bind) i) [
   | inl a ↦ grind (arith, nat_tests)
   | inr x ↦ elim x [ inl a ↦ grind (arith, nat_tests) | inr a ↦ grind (arith, nat_tests) ]
 ]
@@ -65,7 +65,7 @@ area_back Fence = refl
 area_back Keys = refl
 area_back Bind = refl
 
-pub ascending : (a : Area) → IsAscending (parts_of a)
+pub ascending : (a : Area) → IsAscending (spans_of a)
 ascending Param = record { first = omega arith; second = omega arith; third = omega arith }
 ascending Mission = record { first = omega arith; second = omega arith; third = omega arith }
 ascending Rally = record { first = omega arith; second = omega arith; third = omega arith }
@@ -79,7 +79,7 @@ areas_apart a b i j h g e =
     let same : a ≡ b = sym (area_back a) ∙ ap area_at numbers ∙ area_back b in
     let place : place_of a i ≡ place_of a j = e ∙ ap (λ (x : Area). place_of x j) (sym same) in
     let few : j < size_of_area a = let sizes : size_of_area a ≡ size_of_area b = ap (λ (x : Area). size_of_area x) same in omega arith in
-    (same, place_same (parts_of a) i j (ascending a) h few place)
+    (same, place_same (spans_of a) i j (ascending a) h few place)
 
 pub whole_changes : (old new : List ℕ) → length old ≡ STORAGE_BYTES → length new ≡ STORAGE_BYTES → after old (changes old new) ≡ new
 whole_changes old new size size' =

@@ -1,6 +1,9 @@
 pub mod Listed
 pub mod AreaLemmas
 pub mod LineLemmas
+pub mod PrefixLemmas
 pub mod SplitLemmas
 pub mod ApartLemmas
 pub mod PieceLemmas
+pub mod ByteLemmas
+pub mod NumberLemmas

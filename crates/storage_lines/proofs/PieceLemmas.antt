@@ -1,28 +1,27 @@
 -- What the first writes of a piece leave of the areas' bytes.
-use Rattle.std.proofs.Common.{◌≡◌, ◌≢◌, inl, inr, ℕ, zero, suc, ◌+◌, ◌-◌, ◌*◌, ◌<◌, ◌≤◌, List, [], ◌∷◌, ◌++◌, length, get_or, take, drop, sym, ◌∙◌, ap, subst, arith}
-use Rattle.std.proofs.lemmas.List.{take_all, take-append-le, get_or_past, get_or-take, get_or-drop, length-append, length-take, length-drop, ext_get_or}
+use Rattle.std.proofs.Common.{◌≡◌, ◌≢◌, inl, inr, ℕ, zero, suc, ◌+◌, ◌-◌, ◌*◌, ◌<◌, ◌≤◌, List, length, get_or, take, drop, sym, ◌∙◌, ap, subst, arith}
+use Rattle.std.proofs.lemmas.List.{get_or_past, get_or-take, get_or-drop, length-take, length-drop, ext_get_or}
 use Rattle.std.proofs.lemmas.Bool.{cases_lt, cases_order}
-use Rattle.storage_lines.specs.declared.areas.Parts.{Parts}
+use Rattle.storage_lines.specs.declared.areas.Spans.{Spans}
 use Rattle.storage_lines.specs.declared.areas.Area.{Area}
-use Rattle.storage_lines.specs.declared.lines.LineWrite.{LineWrite}
 use Rattle.storage_lines.specs.declared.lines.TheConstants.{STORAGE_BYTES, LINES}
-use Rattle.storage_lines.specs.Areas.{size_of, size_of_area, place_in, place_of, put_in, parts_of, logical_of, IsAscending}
+use Rattle.storage_lines.specs.Areas.{total_size, size_of_area, place_in, place_of, put_in, spans_of, logical_of, IsAscending}
 use Rattle.storage_lines.specs.Lines.{after}
 use Rattle.storage_lines.specs.Pieces.{writes_of_piece}
 use Rattle.storage_lines.specs.Laws.{HasPut, EndsWithLine, PiecesInSteps}
 use Rattle.storage_lines.proofs.Listed.{length-listed, get_or-listed}
 use Rattle.storage_lines.proofs.AreaLemmas.{place_rises, place_inside, put_in-at, put_in-other}
-use Rattle.storage_lines.proofs.LineLemmas.{IsMixed, mixed_prefix, mixed_all, length-after, after-append}
+use Rattle.storage_lines.proofs.LineLemmas.{IsMixed, mixed_prefix, mixed_all}
 use Rattle.storage_lines.proofs.SplitLemmas.{place_same}
 use Rattle.storage_lines.proofs.ApartLemmas.{ascending, areas_apart}
 
 -- where the places of n bytes cross a border
-pub record Cut (p : Parts) (at n border c : ℕ) : Type 0 where
+pub record Cut (p : Spans) (at n border c : ℕ) : Type 0 where
   pub few : c ≤ n
   pub below : (i : ℕ) → i < c → place_in p (at + i) < border
   pub above : (i : ℕ) → c ≤ i → i < n → border ≤ place_in p (at + i)
 
-pub cut : (p : Parts) (at n border : ℕ) → IsAscending p → at + n ≤ size_of p → (c : ℕ) × Cut p at n border c
+pub cut : (p : Spans) (at n border : ℕ) → IsAscending p → at + n ≤ total_size p → (c : ℕ) × Cut p at n border c
 cut p at zero border up fits = (0, record { few = omega arith; below = λ i h. absurd (omega arith); above = λ i h g. absurd (omega arith) })
 cut p at (suc n) border up fits = elim (cases_lt (place_in p (at + n)) border) [
   | inl below ↦ (
@@ -66,17 +65,17 @@ area_bytes a b xs at n fits size each =
     (λ i h. let few : i < n = omega arith in each i few ∙ sym (get_or-area a b (at + i) (omega arith)) ∙ sym (get_or-drop at L i 0) ∙ sym (get_or-take n (drop at L) i 0 few))
 
 -- a byte that no byte of the piece is at, after some of the piece's writes
-mixed_other : (p : Parts) (at : ℕ) (new old now : List ℕ) (m k : ℕ) → k < length old → IsMixed m old (put_in p at new old) now → ((j : ℕ) → j < length new → place_in p (at + j) ≢ k) → get_or now k 0 ≡ get_or old k 0
+mixed_other : (p : Spans) (at : ℕ) (new old now : List ℕ) (m k : ℕ) → k < length old → IsMixed m old (put_in p at new old) now → ((j : ℕ) → j < length new → place_in p (at + j) ≢ k) → get_or now k 0 ≡ get_or old k 0
 mixed_other p at new old now m k inside mix other = elim (cases_lt k (8 * m)) [
   | inl below ↦ mix.front k below inside ∙ put_in-other p at new old k 0 other
   | inr above ↦ mix.back k above inside
 ]
 
 -- new before a border and old from it on: some first bytes of the piece are there
-pub mixed_piece : (a : Area) (at : ℕ) (new old now : List ℕ) (m : ℕ) → length old ≡ STORAGE_BYTES → at + length new ≤ size_of_area a → IsMixed m old (put_in (parts_of a) at new old) now →
-    (c : ℕ) × Cut (parts_of a) at (length new) (8 * m) c × HasPut at new c (logical_of a old) (logical_of a now)
+pub mixed_piece : (a : Area) (at : ℕ) (new old now : List ℕ) (m : ℕ) → length old ≡ STORAGE_BYTES → at + length new ≤ size_of_area a → IsMixed m old (put_in (spans_of a) at new old) now →
+    (c : ℕ) × Cut (spans_of a) at (length new) (8 * m) c × HasPut at new c (logical_of a old) (logical_of a now)
 mixed_piece a at new old now m size fits mix =
-    let p = parts_of a in
+    let p = spans_of a in
     let up = ascending a in
     let found = cut p at (length new) (8 * m) up fits in
     let c = found.0 in
@@ -110,26 +109,26 @@ mixed_piece a at new old now m size fits mix =
 
 -- After each prefix of a piece's writes some first bytes of the piece are there: all of them after the last write.
 pub area_prefix : (a : Area) (at : ℕ) (new old : List ℕ) (j : ℕ) → length old ≡ STORAGE_BYTES → at + length new ≤ size_of_area a → j ≤ length (writes_of_piece a at new old) →
-    (m : ℕ) × (c : ℕ) × Cut (parts_of a) at (length new) (8 * m) c × HasPut at new c (logical_of a old) (logical_of a (after old (take j (writes_of_piece a at new old))))
+    (m : ℕ) × (c : ℕ) × Cut (spans_of a) at (length new) (8 * m) c × HasPut at new c (logical_of a old) (logical_of a (after old (take j (writes_of_piece a at new old))))
 area_prefix a at new old j size fits h =
-    let found = mixed_prefix LINES old (put_in (parts_of a) at new old) j (omega arith) h in
+    let found = mixed_prefix LINES old (put_in (spans_of a) at new old) j (omega arith) h in
     let piece = mixed_piece a at new old (after old (take j (writes_of_piece a at new old))) found.0 size fits found.2 in
     (found.0, piece.0, piece.1, piece.2)
 
 pub area_whole : (a : Area) (at : ℕ) (new old : List ℕ) → length old ≡ STORAGE_BYTES → at + length new ≤ size_of_area a →
     HasPut at new (length new) (logical_of a old) (logical_of a (after old (writes_of_piece a at new old)))
 area_whole a at new old size fits =
-    let piece = mixed_piece a at new old (after old (writes_of_piece a at new old)) LINES size fits (mixed_all LINES old (put_in (parts_of a) at new old) (omega arith)) in
+    let piece = mixed_piece a at new old (after old (writes_of_piece a at new old)) LINES size fits (mixed_all LINES old (put_in (spans_of a) at new old) (omega arith)) in
     let k = piece.1 in
     let few = k.few in
     let all : piece.0 ≡ length new = elim (cases_lt piece.0 (length new)) [
-      | inl less ↦ absurd (omega (arith, k.above piece.0 (omega arith) less, place_inside (parts_of a) (at + piece.0) (ascending a) (omega arith)))
+      | inl less ↦ absurd (omega (arith, k.above piece.0 (omega arith) less, place_inside (spans_of a) (at + piece.0) (ascending a) (omega arith)))
       | inr same ↦ omega arith
     ] in
     subst (λ (c : ℕ). HasPut at new c (logical_of a old) (logical_of a (after old (writes_of_piece a at new old)))) all piece.2
 
 -- where a piece is cut, a line ends
-pub ends_with_line : (a : Area) (at n m c : ℕ) → Cut (parts_of a) at n (8 * m) c → EndsWithLine a at n c
+pub ends_with_line : (a : Area) (at n m c : ℕ) → Cut (spans_of a) at n (8 * m) c → EndsWithLine a at n c
 ends_with_line a at n m c k = let few = k.few in elim (cases_order c 0) [
   | inl none ↦ inl none
   | inr x ↦ elim x [
@@ -150,13 +149,13 @@ other_area : (a other : Area) (at : ℕ) (new old : List ℕ) (j : ℕ) → a �
     logical_of other (after old (take j (writes_of_piece a at new old))) ≡ logical_of other old
 other_area a other at new old j apart size fits h =
     let now = after old (take j (writes_of_piece a at new old)) in
-    let found = mixed_prefix LINES old (put_in (parts_of a) at new old) j (omega arith) h in
+    let found = mixed_prefix LINES old (put_in (spans_of a) at new old) j (omega arith) h in
     ext_get_or 0 (logical_of other now) (logical_of other old) (length-area other now ∙ sym (length-area other old))
     (λ i l.
     let inside : i < size_of_area other = omega (arith, length-area other now) in
-    let place = place_inside (parts_of other) i (ascending other) inside in
+    let place = place_inside (spans_of other) i (ascending other) inside in
     get_or-area other now i inside
-    ∙ mixed_other (parts_of a) at new old now found.0 (place_of other i) (omega arith) found.2 (λ k g (e : place_of a (at + k) ≡ place_of other i). apart (areas_apart a other (at + k) i (omega arith) inside e).0)
+    ∙ mixed_other (spans_of a) at new old now found.0 (place_of other i) (omega arith) found.2 (λ k g (e : place_of a (at + k) ≡ place_of other i). apart (areas_apart a other (at + k) i (omega arith) inside e).0)
     ∙ sym (get_or-area other old i inside))
 
 pub pieces_in_steps : PiecesInSteps
@@ -165,27 +164,3 @@ pieces_in_steps = record {
   whole = area_whole;
   others = other_area;
 }
-
--- a property after each prefix of some writes
-abbrev pub EachPrefix : (List ℕ → Type 0) → List ℕ → List LineWrite → Type 0
-EachPrefix P bytes writes = (j : ℕ) → j ≤ length writes → P (after bytes (take j writes))
-
-pub take_over : {X : Type 0} (xs ys : List X) (j k : ℕ) → j ≡ length xs + k → take j (xs ++ ys) ≡ xs ++ take k ys
-take_over [] ys j k e = let same : j ≡ k = omega arith in ap (λ (n : ℕ). take n ys) same
-take_over (x ∷ xs) ys zero k e = absurd (omega arith)
-take_over {X} (x ∷ xs) ys (suc j) k e = ap (λ (l : List X). x ∷ l) (take_over xs ys j k (omega arith))
-
-pub prefix_append : (P : List ℕ → Type 0) (bytes : List ℕ) (xs ys : List LineWrite) → EachPrefix P bytes xs → EachPrefix P (after bytes xs) ys → EachPrefix P bytes (xs ++ ys)
-prefix_append P bytes xs ys first then j h = elim (cases_lt (length xs) j) [
-  | inl more ↦
-      let k = j - length xs in
-      let whole : after bytes (take j (xs ++ ys)) ≡ after (after bytes xs) (take k ys) = ap (λ (l : List LineWrite). after bytes l) (take_over xs ys j k (omega arith)) ∙ after-append bytes xs (take k ys) in
-      subst P (sym whole) (then k (omega (arith, length-append xs ys)))
-  | inr within ↦ subst (λ (l : List LineWrite). P (after bytes l)) (sym (take-append-le j xs ys within)) (first j within)
-]
-
-pub prefix_weaker : (P Q : List ℕ → Type 0) (bytes : List ℕ) (xs : List LineWrite) → ((b : List ℕ) → length b ≡ length bytes → P b → Q b) → EachPrefix P bytes xs → EachPrefix Q bytes xs
-prefix_weaker P Q bytes xs weaker each j h = weaker (after bytes (take j xs)) (length-after bytes (take j xs)) (each j h)
-
-pub prefix_nil : (P : List ℕ → Type 0) (bytes : List ℕ) → P bytes → EachPrefix P bytes []
-prefix_nil P bytes h j l = subst (λ (ws : List LineWrite). P (after bytes ws)) (sym (take_all j [] (omega arith))) h

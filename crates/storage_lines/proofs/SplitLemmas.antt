@@ -4,15 +4,15 @@ use Rattle.std.proofs.lemmas.List.{take_more, ext_get_or, length-append, append-
 use Rattle.std.proofs.lemmas.Slice.Eq.{bytes_eq-Decides}
 use Rattle.std.specs.Str.{bytes_eq}
 use Rattle.std.proofs.lemmas.Bool.{cases_order}
-use Rattle.storage_lines.specs.declared.lines.TheConstants.{STORAGE_BYTES, LINES}
-use Rattle.storage_lines.specs.declared.areas.Parts.{Parts}
+use Rattle.storage_lines.specs.declared.lines.TheConstants.{STORAGE_BYTES, LINES, BATCH_LINES}
+use Rattle.storage_lines.specs.declared.areas.Spans.{Spans}
 use Rattle.storage_lines.specs.declared.lines.LineWrite.{LineWrite}
-use Rattle.storage_lines.specs.Areas.{size_of, place_in, put_in, IsAscending}
+use Rattle.storage_lines.specs.Areas.{total_size, place_in, put_in, IsAscending}
 use Rattle.storage_lines.specs.Lines.{after, line_of, changes_below, changes}
 use Rattle.storage_lines.proofs.AreaLemmas.{place_rises, place_inside, put_in-other, length-put_in}
 use Rattle.storage_lines.proofs.LineLemmas.{length-after, length-line_of, get_or-line_of, same_line, line_cases, after-append, line_put, line_kept, no_changes, changes_more, changes_grow}
 
-pub place_same : (p : Parts) (i j : ℕ) → IsAscending p → i < size_of p → j < size_of p → place_in p i ≡ place_in p j → i ≡ j
+pub place_same : (p : Spans) (i j : ℕ) → IsAscending p → i < total_size p → j < total_size p → place_in p i ≡ place_in p j → i ≡ j
 place_same p i j up h g e = elim (cases_order i j) [
   | inl same ↦ same
   | inr x ↦ elim x [
@@ -44,12 +44,12 @@ pub line_has : (b bytes : List ℕ) (n : ℕ) → line_of b n ≡ bytes → (k :
 line_has b bytes n e k h = sym (get_or-line_of b n k 0 h) ∙ ap (λ (l : List ℕ). get_or l k 0) e
 
 -- a line on which no byte of the piece lies
-pub line_untouched : (p : Parts) (at : ℕ) (new b : List ℕ) (n : ℕ) → 8 * n + 8 ≤ length b → ((i : ℕ) → i < length new → place_in p (at + i) / 8 ≢ n) → line_of b n ≡ line_of (put_in p at new b) n
+pub line_untouched : (p : Spans) (at : ℕ) (new b : List ℕ) (n : ℕ) → 8 * n + 8 ≤ length b → ((i : ℕ) → i < length new → place_in p (at + i) / 8 ≢ n) → line_of b n ≡ line_of (put_in p at new b) n
 line_untouched p at new b n fits none = same_line b (put_in p at new b) n fits (omega (arith, length-put_in p at new b))
     (λ j h. sym (put_in-other p at new b (8 * n + j) 0 (λ i few e. none i few (omega arith))))
 
 -- a place of the piece lies between its first and its last
-pub between_ends : (p : Parts) (at n i : ℕ) → IsAscending p → at + n ≤ size_of p → i < n → (place_in p at ≤ place_in p (at + i)) × (place_in p (at + i) ≤ place_in p (at + n - 1))
+pub between_ends : (p : Spans) (at n i : ℕ) → IsAscending p → at + n ≤ total_size p → i < n → (place_in p at ≤ place_in p (at + i)) × (place_in p (at + i) ≤ place_in p (at + n - 1))
 between_ends p at n i up fits h = (
   elim (cases_order 0 i) [
     | inl e ↦ let same : at ≡ at + i = omega arith in let f : place_in p at ≡ place_in p (at + i) = ap (λ (k : ℕ). place_in p k) same in omega arith
@@ -66,7 +66,7 @@ unfolding changes_below
 no_lines a c = refl
 
 -- no writes before the first touched line, and none behind the last
-pub changes_before : (p : Parts) (at : ℕ) (new b : List ℕ) (first : ℕ) → IsAscending p → length b ≡ STORAGE_BYTES → at + length new ≤ size_of p → 0 < length new → first ≡ place_in p at / 8 →
+pub changes_before : (p : Spans) (at : ℕ) (new b : List ℕ) (first : ℕ) → IsAscending p → length b ≡ STORAGE_BYTES → at + length new ≤ total_size p → 0 < length new → first ≡ place_in p at / 8 →
     changes_below first b (put_in p at new b) ≡ []
 changes_before p at new b first up size fits some is =
     let inside = place_inside p at up (omega arith) in
@@ -74,7 +74,7 @@ changes_before p at new b first up size fits some is =
     let start : 0 + first ≡ first = omega arith in
     ap (λ (k : ℕ). changes_below k b (put_in p at new b)) (sym start) ∙ none ∙ no_lines b (put_in p at new b)
 
-pub changes_behind : (p : Parts) (at : ℕ) (new b : List ℕ) (last : ℕ) → IsAscending p → length b ≡ STORAGE_BYTES → at + length new ≤ size_of p → 0 < length new → last ≡ place_in p (at + length new - 1) / 8 →
+pub changes_behind : (p : Spans) (at : ℕ) (new b : List ℕ) (last : ℕ) → IsAscending p → length b ≡ STORAGE_BYTES → at + length new ≤ total_size p → 0 < length new → last ≡ place_in p (at + length new - 1) / 8 →
     changes b (put_in p at new b) ≡ changes_below (last + 1) b (put_in p at new b)
 changes_behind p at new b last up size fits some is =
     let inside = place_inside p (at + length new - 1) up (omega arith) in
@@ -104,7 +104,7 @@ unchanged_more n old new before bytes ws vs b a same equal is =
 
 -- one more line that changes makes more than a full batch
 pub too_many : (n : ℕ) (old new before bytes : List ℕ) (ws : List LineWrite) → n < LINES → before ≡ line_of old n → line_of new n ≡ bytes → ws ≡ changes_below n old new →
-    bytes_eq bytes before ≡ false → length ws ≡ 64 → 64 < length (changes old new)
+    bytes_eq bytes before ≡ false → length ws ≡ BATCH_LINES → BATCH_LINES < length (changes old new)
 too_many n old new before bytes ws inside b a same differ full =
     let w : LineWrite = record { line = n; bytes = bytes } in
     let more : ws ++ w ∷ [] ≡ changes_below (n + 1) old new = changed_more n old new before bytes ws (ws ++ w ∷ []) b a same differ refl in
@@ -114,7 +114,7 @@ too_many n old new before bytes ws inside b a same differ full =
     let sum : length (ws ++ w ∷ []) ≡ length (changes_below (n + 1) old new) = ap (λ (l : List LineWrite). length l) more in
     omega (arith, length-append ws (w ∷ []))
 
-pub no_piece : (p : Parts) (at : ℕ) (new b : List ℕ) → length new ≡ 0 → changes b (put_in p at new b) ≡ []
+pub no_piece : (p : Spans) (at : ℕ) (new b : List ℕ) → length new ≡ 0 → changes b (put_in p at new b) ≡ []
 no_piece p at new b none =
     let empty : put_in p at new b ≡ b = ap (λ (l : List ℕ). put_in p at l b) (nil_from_length new none) in
     ap (λ (l : List ℕ). changes b l) empty ∙ no_changes 0 LINES b b (λ n h g. refl) ∙ no_lines b b

@@ -1,3 +1,5 @@
+pub mod Bytes
+pub mod Numbers
 pub mod Areas
 pub mod Lines
 pub mod Pieces

@@ -1,162 +1,126 @@
-//! The areas of the storage.
+//! Six areas share the storage; each has up to three spans of bytes, in the order of its places.
 ghost use Rattle.std.specs.Prelude.{◌≡◌, ◌≢◌, ◌<◌, ◌≤◌, ◌+◌, ℕ, MatchOption};
-ghost use Rattle.storage_lines.specs.Areas.{parts_of, size_of, place_in, IsAscending};
+ghost use Rattle.storage_lines.specs.Areas.{span, spans, spans_of, total_size, place_in, IsAscending};
 
 use crate::lines::STORAGE_BYTES;
 
-/// What a part of the storage is for.
+/// What a region of the storage is for.
 #[derive(Clone, Copy, Debug, PartialEq, Eq, Drop)]
 pub enum Area {
+    /// Parameters: 9,728 bytes.
     Param,
+    /// The mission's commands: 4,638 bytes.
     Mission,
+    /// Rally points: 450 bytes.
     Rally,
+    /// The fence: 416 bytes.
     Fence,
+    /// The key and time stamp of signed frames: 64 bytes.
     Keys,
+    /// What a radio was bound to: 56 bytes.
     Bind,
 }
 
-/// A run of bytes.
+/// A run of bytes of the storage.
 #[derive(Clone, Copy)]
-pub struct Part {
+pub struct Span {
     pub start: u16,
     pub size: u16,
 }
 
-/// The runs of bytes that an area has, in the order of their logical places; an area that has fewer ends with empty ones.
+/// The spans of an area, in the order of its places; an area that has fewer ends with empty ones.
 #[derive(Clone, Copy)]
-pub struct Parts {
-    pub first: Part,
-    pub second: Part,
-    pub third: Part,
+pub struct Spans {
+    pub first: Span,
+    pub second: Span,
+    pub third: Span,
 }
 
-/// Where the area's bytes lie.
-pub fn parts_of(area: Area) -> Parts
-    ensures parts { result ≡ parts_of area }
+const fn span_at(start: u16, size: u16) -> Span
+    ensures { result ≡ span start size }
+{
+    Span { start, size }
+}
+
+const fn chain(first: Span, second: Span, third: Span) -> Spans
+    ensures { result ≡ spans first second third }
+{
+    Spans {
+        first,
+        second,
+        third,
+    }
+}
+
+/// Where the area's bytes lie. Places 8,184 to 8,191 belong to no area.
+pub fn spans_of(area: Area) -> Spans
+    ensures spans { result ≡ spans_of area }
     ensures ascending { IsAscending result }
 {
-    let none = Part {
-        start: STORAGE_BYTES as u16,
-        size: 0,
-    };
+    let none = span_at(STORAGE_BYTES as u16, 0);
     match area {
-        Area::Param => Parts {
-            first: Part {
-                start: 0,
-                size: 1280,
-            },
-            second: Part {
-                start: 4096,
-                size: 1280,
-            },
-            third: Part {
-                start: 8192,
-                size: 7168,
-            },
-        },
-        Area::Mission => Parts {
-            first: Part {
-                start: 1280,
-                size: 2506,
-            },
-            second: Part {
-                start: 5932,
-                size: 2132,
-            },
-            third: none,
-        },
-        Area::Rally => Parts {
-            first: Part {
-                start: 3786,
-                size: 150,
-            },
-            second: Part {
-                start: 5376,
-                size: 300,
-            },
-            third: none,
-        },
-        Area::Fence => Parts {
-            first: Part {
-                start: 3936,
-                size: 160,
-            },
-            second: Part {
-                start: 5676,
-                size: 256,
-            },
-            third: none,
-        },
-        Area::Keys => Parts {
-            first: Part {
-                start: 8064,
-                size: 64,
-            },
-            second: none,
-            third: none,
-        },
-        Area::Bind => Parts {
-            first: Part {
-                start: 8128,
-                size: 56,
-            },
-            second: none,
-            third: none,
-        },
+        Area::Param => chain(span_at(0, 1280), span_at(4096, 1280), span_at(8192, 7168)),
+        Area::Mission => chain(span_at(1280, 2506), span_at(5932, 2132), none),
+        Area::Rally => chain(span_at(3786, 150), span_at(5376, 300), none),
+        Area::Fence => chain(span_at(3936, 160), span_at(5676, 256), none),
+        Area::Keys => chain(span_at(8064, 64), none, none),
+        Area::Bind => chain(span_at(8128, 56), none, none),
     }
 }
 
-/// How many bytes the parts have.
-pub fn size_of(parts: &Parts) -> usize
-    requires { IsAscending parts.now }
-    ensures size { result ≡ size_of parts.now }
+/// How many bytes the spans have together.
+pub fn total_size(spans: &Spans) -> usize
+    requires { IsAscending spans.now }
+    ensures size { result ≡ total_size spans.now }
     ensures most { result ≤ STORAGE_BYTES }
 {
-    parts.first.size as usize + parts.second.size as usize + parts.third.size as usize
+    spans.first.size as usize + spans.second.size as usize + spans.third.size as usize
 }
 
-/// The place of a byte.
-pub fn place_in(parts: &Parts, i: usize) -> usize
-    requires ascending { IsAscending parts.now }
-    requires inside { i < size_of parts.now }
-    ensures place { result ≡ place_in parts.now i }
+/// The place in the storage of the byte with a logical place: these run through the spans in order.
+pub fn place_in(spans: &Spans, i: usize) -> usize
+    requires ascending { IsAscending spans.now }
+    requires inside { i < total_size spans.now }
+    ensures place { result ≡ place_in spans.now i }
     ensures inside { result < STORAGE_BYTES }
 {
-    let first = parts.first.size as usize;
-    let second = parts.second.size as usize;
+    let first = spans.first.size as usize;
+    let second = spans.second.size as usize;
     if i < first {
-        parts.first.start as usize + i
+        spans.first.start as usize + i
     } else if i < first + second {
-        parts.second.start as usize + (i - first)
+        spans.second.start as usize + (i - first)
     } else {
-        parts.third.start as usize + (i - first - second)
+        spans.third.start as usize + (i - first - second)
     }
 }
 
-/// Which of the part's bytes lies at a place.
-fn in_part(part: &Part, k: usize) -> Option<usize>
-    ensures { MatchOption result ((i : ℕ) → i < part.now.size → part.now.start + i ≢ k) (λ i. (i < part.now.size) × (part.now.start + i ≡ k)) }
+/// Which of the span's bytes lies at a place.
+fn in_span(span: &Span, k: usize) -> Option<usize>
+    ensures { MatchOption result ((i : ℕ) → i < span.now.size → span.now.start + i ≢ k)
+        (λ i. (i < span.now.size) × (span.now.start + i ≡ k)) }
 {
-    let start = part.start as usize;
-    if k >= start && k - start < part.size as usize {
+    let start = span.start as usize;
+    if k >= start && k - start < span.size as usize {
         Some(k - start)
     } else {
         None
     }
 }
 
-/// Which of the bytes lies at a place.
-pub fn logical_at(parts: &Parts, k: usize) -> Option<usize>
-    requires ascending { IsAscending parts.now }
-    ensures { MatchOption result ((i : ℕ) → i < size_of parts.now → place_in parts.now i ≢ k) (λ i. (i < size_of parts.now) × (place_in parts.now i ≡ k)) }
+/// Which of the spans' bytes lies at a place.
+pub fn logical_at(spans: &Spans, k: usize) -> Option<usize>
+    requires ascending { IsAscending spans.now }
+    ensures { MatchOption result ((i : ℕ) → i < total_size spans.now → place_in spans.now i ≢ k)
+        (λ i. (i < total_size spans.now) × (place_in spans.now i ≡ k)) }
 {
-    let first = parts.first.size as usize;
-    let second = parts.second.size as usize;
-    if let Some(i) = in_part(&parts.first, k) {
+    let first = spans.first.size as usize;
+    let second = spans.second.size as usize;
+    if let Some(i) = in_span(&spans.first, k) {
         Some(i)
-    } else if let Some(i) = in_part(&parts.second, k) {
+    } else if let Some(i) = in_span(&spans.second, k) {
         Some(first + i)
-    } else if let Some(i) = in_part(&parts.third, k) {
+    } else if let Some(i) = in_span(&spans.third, k) {
         Some(first + second + i)
     } else {
         None

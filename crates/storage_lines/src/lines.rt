@@ -1,4 +1,4 @@
-//! Lines of the storage, and writes of them.
+//! The storage in lines of eight bytes, and a write of one line.
 ghost use Rattle.std.specs.Prelude.{◌≡◌, ◌<◌, length};
 ghost use Rattle.storage_lines.specs.Lines.{put_line};
 

@@ -1,4 +1,4 @@
-//! What no clause says: worked values.
+//! Worked values: bytes of known places, and the lines that they change.
 ghost use Rattle.std.specs.Prelude.{◌≡◌};
 
 use crate::*;

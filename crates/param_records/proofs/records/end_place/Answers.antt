@@ -5,7 +5,7 @@ use Rattle.storage_lines.specs.declared.areas.Area.TheVariants.{Param}
 use Rattle.param_records.specs.Records.{read_as}
 use Rattle.param_records.proofs.RecordLemmas.{end_is}
 use Rattle.param_records.proofs.PieceLemmas.{length-logical}
-use Rattle.param_records.specs.Steps.{IsBytes}
+use Rattle.storage_lines.specs.Bytes.{IsBytes}
 use Rattle.param_records.proofs.WalkLemmas.{Walk, logical_bytes, walk_more, walk_end}
 use Rattle.param_records.proofs.records.end_place.Goals as goal
 

@@ -19,12 +19,12 @@ loop-j-preserved c = record {
         let inside : c.loop-j.j < length c.loop-j.bytes = omega arith in
         ap (λ (i : ℕ). get_or (set c.loop-j.bytes c.loop-j.j c.byte_with.result) i 0) same ∙ get_or-set_same c.loop-j.bytes c.loop-j.j c.byte_with.result 0 inside
         ∙ sym (c.byte_with.ensures b whole (each c.loop-j.j (omega arith) ∙ sym (c.loop-j.invariant.back c.loop-j.j (omega arith))))
-        ∙ ap (λ (i : ℕ). get_or (put_in c.args.parts.now c.args.at c.args.new.now b) (8 * c.args.line + i) 0) (sym same)
+        ∙ ap (λ (i : ℕ). get_or (put_in c.args.spans.now c.args.at c.args.new.now b) (8 * c.args.line + i) 0) (sym same)
   ];
 }
 
 pub returns : goal.returns
 returns c = λ b whole e.
     let eight : length c.args.before ≡ 8 = ap (λ (l : List ℕ). length l) (sym e) ∙ length-line_of b c.args.line (omega arith) in
-    line_is (put_in c.args.parts.now c.args.at c.args.new.now b) c.loop-j.bytes c.args.line (omega (arith, length-put_in c.args.parts.now c.args.at c.args.new.now b)) (c.loop-j.invariant.size ∙ eight)
+    line_is (put_in c.args.spans.now c.args.at c.args.new.now b) c.loop-j.bytes c.args.line (omega (arith, length-put_in c.args.spans.now c.args.at c.args.new.now b)) (c.loop-j.invariant.size ∙ eight)
     (λ k h. c.loop-j.invariant.front b whole eight (line_has b c.args.before c.args.line e) k (omega arith))
