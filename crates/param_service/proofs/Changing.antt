@@ -12,18 +12,19 @@ use Rattle.storage_lines.specs.Areas.{logical_of}
 use Rattle.storage_lines.specs.Lines.{after}
 use Rattle.storage_lines.specs.Pieces.{writes_of}
 use Rattle.param_records.specs.declared.values.Value.{Value}
-use Rattle.param_records.specs.declared.refusal.SetError.{SetError}
-use Rattle.param_records.specs.declared.refusal.SetError.TheVariants.{Range, Full}
+use Rattle.param_records.specs.declared.setting.SetError.{SetError}
+use Rattle.param_records.specs.declared.setting.SetError.TheVariants.{Range, Full}
 use Rattle.param_records.specs.Records.{Record, end_of}
 use Rattle.param_records.specs.Values.{params_of, value_in_records}
-use Rattle.param_records.specs.Changes.{set_pieces, IsFull}
+use Rattle.param_records.specs.Changes.{set_pieces, IsFull, is_full}
 use Rattle.param_records.specs.Patterns.{IsNumberOf, IsValueOf}
-use Rattle.param_records.specs.Steps.{IsBytes, HasMagic, records_in_storage, SetsRow}
+use Rattle.param_records.specs.Steps.{HasMagic, records_in_storage, SetsRow}
+use Rattle.storage_lines.specs.Bytes.{IsBytes}
 use Rattle.param_records.proofs.SetLemmas.{is_some}
 use Rattle.param_records.proofs.StepLemmas.{no_records}
 use Rattle.param_records.proofs.WalkLemmas.{logical_bytes}
 use Rattle.param_service.specs.Requests.{IsNumberFor}
-use Rattle.param_service.specs.Service.{is_total, is_full, writes_for, set_writes}
+use Rattle.param_service.specs.Service.{is_total, writes_for, set_writes}
 use Rattle.param_service.specs.Setting.{IsSet}
 use Rattle.param_service.proofs.Numbers.{number_for}
 

@@ -11,14 +11,15 @@ use Rattle.param_tree.specs.Rules.{row_fits}
 use Rattle.storage_lines.specs.declared.lines.TheConstants.{STORAGE_BYTES, LINES}
 use Rattle.storage_lines.specs.declared.lines.LineWrite.{LineWrite}
 use Rattle.storage_lines.specs.declared.areas.Area.TheVariants.{Param}
-use Rattle.storage_lines.specs.Areas.{parts_of, put_in, logical_of}
+use Rattle.storage_lines.specs.Areas.{put_in, logical_of, spans_of}
 use Rattle.storage_lines.specs.Lines.{after, changes_below, line_change, line_of}
 use Rattle.storage_lines.specs.Pieces.{Piece, writes_of_piece, writes_of}
 use Rattle.storage_lines.proofs.LineLemmas.{line_cases, length-after}
 use Rattle.param_records.specs.declared.records.TheConstants.{PARAM_BYTES}
 use Rattle.param_records.specs.Records.{Record, size_of, four_bytes, header, sentinel, spelling, place_from}
 use Rattle.param_records.specs.Changes.{piece, header_pieces, appending, part_size, part_bytes, fresh, fresh_bytes, set_pieces, IsFull}
-use Rattle.param_records.specs.Steps.{IsBytes, records_in_storage}
+use Rattle.param_records.specs.Steps.{records_in_storage}
+use Rattle.storage_lines.specs.Bytes.{IsBytes}
 use Rattle.param_records.proofs.CountLemmas.{few_writes}
 use Rattle.param_records.proofs.PieceLemmas.{length-logical}
 use Rattle.param_records.proofs.AppendLemmas.{no_more}
@@ -43,7 +44,7 @@ pub writes_inside : (b : List ℕ) (pieces : List Piece) → AreInside (writes_o
 writes_inside b [] = All-nil (λ (write : LineWrite). write.line < LINES)
 writes_inside b (p ∷ pieces) =
     let first = writes_of_piece p.area p.at p.bytes b in
-    All-append (λ (write : LineWrite). write.line < LINES) first (writes_of (after b first) pieces) (changes_inside LINES b (put_in (parts_of p.area) p.at p.bytes b) (omega arith)) (writes_inside (after b first) pieces)
+    All-append (λ (write : LineWrite). write.line < LINES) first (writes_of (after b first) pieces) (changes_inside LINES b (put_in (spans_of p.area) p.at p.bytes b) (omega arith)) (writes_inside (after b first) pieces)
 
 one_few : (at : ℕ) (new b : List ℕ) → length b ≡ STORAGE_BYTES → at + length new ≤ PARAM_BYTES → 8 * length (writes_of b (piece at new ∷ [])) ≤ at % 8 + length new + 7
 one_few at new b size fits = subst (λ (w : List LineWrite). 8 * length w ≤ at % 8 + length new + 7) (sym (no_more b (piece at new))) (few_writes at new b size fits)

@@ -6,7 +6,8 @@ use Rattle.storage_lines.specs.declared.lines.LineWrite.{LineWrite}
 use Rattle.storage_lines.specs.declared.lines.TheConstants.{LINES}
 use Rattle.param_tree.specs.declared.Var.{Var}
 use Rattle.param_tree.specs.Rows.{vehicle_rows}
-use Rattle.param_records.specs.Steps.{IsBytes, records_in_storage}
+use Rattle.param_records.specs.Steps.{records_in_storage}
+use Rattle.storage_lines.specs.Bytes.{IsBytes}
 use Rattle.param_records.specs.Changes.{set_pieces}
 use Rattle.param_records.proofs.WalkLemmas.{logical_bytes}
 use Rattle.param_service.specs.Setting.{IsSet}
