@@ -10,12 +10,12 @@ use Rattle.mission_commands.specs.declared.table.Shape.{Shape}
 use Rattle.mission_commands.specs.declared.table.Shape.TheVariants.{Located, Plain, Unlisted}
 use Rattle.mission_commands.specs.declared.commands.Item.{Item}
 use Rattle.mission_commands.specs.declared.commands.Command.{Command}
-use Rattle.mission_commands.specs.Numbers.{bytes_of, number_of, unsigned, signed_of}
+use Rattle.storage_lines.specs.Numbers.{bytes_of, number_of, unsigned, signed_of}
 use Rattle.mission_commands.specs.Rows.{IsRow, width_of}
 use Rattle.mission_commands.specs.Table.{row_of}
 use Rattle.mission_commands.specs.Commands.{Meets, MeetsAll, item_rules, Allows, StoredAs, IsPacked, IsUnpacked, IsLocation, IsRest, IsPlaceOf, IsLatitude, IsLongitude, IfLocated, IsBelowZero, params_of, location_of, part_at, flags_of, frame_of, sign_flag, is_negative, has_location}
 use Rattle.mission_commands.specs.Back.{SameParam, SamePlace, GivesBack, ComesBack}
-use Rattle.mission_commands.proofs.Bytes.{length-bytes_of}
+use Rattle.storage_lines.proofs.NumberLemmas.{length-bytes_of}
 use Rattle.mission_commands.proofs.Rows.{is_signed, HasSigns, row_of-HasSigns, row_of-IsRow}
 use Rattle.mission_commands.proofs.Tested.{length-StoredAs}
 use Rattle.mission_commands.proofs.Back.{HasSign, same_param, at_place, signed_part, flags_back, IsHalf}

@@ -11,12 +11,13 @@ use Rattle.mission_commands.specs.declared.table.Shape.{Shape}
 use Rattle.mission_commands.specs.declared.table.Shape.TheVariants.{Located, Plain, Unlisted}
 use Rattle.mission_commands.specs.declared.commands.Item.{Item}
 use Rattle.mission_commands.specs.declared.commands.Command.{Command}
-use Rattle.mission_commands.specs.Numbers.{bytes_of, unsigned}
+use Rattle.storage_lines.specs.Numbers.{bytes_of, unsigned}
 use Rattle.mission_commands.specs.Rows.{IsRow, width_of}
 use Rattle.mission_commands.specs.Table.{rows, row_of, unlisted}
 use Rattle.mission_commands.specs.Commands.{StoredAs, IsPacked, IsListed, has_location, params_of, filled, flags_of, sign_flag}
-use Rattle.mission_commands.specs.Storable.{IsBytes, StoresFit}
-use Rattle.mission_commands.proofs.Bytes.{length-bytes_of}
+use Rattle.storage_lines.specs.Bytes.{IsBytes}
+use Rattle.mission_commands.specs.Storable.{StoresFit}
+use Rattle.storage_lines.proofs.NumberLemmas.{length-bytes_of}
 use Rattle.mission_commands.proofs.Rows.{find-passes, row_of-IsRow}
 use Rattle.mission_commands.proofs.Tested.{length-StoredAs}
 use Rattle.mission_commands.proofs.Comes.{IsRestOf, rest_of}

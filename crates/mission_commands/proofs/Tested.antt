@@ -8,11 +8,11 @@ use Rattle.mission_commands.specs.declared.table.Shape.{Shape}
 use Rattle.mission_commands.specs.declared.table.Shape.TheVariants.{Located, Plain, Unlisted}
 use Rattle.mission_commands.specs.declared.commands.Item.{Item}
 use Rattle.mission_commands.specs.declared.commands.Command.{Command}
-use Rattle.mission_commands.specs.Numbers.{bytes_of}
+use Rattle.storage_lines.specs.Numbers.{bytes_of}
 use Rattle.mission_commands.specs.Rows.{IsRow, width_of}
 use Rattle.mission_commands.specs.Table.{row_of}
 use Rattle.mission_commands.specs.Commands.{Rule, Meets, MeetsAll, FailsWith, IfLocated, IsListed, has_location, is_frame, StoredAs, IsPacked, IsLocation, IsStored, IsRest, params_of, filled, param_rules, location_rules, item_rules}
-use Rattle.mission_commands.proofs.Bytes.{length-bytes_of, bytes_of-next}
+use Rattle.storage_lines.proofs.NumberLemmas.{length-bytes_of, bytes_of-next}
 
 pub if_located : (s : Shape) (P : Type 0) → IsTrue (has_location s) → P → IfLocated s P
 if_located Located P h p = p

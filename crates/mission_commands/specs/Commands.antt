@@ -1,7 +1,7 @@
 -- Which items are commands, and how these are stored.
 use Rattle.std.specs.Prelude.{ℕ, ℤ, pos, negsuc, neg_ℤ, unsigned_abs, ◌≤ℤ◌, ◌≡◌, ◌<◌, ◌+◌, ◌-◌, ◌/◌, ◌%◌, ◌^◌, ◌≢◌, ◌==◌, ◌||◌, ◌⊎◌, ◌↔◌, IsTrue, Bool, true, false, if◌then◌else◌, List, [], ◌∷◌, ◌++◌, length, replicate, take, drop, slice_index, Result, MatchResult}
 use Rattle.word_bits.specs.Pattern.{IsWhole, IsFinite, IsNearest, IsCentimetres, signed}
-use Rattle.mission_commands.specs.Numbers.{bytes_of, number_of, unsigned, signed_of}
+use Rattle.storage_lines.specs.Numbers.{bytes_of, number_of, unsigned, signed_of}
 use Rattle.mission_commands.specs.Table.{row_of}
 use Rattle.mission_commands.specs.Rows.{width_of}
 use Rattle.mission_commands.specs.declared.table.Use.{Use}

@@ -1,13 +1,10 @@
 -- Which commands fifteen bytes can hold.
-use Rattle.std.specs.Prelude.{ℕ, ◌≡◌, ◌≢◌, ◌≤◌, ◌<◌, ◌^◌, List, [], ◌∷◌, ◌++◌, length, take, slice_index}
+use Rattle.std.specs.Prelude.{◌≡◌, ◌≢◌, ◌≤◌, ◌<◌, ◌^◌, [], ◌∷◌, ◌++◌, length, take}
+use Rattle.storage_lines.specs.Bytes.{IsBytes}
 use Rattle.mission_commands.specs.declared.commands.Command.{Command}
 use Rattle.mission_commands.specs.declared.commands.Item.{Item}
 use Rattle.mission_commands.specs.Table.{row_of}
 use Rattle.mission_commands.specs.Commands.{Meets, MeetsAll, item_rules, IsStored}
-
--- numbers below 256
-abbrev pub IsBytes : List ℕ → Type 0
-IsBytes bytes = (i : ℕ) → slice_index bytes i < 256
 
 -- A command of twelve bytes of content that has an id of two bytes, and not the one that marks the
 -- long form. Where the id is above 255, the last two bytes of its content are 0.

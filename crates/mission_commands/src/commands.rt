@@ -8,9 +8,9 @@ ghost use Rattle.mission_commands.specs.Rows.{IsUse, IsRow, width_of};
 ghost use Rattle.mission_commands.specs.Table.{row_of};
 ghost use Rattle.mission_commands.specs.Commands.{Allows, IsWithin, StoredAs, IsBelowZero, filled, flags_of, is_frame, is_location_frame, has_location, location_of, sign_flag, Meets, IsTested, IsPacked, IsLocation, IsStored, IsItemOf, IsPlaceOf, IsParam, part_at, params_of, frame_of, whole_in, param_rules, location_rules, item_rules};
 
-use crate::numbers::{number_of, push_number, signed_of, unsigned};
 use crate::table::{Row, Shape, Use, row_of};
 use arrayvec::ArrayVec;
+use storage_lines::numbers::{number_of, push_number, signed_of, unsigned};
 use word_bits::{bits_of, bits_of_centimetres, centimetres_of, is_finite, whole_of};
 
 /// A command as it is stored: its number, the two bytes before the content, and the content.

@@ -6,7 +6,6 @@
 
 mod commands;
 mod laws;
-pub mod numbers;
 mod table;
 
 pub use commands::{Command, Item, to_command, to_item};

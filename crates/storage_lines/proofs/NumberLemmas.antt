@@ -1,5 +1,9 @@
 -- Numbers as bytes.
-use Rattle.std.proofs.Common.{◌≡◌, ℕ, zero, suc, ◌+◌, ◌-◌, ◌*◌, ◌/◌, ◌%◌, ◌^◌, ◌<◌, ◌≤◌, List, [], ◌∷◌, ◌++◌, length, get_or, drop, refl, ap, append_assoc, arith}
+use Rattle.std.proofs.Common.{◌≡◌, ℕ, zero, suc, ◌+◌, ◌*◌, ◌/◌, ◌%◌, ◌^◌, ◌<◌, List, [], ◌∷◌, length, get_or, drop, refl, sym, ap, ◌∙◌, arith}
+use Rattle.std.proofs.Math.Nat.{div-one, div-div-eq-div-mul, pow-suc}
+use Rattle.std.specs.Int.{byte_at, bytes_low_first}
+use Rattle.byteorder.specs.Endian.{little_bytes, little_number}
+use Rattle.byteorder.specs.Numbers.{little_from-cons}
 use Rattle.storage_lines.specs.Numbers.{bytes_of, number_of}
 
 pub length-bytes_of : (w n : ℕ) → length (bytes_of w n) ≡ w
@@ -12,22 +16,10 @@ pub bytes_of-next : (w k n : ℕ) → w ≡ suc k → bytes_of w n ≡ (n % 256)
 unfolding bytes_of
 bytes_of-next w k n e = rw e refl
 
-pub bytes_of-push : (xs ys : List ℕ) (w k n : ℕ) → w ≡ suc k → ys ≡ xs ++ (n % 256) ∷ [] → ys ++ bytes_of k (n / 256) ≡ xs ++ bytes_of w n
-bytes_of-push xs ys w k n e f = rw (f, bytes_of-next w k n e) (append_assoc xs ((n % 256) ∷ []) (bytes_of k (n / 256)))
-
-pub bytes_of-none : (w n : ℕ) → w ≡ 0 → bytes_of w n ≡ []
-unfolding bytes_of
-bytes_of-none w n e = rw e refl
-
 pub number_of-next : (bs : List ℕ) → 0 < length bs → number_of bs ≡ get_or bs 0 0 + 256 * number_of (drop 1 bs)
 unfolding number_of
 number_of-next [] h = absurd (omega arith)
 number_of-next (b ∷ bs) h = refl
-
-pub number_of-none : (bs : List ℕ) → length bs ≡ 0 → number_of bs ≡ 0
-unfolding number_of
-number_of-none [] h = refl
-number_of-none (b ∷ bs) h = absurd (omega arith)
 
 -- a number is that of its bytes
 pub number_of-bytes_of : (w n : ℕ) → n < 256 ^ w → number_of (bytes_of w n) ≡ n
@@ -38,11 +30,24 @@ number_of-bytes_of (suc w) n h =
     let e : number_of (bytes_of w (n / 256)) ≡ n / 256 = number_of-bytes_of w (n / 256) less in
     rw e (omega arith)
 
--- a further byte above at most three leaves the number small
-pub next-small : (k x : ℕ) → k ≤ 4 → 1 ≤ k → x < 256 ^ (k - 1) → (256 * x + 256 ≤ 2 ^ 32) × (256 * x + 256 ≤ 256 ^ k)
-next-small zero x a b h = absurd (omega arith)
-next-small (suc zero) x a b h = (omega arith, omega arith)
-next-small (suc (suc zero)) x a b h = (omega arith, omega arith)
-next-small (suc (suc (suc zero))) x a b h = (omega arith, omega arith)
-next-small (suc (suc (suc (suc zero)))) x a b h = (omega arith, omega arith)
-next-small (suc (suc (suc (suc (suc k))))) x a b h = absurd (omega arith)
+byte_at-div : (i n : ℕ) → n / 256 ^ i % 256 ≡ byte_at i n
+byte_at-div zero n = ap (λ (t : ℕ). t % 256) (div-one n)
+byte_at-div (suc i) n = refl
+
+bytes_of-from : (i w n : ℕ) → bytes_of w (n / 256 ^ i) ≡ bytes_low_first i w n
+unfolding bytes_of
+bytes_of-from i zero n = refl
+bytes_of-from i (suc w) n =
+    let above : n / 256 ^ i / 256 ≡ n / 256 ^ suc i = div-div-eq-div-mul n (256 ^ i) 256 ∙ ap (λ (t : ℕ). n / t) (sym (pow-suc 256 i)) in
+    rw (byte_at-div i n, above) (ap (λ (t : List ℕ). byte_at i n ∷ t) (bytes_of-from (suc i) w n))
+
+-- the bytes of a number are those that the little byte order writes
+pub bytes_of-little : (w n : ℕ) → bytes_of w n ≡ little_bytes w n
+bytes_of-little w n = ap (bytes_of w) (sym (div-one n)) ∙ bytes_of-from 0 w n
+
+-- the number of bytes is the one that the little byte order reads
+pub number_of-little : (bs : List ℕ) → number_of bs ≡ little_number (length bs) bs
+unfolding number_of
+number_of-little [] = refl
+number_of-little (b ∷ bs) =
+    ap (λ (t : ℕ). b + 256 * t) (number_of-little bs ∙ sym (little_from-cons 0 (length bs) b bs))

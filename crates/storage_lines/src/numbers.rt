@@ -5,30 +5,31 @@ ghost use Rattle.arrayvec.specs.ArrayVec.{array_vec_len};
 ghost use Rattle.storage_lines.specs.Numbers.{bytes_of, number_of, signed_of, unsigned, FitsBytes};
 
 use arrayvec::ArrayVec;
+use byteorder::{ByteOrder, LittleEndian};
 
-/// Appends so many bytes of the number.
+/// Appends the lowest one to four bytes of a number that fits them.
 pub fn push_number<const N: usize>(bytes: &mut ArrayVec<u8, N>, width: usize, number: u32)
-    requires { array_vec_len bytes.old + width ≤ N }
+    requires width { (1 ≤ width) × (width ≤ 4) }
+    requires fits { number < 256 ^ width }
+    requires room { array_vec_len bytes.old + width ≤ N }
     ensures items { bytes.new.items ≡ bytes.old.items ++ bytes_of width number }
     ensures len { array_vec_len bytes.new ≡ array_vec_len bytes.old + width }
 {
-    let mut rest = number;
-    for _byte in 0..width {
-        bytes.push((rest % 256) as u8);
-        rest /= 256;
+    let mut field = [0; 4];
+    LittleEndian::write_uint(&mut field, number as u64, width);
+    match bytes.try_extend_from_slice(&field[..width]) {
+        Ok(()) => {}
+        Err(_) => unreachable!(),
     }
 }
 
-/// The number of the bytes.
+/// The number of one to four bytes.
 pub fn number_of(bytes: &[u8]) -> u32
-    requires { length bytes.now ≤ 4 }
+    requires { (1 ≤ length bytes.now) × (length bytes.now ≤ 4) }
     ensures value { result ≡ number_of bytes.now }
     ensures bound { result < 256 ^ length bytes.now }
 {
-    match bytes {
-        [] => 0,
-        [low, rest @ ..] => *low as u32 + 256 * number_of(rest),
-    }
+    LittleEndian::read_uint(bytes, bytes.len()) as u32
 }
 
 /// How many numbers so many bytes have.

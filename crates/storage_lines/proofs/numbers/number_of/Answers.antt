@@ -1,8 +1,8 @@
 use Rattle.std.proofs.Common.{◌<◌, ◌≤◌, ◌^◌, length, sym, ◌∙◌, arith}
 use Rattle.std.proofs.Math.Nat.{pow-le-pow_right}
 use Rattle.byteorder.specs.Numbers.{little_from-lt}
-use Rattle.mission_commands.proofs.Bytes.{number_of-little}
-use Rattle.mission_commands.proofs.numbers.number_of.Goals as goal
+use Rattle.storage_lines.proofs.NumberLemmas.{number_of-little}
+use Rattle.storage_lines.proofs.numbers.number_of.Goals as goal
 
 below : (c : goal.After-read_uint) → c.read_uint.result < 256 ^ length c.args.bytes.now
 below c = rw c.read_uint.ensures (little_from-lt 0 (length c.args.bytes.now) c.args.bytes.now (λ k. omega (arith, c.type_inv.bytes k)))
