@@ -102,7 +102,7 @@ impl Board for MemBoard {
     ghost use Rattle.flash_board.specs.Kept.{moment_of, fault_count};
     ghost use Rattle.flash_board.specs.MemoryLaws.{Now, Left, HasLists, reads_now, counts_left, only_left, shape_now};
     ghost use Rattle.flash_board.specs.Holdings.{noted, fed, sent_on, begun, next_event};
-    ghost use Rattle.flash_board.specs.Numbers.{is_among};
+    ghost use Rattle.flash_board.specs.Numbers.{is_among, CountsKind};
     ghost use Rattle.flash_board.specs.OfMemBoard.{device, holdings, failing_calls, next_call};
 
     ghost sector_bytes = { λ m. m.memory.sector_bytes };
@@ -140,6 +140,7 @@ impl Board for MemBoard {
         ensures untold { ((e : List Received) (f : List SentFrame) → ⟦<MemBoard as Board>⟧.has_lists self.old e f) → (e : List Received) (f : List SentFrame) → ⟦<MemBoard as Board>⟧.has_lists self.new e f }
         ensures moment { ⟦<MemBoard as Board>⟧.moment self.new ≡ ⟦<MemBoard as Board>⟧.moment self.old }
         ensures cause { HasCause Fault.Attach (⟦<MemBoard as Board>⟧.faults self.old) (⟦<MemBoard as Board>⟧.faults self.new) result }
+        ensures counts { CountsKind Fault.Attach (⟦<MemBoard as Board>⟧.faults self.old) (⟦<MemBoard as Board>⟧.faults self.new) result }
         ensures fails { IsErr result ↔ IsTrue (is_among (failing_calls self.old) (next_call self.old)) ⊎ ((make ≡ None) × (is_size (holdings self.old).image_size ≡ false)) }
         ensures numbers { (failing_calls self.new ≡ failing_calls self.old) × (next_call self.new ≡ raised (next_call self.old)) }
         ensures goes_on { ⟦<MemBoard as Board>⟧.tells self.old → ⟦<MemBoard as Board>⟧.tells self.new }
@@ -168,6 +169,7 @@ impl Board for MemBoard {
         ensures keeps_told { ⟦<MemBoard as Board>⟧.tells self.old → ⟦<MemBoard as Board>⟧.tells self.new }
         ensures moment { ⟦<MemBoard as Board>⟧.moment self.new ≡ ⟦<MemBoard as Board>⟧.moment self.old }
         ensures cause { HasCause Fault.Read (⟦<MemBoard as Board>⟧.faults self.old) (⟦<MemBoard as Board>⟧.faults self.new) result }
+        ensures counts { CountsKind Fault.Read (⟦<MemBoard as Board>⟧.faults self.old) (⟦<MemBoard as Board>⟧.faults self.new) result }
         ensures fails { IsErr result ↔ IsTrue (is_among (failing_calls self.old) (next_call self.old)) }
         ensures numbers { (failing_calls self.new ≡ failing_calls self.old) × (next_call self.new ≡ raised (next_call self.old)) }
         ensures as_before { IfOk result (λ word. word ≡ slice_index (halfwords_in (⟦<MemBoard as Board>⟧.words self.old) region) at) }
@@ -188,6 +190,7 @@ impl Board for MemBoard {
         ensures covers { MayHaveLeft ⟦<MemBoard as Board>⟧ self.old self.new (OnWords (ProgramMayLeave region at word)) }
         ensures moment { ⟦<MemBoard as Board>⟧.moment self.new ≡ after_program (⟦<MemBoard as Board>⟧.moment self.old) }
         ensures cause { HasCause Fault.Flash (⟦<MemBoard as Board>⟧.faults self.old) (⟦<MemBoard as Board>⟧.faults self.new) result }
+        ensures counts { CountsKind Fault.Flash (⟦<MemBoard as Board>⟧.faults self.old) (⟦<MemBoard as Board>⟧.faults self.new) result }
         ensures fails { IsErr result ↔ IsTrue (is_among (failing_calls self.old) (next_call self.old)) }
         ensures numbers { (failing_calls self.new ≡ failing_calls self.old) × (next_call self.new ≡ raised (next_call self.old)) }
         ensures goes_on { ⟦<MemBoard as Board>⟧.tells self.old → (holdings self.old).recorded < 65536 → (⟦<MemBoard as Board>⟧.moment self.old).programs < 2 ^ 64 - 1 → ⟦<MemBoard as Board>⟧.tells self.new }
@@ -211,6 +214,7 @@ impl Board for MemBoard {
         ensures covers { MayHaveLeft ⟦<MemBoard as Board>⟧ self.old self.new (OnWords (EraseMayLeave region)) }
         ensures moment { ⟦<MemBoard as Board>⟧.moment self.new ≡ after_erase (⟦<MemBoard as Board>⟧.moment self.old) }
         ensures cause { HasCause Fault.Flash (⟦<MemBoard as Board>⟧.faults self.old) (⟦<MemBoard as Board>⟧.faults self.new) result }
+        ensures counts { CountsKind Fault.Flash (⟦<MemBoard as Board>⟧.faults self.old) (⟦<MemBoard as Board>⟧.faults self.new) result }
         ensures fails { IsErr result ↔ IsTrue (is_among (failing_calls self.old) (next_call self.old)) }
         ensures numbers { (failing_calls self.new ≡ failing_calls self.old) × (next_call self.new ≡ raised (next_call self.old)) }
         ensures goes_on { ⟦<MemBoard as Board>⟧.tells self.old → (holdings self.old).recorded < 65536 → (⟦<MemBoard as Board>⟧.moment self.old).erases < 2 ^ 64 - 1 → ⟦<MemBoard as Board>⟧.tells self.new }
@@ -240,6 +244,7 @@ impl Board for MemBoard {
         ensures covers { IfOk result (λ event. MayHaveLeft ⟦<MemBoard as Board>⟧ self.old self.new (Either Unchanged (Receives (received event into.new)))) }
         ensures moment { ⟦<MemBoard as Board>⟧.moment self.new ≡ after_recv (⟦<MemBoard as Board>⟧.moment self.old) }
         ensures cause { HasCause Fault.Recv (⟦<MemBoard as Board>⟧.faults self.old) (⟦<MemBoard as Board>⟧.faults self.new) result }
+        ensures counts { CountsKind Fault.Recv (⟦<MemBoard as Board>⟧.faults self.old) (⟦<MemBoard as Board>⟧.faults self.new) result }
         ensures fails { IsErr result ↔ IsTrue (is_among (failing_calls self.old) (next_call self.old)) }
         ensures numbers { (failing_calls self.new ≡ failing_calls self.old) × (next_call self.new ≡ raised (next_call self.old)) }
         ensures goes_on { ⟦<MemBoard as Board>⟧.tells self.old → (holdings self.old).recorded < 65536 → (⟦<MemBoard as Board>⟧.moment self.old).receptions < 2 ^ 64 - 1 → ⟦<MemBoard as Board>⟧.tells self.new }
@@ -268,6 +273,7 @@ impl Board for MemBoard {
         ensures covers { MayHaveLeft ⟦<MemBoard as Board>⟧ self.old self.new (Either Unchanged (Sends (sent_frame peer bytes.now))) }
         ensures moment { ⟦<MemBoard as Board>⟧.moment self.new ≡ after_send (⟦<MemBoard as Board>⟧.moment self.old) }
         ensures cause { HasCause Fault.Send (⟦<MemBoard as Board>⟧.faults self.old) (⟦<MemBoard as Board>⟧.faults self.new) result }
+        ensures counts { CountsKind Fault.Send (⟦<MemBoard as Board>⟧.faults self.old) (⟦<MemBoard as Board>⟧.faults self.new) result }
         ensures fails { IsErr result ↔ IsTrue (is_among (failing_calls self.old) (next_call self.old)) }
         ensures numbers { (failing_calls self.new ≡ failing_calls self.old) × (next_call self.new ≡ raised (next_call self.old)) }
         ensures goes_on { ⟦<MemBoard as Board>⟧.tells self.old → (holdings self.old).recorded < 65536 → (⟦<MemBoard as Board>⟧.moment self.old).sendings < 2 ^ 64 - 1 → ⟦<MemBoard as Board>⟧.tells self.new }

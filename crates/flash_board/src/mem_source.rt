@@ -43,7 +43,7 @@ impl Source for MemSource {
     ghost use Rattle.std.specs.Prelude.{◌≡◌, ◌≢◌, ◌↔◌, ◌≤◌, ◌++◌, [], min, length, take, IfOk, IsOk, IsErr, IsTrue, MatchResult, Ok, Err};
     ghost use Rattle.flash_traits.specs.Causes.{HasOneCause};
     ghost use Rattle.flash_board.specs.Streams.{given_of, rest_of};
-    ghost use Rattle.flash_board.specs.Numbers.{is_among};
+    ghost use Rattle.flash_board.specs.Numbers.{is_among, CountsFault};
     ghost use Rattle.flash_traits.specs.Counts.{raised};
     ghost use Rattle.flash_board.specs.OfMemSource.{failing_calls, next_call};
 
@@ -65,6 +65,7 @@ impl Source for MemSource {
         ensures rest { ⟦<MemSource as Source>⟧.tells_rest self.new → MatchResult result (λ count. ⟦<MemSource as Source>⟧.rest self.old ≡ take count into.new ++ ⟦<MemSource as Source>⟧.rest self.new) (λ _. ⟦<MemSource as Source>⟧.rest self.new ≡ ⟦<MemSource as Source>⟧.rest self.old) }
         ensures end { ⟦<MemSource as Source>⟧.tells_rest self.new → IfOk result (λ count. count ≡ 0 → length into.new ≢ 0 → ⟦<MemSource as Source>⟧.rest self.old ≡ []) }
         ensures cause { HasOneCause (⟦<MemSource as Source>⟧.faults self.old) (⟦<MemSource as Source>⟧.faults self.new) result }
+        ensures counts { CountsFault (⟦<MemSource as Source>⟧.faults self.old) (⟦<MemSource as Source>⟧.faults self.new) result }
         ensures fails { IsErr result ↔ IsTrue (is_among (failing_calls self.old) (next_call self.old)) }
         ensures numbered { (failing_calls self.new ≡ failing_calls self.old) × (next_call self.new ≡ raised (next_call self.old)) }
         ensures count { IfOk result (λ count. count ≡ min (length into.old) (length (⟦<MemSource as Source>⟧.rest self.old))) }

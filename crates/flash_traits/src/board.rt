@@ -70,6 +70,16 @@ pub enum LogError {
     Word { offset: u32, word: u16 },
 }
 
+impl From<Fault> for LogError {
+    ghost use Rattle.flash_traits.specs.declared.board.LogError.TheVariants as errors;
+
+    ghost from_gives = { λ fault e. e ≡ errors.Fault fault };
+
+    fn from(fault: Fault) -> LogError {
+        LogError::Fault(fault)
+    }
+}
+
 /// A flash device and a link. Offsets count halfwords from the start of a region.
 ///
 /// A program can only clear bits, and an erase makes every halfword of a sector FFFF. A loss of power inside a program

@@ -6,6 +6,7 @@
 mod arming;
 mod board;
 mod geometry;
+mod halfwords;
 mod mark;
 mod numbers;
 mod pair;
@@ -14,6 +15,7 @@ mod stream;
 pub use arming::budget;
 pub use board::{Board, Event, Failed, Fault, Geometry, LogError, Mark, Region};
 pub use geometry::{is_sector_size, size_of_image};
+pub use halfwords::{program_halfword, read_halfword};
 pub use numbers::{
     DATAGRAM_BYTES, ERASED, FRAME_BYTES, GUARD_HALFWORDS, LINES, SIGNATURE, STATIONS,
 };

@@ -1,3 +1,3 @@
 pub mod RowLaws
-pub mod SaysLemmas
+pub mod HomeLemmas
 pub mod StepLemmas

@@ -1,5 +1,5 @@
 pub mod Row
-pub mod Says
+pub mod Home
 pub mod Steps
 pub mod Errors
 pub mod Laws

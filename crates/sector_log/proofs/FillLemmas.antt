@@ -18,7 +18,7 @@ use Rattle.sector_log.specs.Entries.{Entry}
 use Rattle.sector_log.specs.Bytes.{programmable}
 use Rattle.sector_log.specs.Sector.{IsSector}
 use Rattle.sector_log.specs.Log.{end_of}
-use Rattle.sector_log.specs.Appends.{InRegion, entry_of, IsOneOfTwo, IsOneOfThree, AppendMayLeave, Appends, FinishMayLeave, Finishes, IsTornLast}
+use Rattle.sector_log.specs.Appends.{InRegion, entry_of, IsOneOfTwo, IsOneOfThree, IsPartWay, AppendMayLeave, Appends, FinishMayLeave, Finishes, IsTornLast}
 use Rattle.sector_log.specs.Fills.{CanFill, FillMayLeave, Fills, CompleteMayLeave, Completes}
 use Rattle.sector_log.proofs.TornLemmas.{torn_parts}
 use Rattle.sector_log.proofs.Programmable.{programmable_from, programmable_each}
@@ -66,28 +66,29 @@ programs_here r at word u v did here = record {
   whole = did;
 }
 
--- the torn last entry can become another one, and its first k halfwords are already those
-pub record IsFilled (at : ℕ) (new : List ℕ) (mark : Mark) (entries : List Entry) (line lines k : ℕ) (words : List ℕ) : Type 0 where
+-- the torn last entry can become another one, its first k halfwords are already those, and the rest is as it was
+pub record IsFilled (at : ℕ) (content new : List ℕ) (mark : Mark) (entries : List Entry) (line lines k : ℕ) (words : List ℕ) : Type 0 where
   pub left : List ℕ
   pub can : CanFill at new mark entries line lines left words
   pub same : (j : ℕ) → j < k → get_or left j 0 ≡ get_or new j 0
+  pub rest : (j : ℕ) → k ≤ j → j < length left → get_or left j 0 ≡ get_or content j 0
 
 -- the first k halfwords are programmed
 abbrev pub FilledTo : Region → ℕ → List ℕ → ℕ → Words → Words → Type 0
 FilledTo r at bytes k old new = (mark : Mark) (entries : List Entry) (line lines : ℕ) (content : List ℕ) → CanFill at (halfwords_of bytes) mark entries line lines content (halfwords_in old r)
-    → InRegion r (IsFilled at (halfwords_of bytes) mark entries line lines k) old new
+    → InRegion r (IsFilled at content (halfwords_of bytes) mark entries line lines k) old new
 
 pub filled_none : (r : Region) (at : ℕ) (bytes : List ℕ) (w : Words) → FilledTo r at bytes 0 w w
 filled_none r at bytes w mark entries line lines content can =
-    still r (IsFilled at (halfwords_of bytes) mark entries line lines 0) w (record { left = content; can = can; same = λ j lt. absurd (omega (arith, lt)) })
+    still r (IsFilled at content (halfwords_of bytes) mark entries line lines 0) w (record { left = content; can = can; same = λ j lt. absurd (omega (arith, lt)); rest = λ j le lt. refl })
 
 pub filled_may : (r : Region) (at : ℕ) (bytes : List ℕ) (k : ℕ) (u v : Words) → FilledTo r at bytes k u v → FillMayLeave r at bytes u v
-filled_may r at bytes k u v f mark entries line lines content can = weaker r u v (λ l p. (p.left, p.can)) (f mark entries line lines content can)
+filled_may r at bytes k u v f mark entries line lines content can = weaker r u v (λ l p. (p.left, p.can, record { count = k; prefix = p.same; rest = p.rest })) (f mark entries line lines content can)
 
 -- one more halfword
-filled_more : (at : ℕ) (new : List ℕ) (mark : Mark) (es : List Entry) (line lines k place word : ℕ) (words : List ℕ) → k < length new → place ≡ at + k → word ≡ get_or new k 0
-    → IsFilled at new mark es line lines k words → IsFilled at new mark es line lines (k + 1) (with_program words place word)
-filled_more at new mark es line lines k place word words lt is_at is_word f =
+filled_more : (at : ℕ) (content new : List ℕ) (mark : Mark) (es : List Entry) (line lines k place word : ℕ) (words : List ℕ) → k < length new → place ≡ at + k → word ≡ get_or new k 0
+    → IsFilled at content new mark es line lines k words → IsFilled at content new mark es line lines (k + 1) (with_program words place word)
+filled_more at content new mark es line lines k place word words lt is_at is_word f =
     let can = programmable_each f.left new f.can.can in
     let inside : k < length f.left = omega (arith, lt, can.size) in
     let becomes : bit_and (get_or f.left k 0) word ≡ get_or new k 0 = ap (λ (d : ℕ). bit_and (get_or f.left k 0) d) is_word ∙ can.each k inside in
@@ -109,14 +110,16 @@ filled_more at new mark es line lines k place word words lt is_at is_word f =
         | inl is ↦ subst (λ (i : ℕ). get_or left i 0 ≡ get_or new i 0) (sym is) here
         | inr other ↦ get_or-set_other f.left k j (bit_and (get_or f.left k 0) word) 0 other ∙ f.same j (omega (arith, below, other))
       ];
+      rest = λ j from below. get_or-set_other f.left k j (bit_and (get_or f.left k 0) word) 0 (λ is. omega (arith, from, is))
+          ∙ f.rest j (omega (arith, from)) (omega (arith, below, size));
     }
 
 pub filled_next : (r : Region) (at : ℕ) (bytes : List ℕ) (k place word : ℕ) (u v w : Words) → k < length (halfwords_of bytes) → place ≡ at + k → word ≡ get_or (halfwords_of bytes) k 0
     → FilledTo r at bytes k u v → Programs r place word v w → FilledTo r at bytes (k + 1) u w
 filled_next r at bytes k place word u v w lt is_at is_word f did mark entries line lines content can =
     let before = f mark entries line lines content can in
-    one_after r u v w before (programs_here {P = IsFilled at (halfwords_of bytes) mark entries line lines (k + 1)} r place word v w did
-    (filled_more at (halfwords_of bytes) mark entries line lines k place word (halfwords_in v r) lt is_at is_word (here_now r u v before)))
+    one_after r u v w before (programs_here {P = IsFilled at content (halfwords_of bytes) mark entries line lines (k + 1)} r place word v w did
+    (filled_more at content (halfwords_of bytes) mark entries line lines k place word (halfwords_in v r) lt is_at is_word (here_now r u v before)))
 
 pub filled_next_may : (r : Region) (at : ℕ) (bytes : List ℕ) (k place word : ℕ) (u v w : Words) → k < length (halfwords_of bytes) → place ≡ at + k → word ≡ get_or (halfwords_of bytes) k 0
     → FilledTo r at bytes k u v → ProgramMayLeave r place word v w → FillMayLeave r at bytes u w
@@ -134,13 +137,17 @@ filled_all r at bytes k u v all f mark entries line lines content can =
 pub becomes_itself : (new : List ℕ) → programmable new new ≡ true
 becomes_itself new = programmable_from new new refl (λ k lt. and_self (get_or new k 0))
 
+-- all halfwords are the new ones
+all_way : (before new : List ℕ) → IsPartWay before new new
+all_way before new = record { count = length new; prefix = λ k lt. refl; rest = λ k from below. absurd (omega (arith, from, below)) }
+
 -- the content, and then the header as valid
 module _ (r : Region) (at line : ℕ) (bytes : List ℕ) where
   pub fill_may : (u v : Words) → FillMayLeave r (at + 1) bytes u v → CompleteMayLeave r at line bytes u v
-  fill_may u v may mark entries content can = weaker r u v (λ l p. inl (p.0, p.1.can, p.1.sector)) (may mark entries line (length bytes / 8) content can)
+  fill_may u v may mark entries content can = weaker r u v (λ l p. inl (p.0, p.1.can, p.1.sector, p.2)) (may mark entries line (length bytes / 8) content can)
 
   filled_torn : (u v : Words) → Fills r (at + 1) bytes u v → CompleteMayLeave r at line bytes u v
-  filled_torn u v did mark entries content can = weaker r u v (λ l p. inl (halfwords_of bytes, becomes_itself (halfwords_of bytes), p)) (did mark entries line (length bytes / 8) content can)
+  filled_torn u v did mark entries content can = weaker r u v (λ l p. inl (halfwords_of bytes, becomes_itself (halfwords_of bytes), p, all_way content (halfwords_of bytes))) (did mark entries line (length bytes / 8) content can)
 
   pub then_valid : (valid : ℕ) (u v w : Words) → valid ≡ header_word (header 0 line (length bytes / 8)) → Fills r (at + 1) bytes u v → Programs r at valid v w → Completes r at line bytes u w
   then_valid valid u v w is fills did mark entries content can =
@@ -185,7 +192,7 @@ module _ (log : Log) (line : ℕ) (bytes : List ℕ) (some : 1 ≤ length bytes 
 
   pub writing_may : (u v : Words) → log.end + 1 + 4 * many ≤ length (halfwords_in u log.region) → ProgramMayLeave log.region log.end writing u v → AppendMayLeave log line bytes u v
   writing_may u v fits (inl same) entries end sector = subst (λ (x : Words). InRegion log.region (IsOneOfThree entries line many (halfwords_of bytes)) u x) (sym same) (still log.region (IsOneOfThree entries line many (halfwords_of bytes)) u (inl sector))
-  writing_may u v fits (inr did) entries end sector = weaker log.region u v (λ l p. inr (inl (begun many, p.can, p.sector))) (begins u v fits did entries end sector)
+  writing_may u v fits (inr did) entries end sector = weaker log.region u v (λ l p. inr (inl (begun many, p.can, p.sector, record { count = 0; prefix = λ k lt. absurd (omega (arith, lt)); rest = λ k from below. refl }))) (begins u v fits did entries end sector)
 
   pub then_completes : (u v w : Words) → log.end + 1 + 4 * many ≤ length (halfwords_in u log.region) → Programs log.region log.end writing u v → Completes log.region log.end line bytes v w → Appends log line bytes u w
   then_completes u v w fits did completes entries end sector =
@@ -217,8 +224,8 @@ module _ (log : Log) (torn : Torn) (is : log.torn ≡ Some torn) (bytes : List �
   pub finish_may : (u v : Words) → CompleteMayLeave log.region torn.at torn.line bytes u v → FinishMayLeave log bytes u v
   finish_may u v may mark entries line lines content last can =
       let at = can_fill u mark entries line lines content last can in
-      subst (λ (n : ℕ). InRegion log.region (IsOneOfTwo mark entries line n (halfwords_of bytes)) u v) at.1
-      (subst (λ (n : ℕ). InRegion log.region (IsOneOfTwo mark entries n (length bytes / 8) (halfwords_of bytes)) u v) at.0 (may mark entries content at.2))
+      subst (λ (n : ℕ). InRegion log.region (IsOneOfTwo mark entries line n content (halfwords_of bytes)) u v) at.1
+      (subst (λ (n : ℕ). InRegion log.region (IsOneOfTwo mark entries n (length bytes / 8) content (halfwords_of bytes)) u v) at.0 (may mark entries content at.2))
 
   pub finishes : (u v : Words) → Completes log.region torn.at torn.line bytes u v → Finishes log bytes u v
   finishes u v did mark entries line lines content last can =

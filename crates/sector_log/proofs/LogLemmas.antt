@@ -1,6 +1,6 @@
 -- One more entry, read at the end of a log.
 use Rattle.std.proofs.Common.{◌≡◌, ◌≢◌, inl, inr, ℕ, ◌+◌, ◌-◌, ◌*◌, ◌/◌, ◌<◌, ◌≤◌, Bool, true, false, Option, Some, None, List, [], ◌∷◌, ◌++◌, length, get_or, take, drop, replicate, refl, sym, ◌∙◌, ap, subst, arith, eq-eqb, append_assoc}
-use Rattle.std.specs.Prelude.{if◌then◌else◌, ◌==◌, Result, Ok, Err, IfErr}
+use Rattle.std.specs.Prelude.{if◌then◌else◌, ◌==◌, IsTrue, Result, Ok, Err, IfErr}
 use Rattle.std.specs.Option.{option_and_then}
 use Rattle.std.proofs.lemmas.List.Sums.{fold-append}
 use Rattle.std.proofs.lemmas.List.Elements.{All-nil, All-push}
@@ -8,12 +8,13 @@ use Rattle.std.proofs.lemmas.List.{replicate_more, length-append, drop_more, dro
 use Rattle.flash_traits.specs.declared.board.Mark.{Mark}
 use Rattle.flash_traits.specs.declared.board.Region.{Region}
 use Rattle.flash_traits.specs.declared.board.Mark.TheVariants.{Available}
-use Rattle.flash_traits.specs.declared.board.Region.TheVariants.{S0, S1, Guard}
+use Rattle.flash_traits.specs.declared.numbers.TheConstants.{SIGNATURE}
+use Rattle.flash_traits.proofs.Sizes.{two_halfwords}
 use Rattle.flash_traits.specs.Words.{IsSectorSize, region_length, FirstOther, bytes_of}
 use Rattle.flash_traits.specs.declared.board.LogError.{LogError}
 use Rattle.flash_traits.specs.declared.board.LogError.TheVariants as errors
 use Rattle.sector_log.specs.Errors.{OnWord}
-use Rattle.sector_log.specs.Sector.{Splits, FirstBad}
+use Rattle.sector_log.specs.Sector.{Splits, BadHead, FirstBad}
 use Rattle.flash_traits.specs.Marks.{mark_word}
 use Rattle.sector_log.specs.declared.header.Header.{Header}
 use Rattle.sector_log.specs.declared.log.Log.{Log}
@@ -201,27 +202,20 @@ if_err_weaker (Ok x) P Q h p = tt
 if_err_weaker (Err e) P Q h p = h e p
 
 -- the halfword behind a mark isn't 5168
-pub bad_second : (words : List ℕ) (mark : Mark) (word : ℕ) → 2 ≤ length words → mark_word mark ≡ get_or words 0 0 → word ≡ get_or words 1 0 → word ≢ 20840 → FirstBad words 1 word
-bad_second [] mark word le first second other = absurd (omega arith)
-bad_second (w ∷ []) mark word le first second other = absurd (omega arith)
-bad_second (w ∷ v ∷ words) mark word le first second other =
-    inl (inr (record {
+pub bad_second : (may : Mark → Bool) (words : List ℕ) (mark : Mark) (word : ℕ) → 2 ≤ length words → IsTrue (may mark)
+    → mark_word mark ≡ get_or words 0 0 → word ≡ get_or words 1 0 → word ≢ SIGNATURE → BadHead may words 1 word
+bad_second may [] mark word le allowed first second other = absurd (omega arith)
+bad_second may (w ∷ []) mark word le allowed first second other = absurd (omega arith)
+bad_second may (w ∷ v ∷ words) mark word le allowed first second other =
+    inr (record {
       mark = mark;
       more = words;
-      allowed = refl;
+      allowed = allowed;
       second = refl;
       at = ap (λ (u : ℕ). u ∷ v ∷ words) (sym first) ∙ ap (λ (u : ℕ). mark_word mark ∷ u ∷ words) (sym second);
       bad = other;
-    }))
+    })
 
-half : (size : ℕ) → IsSectorSize size → 2 ≤ size / 2
-half size (inl is) = omega (arith, is)
-half size (inr (inl is)) = omega (arith, is)
-half size (inr (inr (inl is))) = omega (arith, is)
-half size (inr (inr (inr is))) = omega (arith, is)
-
--- each region has more than two halfwords
+-- each region has two halfwords at least
 pub two_inside : (size : ℕ) (r : Region) → IsSectorSize size → 2 ≤ region_length size r
-two_inside size S0 is = half size is
-two_inside size S1 is = half size is
-two_inside size Guard is = omega arith
+two_inside size r is = two_halfwords size is r

@@ -1,7 +1,8 @@
 -- What an append and the completing of a torn entry do, and what a loss in one leaves.
-use Rattle.std.specs.Prelude.{◌≡◌, ◌⊎◌, ◌≤◌, ℕ, ◌+◌, ◌-◌, ◌*◌, ◌/◌, List, [], ◌∷◌, ◌++◌, length, true, None, IfSome, IsSome}
+use Rattle.std.specs.Prelude.{◌≡◌, ◌⊎◌, ◌≤◌, ◌<◌, ℕ, ◌+◌, ◌-◌, ◌*◌, ◌/◌, List, [], ◌∷◌, ◌++◌, length, slice_index, replicate, true, None, IfSome, IsSome}
 use Rattle.flash_traits.specs.Words.{Words, halfwords_in, with_halfwords, IsSectorRegion, halfwords_of}
 use Rattle.flash_traits.specs.declared.board.Region.{Region}
+use Rattle.flash_traits.specs.declared.numbers.TheConstants.{ERASED}
 use Rattle.flash_traits.specs.declared.board.Mark.{Mark}
 use Rattle.flash_traits.specs.declared.board.Mark.TheVariants.{InUse}
 use Rattle.sector_log.specs.declared.log.Log.{Log}
@@ -23,11 +24,20 @@ pub record InRegion (r : Region) (P : List ℕ → Type 0) (old new : Words) : T
 abbrev pub entry_of : ℕ → ℕ → ℕ → List ℕ → Entry
 entry_of state line lines content = record { header = record { state = state; line = line; lines = lines }; content = content }
 
--- the log without the entry, with it torn so that it can be completed, or with it valid
+-- A prefix of these halfwords is already programmed to the new ones, and the rest is as it was before.
+pub record IsPartWay (before new now : List ℕ) : Type 0 where
+  pub count : ℕ
+  pub prefix : (k : ℕ) → k < count → slice_index now k ≡ slice_index new k
+  pub rest : (k : ℕ) → count ≤ k → k < length now → slice_index now k ≡ slice_index before k
+
+-- The log without the entry, with it torn so that it can be completed, or with it valid. Where it is torn, a prefix of
+-- its content is programmed, and the rest is erased.
 abbrev pub IsOneOfThree : List Entry → ℕ → ℕ → List ℕ → List ℕ → Type 0
 IsOneOfThree entries line lines content words =
     IsSector words InUse entries
-    ⊎ ((old : List ℕ) × (programmable old content ≡ true) × IsSector words InUse (entries ++ entry_of 1 line lines old ∷ []))
+    ⊎ ((now : List ℕ) × (programmable now content ≡ true)
+        × IsSector words InUse (entries ++ entry_of 1 line lines now ∷ [])
+        × IsPartWay (replicate (4 * lines) ERASED) content now)
     ⊎ IsSector words InUse (entries ++ entry_of 0 line lines content ∷ [])
 
 -- an append of these bytes from this line on, to a sector in use whose entries end where the log says
@@ -43,10 +53,13 @@ Appends log line bytes old new = (entries : List Entry) → log.end ≡ end_of e
 abbrev pub appended : Log → ℕ → Log
 appended log lines = record { region = log.region; mark = log.mark; end = log.end + 1 + 4 * lines; torn = None; valid = log.valid + 1; gaps = log.gaps }
 
--- the last entry stays torn so that it can be completed, or is valid
-abbrev pub IsOneOfTwo : Mark → List Entry → ℕ → ℕ → List ℕ → List ℕ → Type 0
-IsOneOfTwo mark entries line lines content words =
-    ((old : List ℕ) × (programmable old content ≡ true) × IsSector words mark (entries ++ entry_of 1 line lines old ∷ []))
+-- The last entry stays torn so that it can be completed, or is valid. Where it is torn, a prefix of its content is
+-- programmed, and the rest is as it was before.
+abbrev pub IsOneOfTwo : Mark → List Entry → ℕ → ℕ → List ℕ → List ℕ → List ℕ → Type 0
+IsOneOfTwo mark entries line lines before content words =
+    ((now : List ℕ) × (programmable now content ≡ true)
+        × IsSector words mark (entries ++ entry_of 1 line lines now ∷ [])
+        × IsPartWay before content now)
     ⊎ IsSector words mark (entries ++ entry_of 0 line lines content ∷ [])
 
 -- the log is that of the region's words, and its last entry is torn
@@ -57,7 +70,7 @@ pub record IsTornLast (log : Log) (words : Words) (mark : Mark) (entries : List 
 -- completing the torn last entry with these bytes
 abbrev pub FinishMayLeave : Log → List ℕ → Words → Words → Type 0
 FinishMayLeave log bytes old new = (mark : Mark) (entries : List Entry) (line lines : ℕ) (content : List ℕ) → IsTornLast log old mark entries line lines content
-    → programmable content (halfwords_of bytes) ≡ true → InRegion log.region (IsOneOfTwo mark entries line lines (halfwords_of bytes)) old new
+    → programmable content (halfwords_of bytes) ≡ true → InRegion log.region (IsOneOfTwo mark entries line lines content (halfwords_of bytes)) old new
 
 abbrev pub Finishes : Log → List ℕ → Words → Words → Type 0
 Finishes log bytes old new = (mark : Mark) (entries : List Entry) (line lines : ℕ) (content : List ℕ) → IsTornLast log old mark entries line lines content

@@ -7,7 +7,7 @@ use Rattle.sector_log.specs.Entries.{Entry}
 use Rattle.sector_log.specs.Bytes.{programmable}
 use Rattle.sector_log.specs.Sector.{IsSector}
 use Rattle.sector_log.specs.Log.{end_of}
-use Rattle.sector_log.specs.Appends.{InRegion, entry_of, IsOneOfTwo}
+use Rattle.sector_log.specs.Appends.{InRegion, entry_of, IsOneOfTwo, IsPartWay}
 
 -- the last entry is torn, and its content begins at this place and can become another one
 pub record CanFill (at : ℕ) (new : List ℕ) (mark : Mark) (entries : List Entry) (line lines : ℕ) (content words : List ℕ) : Type 0 where
@@ -18,7 +18,8 @@ pub record CanFill (at : ℕ) (new : List ℕ) (mark : Mark) (entries : List Ent
 -- the content of a torn last entry is programmed to these bytes, one halfword after the other
 abbrev pub FillMayLeave : Region → ℕ → List ℕ → Words → Words → Type 0
 FillMayLeave r at bytes old new = (mark : Mark) (entries : List Entry) (line lines : ℕ) (content : List ℕ) → CanFill at (halfwords_of bytes) mark entries line lines content (halfwords_in old r)
-    → InRegion r (λ words. (left : List ℕ) × CanFill at (halfwords_of bytes) mark entries line lines left words) old new
+    → InRegion r (λ words. (now : List ℕ) × CanFill at (halfwords_of bytes) mark entries line lines now words
+        × IsPartWay content (halfwords_of bytes) now) old new
 
 abbrev pub Fills : Region → ℕ → List ℕ → Words → Words → Type 0
 Fills r at bytes old new = (mark : Mark) (entries : List Entry) (line lines : ℕ) (content : List ℕ) → CanFill at (halfwords_of bytes) mark entries line lines content (halfwords_in old r)
@@ -27,7 +28,7 @@ Fills r at bytes old new = (mark : Mark) (entries : List Entry) (line lines : �
 -- the torn last entry, whose header stands at this place, becomes a valid one with these bytes
 abbrev pub CompleteMayLeave : Region → ℕ → ℕ → List ℕ → Words → Words → Type 0
 CompleteMayLeave r at line bytes old new = (mark : Mark) (entries : List Entry) (content : List ℕ) → CanFill (at + 1) (halfwords_of bytes) mark entries line (length bytes / 8) content (halfwords_in old r)
-    → InRegion r (IsOneOfTwo mark entries line (length bytes / 8) (halfwords_of bytes)) old new
+    → InRegion r (IsOneOfTwo mark entries line (length bytes / 8) content (halfwords_of bytes)) old new
 
 abbrev pub Completes : Region → ℕ → ℕ → List ℕ → Words → Words → Type 0
 Completes r at line bytes old new = (mark : Mark) (entries : List Entry) (content : List ℕ) → CanFill (at + 1) (halfwords_of bytes) mark entries line (length bytes / 8) content (halfwords_in old r)

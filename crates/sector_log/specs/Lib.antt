@@ -8,4 +8,5 @@ pub mod Walks
 pub mod Appends
 pub mod Fills
 pub mod Errors
+pub mod Heads
 pub mod Laws

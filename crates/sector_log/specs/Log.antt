@@ -1,5 +1,5 @@
 -- What a scan tells of a list of entries.
-use Rattle.std.specs.Prelude.{◌≡◌, All, ℕ, ◌+◌, ◌-◌, List, [], ◌∷◌, ◌++◌, length, drop, if◌then◌else◌, ◌==◌, Option, Some, None}
+use Rattle.std.specs.Prelude.{◌≡◌, ◌≤◌, ◌⊎◌, All, ℕ, ◌+◌, ◌-◌, List, [], ◌∷◌, ◌++◌, length, drop, if◌then◌else◌, ◌==◌, Option, Some, None}
 use Rattle.std.specs.List.{count_by}
 use Rattle.std.specs.Option.{option_or, option_and_then}
 use Rattle.flash_traits.specs.declared.board.Region.{Region}
@@ -7,6 +7,7 @@ use Rattle.flash_traits.specs.declared.board.Mark.{Mark}
 use Rattle.sector_log.specs.declared.log.Torn.{Torn}
 use Rattle.sector_log.specs.declared.log.Log.{Log}
 use Rattle.sector_log.specs.Entries.{Entry, IsEntry, entry_words, spelling}
+use Rattle.sector_log.specs.Sector.{Splits}
 use Rattle.sector_log.specs.Bytes.{applied}
 
 -- the offset behind the last entry
@@ -34,6 +35,16 @@ pub record IsLogOf (log : Log) (of : Region) (first : Mark) (entries : List Entr
   pub valid : log.valid ≡ count_by (λ e. e.header.state == 0) entries
   pub gaps : log.gaps ≡ count_by (λ e. e.header.state == 1) entries
 
+-- the region, the mark and the end of a log
+abbrev pub region_in : Log → Region
+region_in log = log.region
+
+abbrev pub mark_in : Log → Mark
+mark_in log = log.mark
+
+abbrev pub end_in : Log → ℕ
+end_in log = log.end
+
 -- After a refusal: the bytes with the valid ones of some entries behind the sector's first two halfwords, those that were read.
 pub record IsReadSoFar (words before after : List ℕ) : Type 0 where
   pub entries : List Entry
@@ -41,3 +52,11 @@ pub record IsReadSoFar (words before after : List ℕ) : Type 0 where
   pub whole : drop 2 words ≡ spelling entries ++ rest
   pub each : All IsEntry entries
   pub bytes : after ≡ applied before entries
+
+-- After a refusal at this place: the bytes with the valid ones of all entries before it. Among the first two halfwords
+-- that is none of them, and else no entry begins where they end.
+abbrev pub IsReadUpTo : List ℕ → ℕ → List ℕ → List ℕ → Type 0
+IsReadUpTo words place before after =
+    ((place ≤ 1) × (after ≡ before))
+    ⊎ ((mark : Mark) × (entries : List Entry) × (rest : List ℕ)
+        × Splits words mark entries rest × (after ≡ applied before entries))

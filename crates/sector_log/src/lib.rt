@@ -2,6 +2,7 @@
 #![tactic(auto)]
 
 mod header;
+mod heads;
 mod laws;
 mod log;
 mod reading;
@@ -9,6 +10,7 @@ mod torn;
 mod writing;
 
 pub use header::{Header, header_of, word_of};
+pub use heads::{Marks, begin_sector, read_head, set_mark};
 pub use laws::{
     each_halfword_is_tested, last_entry_counts, one_header, one_of_both, one_reading, two_parts,
 };

@@ -12,28 +12,20 @@ ghost use Rattle.sector_log.specs.Sector.{HasHead, FirstBad, IsSector, Splits};
 ghost use Rattle.sector_log.specs.Entries.{Entry, NoEntry};
 ghost use Rattle.sector_log.specs.Bytes.{applied};
 ghost use Rattle.flash_traits.specs.Values.{put};
-ghost use Rattle.sector_log.specs.Log.{IsLogOf, IsReadSoFar};
+ghost use Rattle.sector_log.specs.Log.{IsLogOf, IsReadSoFar, IsReadUpTo};
 ghost use Rattle.sector_log.specs.Appends.{IsLogIn};
 ghost use Rattle.sector_log.specs.Walks.{Adds, BadHere, Walked};
 
-use crate::{Header, Log, Torn, header_of};
+use crate::{Header, Log, Marks, Torn, header_of, read_head};
 use byteorder::{ByteOrder, LittleEndian};
-use flash_traits::{Board, Fault, LogError, Mark, Region};
+use flash_traits::{Board, ERASED, LogError, Mark, Region, read_halfword};
 
-/// The halfword at an offset.
-fn word_at<B: Board>(board: &mut B, region: Region, at: u32) -> Result<u16, LogError>
-    requires attached { IsSectorSize (B.sector_bytes board.old) }
-    requires inside { at < region_length (B.sector_bytes board.old) region }
-    ensures word { IfOk result (λ word. B.tells board.new → word ≡ slice_index (halfwords_in (B.words board.old) region) at) }
-    ensures no_word { IfErr result (λ e. OnWord e (λ offset word. ⊥)) }
-    ensures fault { IfErr result (λ e. OnFault e (λ kind. (kind ≡ Read) × Rose (B.faults board.old Read) (B.faults board.new Read))) }
-    ensures reads { OnlyReads B.Board board.old board.new }
-{
-    match board.read(region, at) {
-        Ok(word) => Ok(word),
-        Err(_) => Err(LogError::Fault(Fault::Read)),
-    }
-}
+// All marks.
+const ANY_MARK: Marks = Marks {
+    available: true,
+    in_use: true,
+    full: true,
+};
 
 /// The bytes of as many halfwords from an offset on as the buffer has room for.
 fn content_at<B: Board>(
@@ -53,7 +45,7 @@ fn content_at<B: Board>(
     ensures reads { OnlyReads B.Board board.old board.new }
 {
     for i in 0..count {
-        let word = word_at(board, region, at + i)?;
+        let word = read_halfword(board, region, at + i)?;
         let place = 2 * i as usize;
         LittleEndian::write_u16(&mut content[place..place + 2], word);
     }
@@ -108,8 +100,8 @@ fn next_header<B: Board>(board: &mut B, len: u32, log: Log) -> Result<Option<Hea
     if log.end == len {
         return Ok(None);
     }
-    let word = word_at(board, log.region, log.end)?;
-    if word == 0xFFFF {
+    let word = read_halfword(board, log.region, log.end)?;
+    if word == ERASED {
         return Ok(None);
     }
     let bad = LogError::Word {
@@ -211,29 +203,6 @@ fn entries_of<B: Board>(
     Ok(log)
 }
 
-/// The mark of a sector, tested with the halfword behind it.
-fn mark_at<B: Board>(board: &mut B, region: Region) -> Result<Mark, LogError>
-    requires attached { IsSectorSize (B.sector_bytes board.old) }
-    requires sector { IsSectorRegion region }
-    ensures mark { IfOk result (λ mark. B.tells board.new → HasHead (halfwords_in (B.words board.old) region) mark) }
-    ensures word { IfErr result (λ e. OnWord e (λ place word. B.tells board.new → FirstBad (halfwords_in (B.words board.old) region) place word)) }
-    ensures fault { IfErr result (λ e. OnFault e (λ kind. (kind ≡ Read) × Rose (B.faults board.old Read) (B.faults board.new Read))) }
-    ensures reads { OnlyReads B.Board board.old board.new }
-{
-    let word = word_at(board, region, 0)?;
-    let mark = match word {
-        0x5BFF => Mark::Available,
-        0x5BFE => Mark::InUse,
-        0x5BFC => Mark::Full,
-        _ => return Err(LogError::Word { offset: 0, word }),
-    };
-    let word = word_at(board, region, 1)?;
-    if word != 0x5168 {
-        return Err(LogError::Word { offset: 1, word });
-    }
-    Ok(mark)
-}
-
 /// Tests that each halfword from an offset on is erased.
 fn test_erased<B: Board>(board: &mut B, len: u32, region: Region, from: u32) -> Result<(), LogError>
     requires attached { IsSectorSize (B.sector_bytes board.old) }
@@ -245,8 +214,8 @@ fn test_erased<B: Board>(board: &mut B, len: u32, region: Region, from: u32) -> 
     ensures reads { OnlyReads B.Board board.old board.new }
 {
     for at in from..len {
-        let word = word_at(board, region, at)?;
-        if word != 0xFFFF {
+        let word = read_halfword(board, region, at)?;
+        if word != ERASED {
             return Err(LogError::Word { offset: at, word });
         }
     }
@@ -271,6 +240,8 @@ fn log_behind<B: Board>(
         × Splits (halfwords_in (B.words board.old) region) mark entries (drop log.end (halfwords_in (B.words board.old) region))
         × IsLogOf log region mark entries × (into.new ≡ applied into.old entries)) }
     ensures word { IfErr result (λ e. OnWord e (λ place word. B.tells board.new → FirstBad (halfwords_in (B.words board.old) region) place word)) }
+    ensures before { IfErr result (λ e. OnWord e (λ place word. B.tells board.new →
+        IsReadUpTo (halfwords_in (B.words board.old) region) place into.old into.new)) }
     ensures read { OnErr result (B.tells board.new → IsReadSoFar (halfwords_in (B.words board.old) region) into.old into.new) }
     ensures size { length into.new ≡ storage_bytes }
     ensures fault { IfErr result (λ e. OnFault e (λ kind. (kind ≡ Read) × Rose (B.faults board.old Read) (B.faults board.new Read))) }
@@ -291,7 +262,8 @@ fn log_behind<B: Board>(
 
 /// Reads the log of a sector, and puts its valid entries at their lines of the storage, in order.
 ///
-/// After a refusal `into` holds the entries read so far. A Word is the first place where the sector breaks the grammar.
+/// A Word is the first place where the sector breaks the grammar. `into` then holds the entries before it, and after a
+/// Fault those that were read.
 /// Each halfword is read at most once.
 pub fn scan<B: Board>(board: &mut B, region: Region, into: &mut [u8]) -> Result<Log, LogError>
     requires attached { IsSectorSize (B.sector_bytes board.old) }
@@ -306,12 +278,14 @@ pub fn scan<B: Board>(board: &mut B, region: Region, into: &mut [u8]) -> Result<
     ensures log { IfOk result (λ log. B.tells board.new → (entries : List Entry) × IsSector (halfwords_in (B.words board.old) region) log.mark entries
         × IsLogOf log region log.mark entries × (into.new ≡ applied into.old entries)) }
     ensures word { IfErr result (λ e. OnWord e (λ place word. B.tells board.new → FirstBad (halfwords_in (B.words board.old) region) place word)) }
+    ensures before { IfErr result (λ e. OnWord e (λ place word. B.tells board.new →
+        IsReadUpTo (halfwords_in (B.words board.old) region) place into.old into.new)) }
     ensures read { OnErr result (B.tells board.new → IsReadSoFar (halfwords_in (B.words board.old) region) into.old into.new) }
     ensures fault { IfErr result (λ e. OnFault e (λ kind. (kind ≡ Read) × Rose (B.faults board.old Read) (B.faults board.new Read))) }
     ensures reads { OnlyReads B.Board board.old board.new }
 {
     let len = board.geometry().sector_bytes / 2;
-    let mark = mark_at(board, region)?;
+    let mark = read_head(board, region, ANY_MARK)?;
     let log = log_behind(board, len, region, mark, into)?;
     test_erased(board, len, region, log.end)?;
     Ok(log)

@@ -12,24 +12,7 @@ ghost use Rattle.sector_log.specs.Fills.{FillMayLeave, Fills, CompleteMayLeave, 
 
 use crate::{Header, Log, word_of};
 use byteorder::{ByteOrder, LittleEndian};
-use flash_traits::{Board, Fault, Region};
-
-/// Programs a halfword.
-fn program<B: Board>(board: &mut B, region: Region, at: u32, word: u16) -> Result<(), Fault>
-    requires attached { IsSectorSize (B.sector_bytes board.old) }
-    requires inside { at < region_length (B.sector_bytes board.old) region }
-    ensures changes { Changes B.Board board.old board.new (ProgramMayLeave region at word)
-        (ByResult result (Programs region at word) (ProgramMayLeave region at word)) }
-    ensures erases { ErasesNothing B.Board board.old board.new }
-    ensures programs { (B.moment board.new).programs ≡ raised_by 1 (B.moment board.old).programs }
-    ensures cause { HasCause Flash (B.faults board.old) (B.faults board.new) result }
-    ensures kind { IfErr result (λ kind. kind ≡ Flash) }
-{
-    match board.program(region, at, word) {
-        Ok(()) => Ok(()),
-        Err(_) => Err(Fault::Flash),
-    }
-}
+use flash_traits::{Board, Fault, Region, program_halfword};
 
 /// Programs the content of a torn entry, in ascending order.
 fn fill<B: Board>(board: &mut B, region: Region, at: u32, bytes: &[u8]) -> Result<(), Fault>
@@ -46,7 +29,7 @@ fn fill<B: Board>(board: &mut B, region: Region, at: u32, bytes: &[u8]) -> Resul
 {
     for i in 0..bytes.len() / 2 {
         let word = LittleEndian::read_u16(&bytes[2 * i..]);
-        program(board, region, at + i as u32, word)?;
+        program_halfword(board, region, at + i as u32, word)?;
     }
     Ok(())
 }
@@ -76,7 +59,7 @@ fn complete<B: Board>(
         line: first,
         lines: (bytes.len() / 8) as u8,
     });
-    program(board, region, at, valid)
+    program_halfword(board, region, at, valid)
 }
 
 /// Appends an entry of 1 to 8 whole lines behind a log in use: its header as writing, its content, its header as valid.
@@ -103,7 +86,7 @@ pub fn append<B: Board>(board: &mut B, log: Log, first: u16, bytes: &[u8]) -> Re
         line: first,
         lines,
     });
-    program(board, log.region, log.end, writing)?;
+    program_halfword(board, log.region, log.end, writing)?;
     complete(board, log.region, log.end, first, bytes)?;
     Ok(Log {
         end: log.end + 1 + 4 * lines as u32,

@@ -10,7 +10,7 @@ use Rattle.sector_log.proofs.reading.content_at.Goals as goal
 pub loop-i-preserved : goal.loop-i-preserved
 loop-i-preserved g c =
     let inv = c.loop-i.invariant in
-    let read = c.word_at.ensures.reads in
+    let read = c.read_halfword.ensures.reads in
     let at = 2 * c.loop-i.i in
     let lent : length (take (at + 2 - at) (drop at c.loop-i.content)) ≡ 2 =
     length-take-le (at + 2 - at) (drop at c.loop-i.content) (omega (arith, length-drop at c.loop-i.content, inv.size)) ∙ omega arith in

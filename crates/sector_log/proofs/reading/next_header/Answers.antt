@@ -6,7 +6,7 @@ use Rattle.sector_log.proofs.reading.next_header.Goals as goal
 pub returns-then-len-log-clause-word : goal.returns-then-len-log-clause-word
 returns-then-len-log-clause-word g c = λ told.
     let is = c.in_ok-word.ensures.word told in
-    let size = g.met.B.Board.shape c.args.board.now (c.word_at.ensures.reads.changes.told told) c.requires.attached c.args.log.region in
+    let size = g.met.B.Board.shape c.args.board.now (c.read_halfword.ensures.reads.changes.told told) c.requires.attached c.args.log.region in
     record {
       here = refl;
       within = omega (arith, size);

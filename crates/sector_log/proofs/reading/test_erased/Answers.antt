@@ -8,7 +8,7 @@ use Rattle.sector_log.proofs.reading.test_erased.Goals as goal
 pub loop-at-preserved : goal.loop-at-preserved
 loop-at-preserved g c =
     let inv = c.loop-at.invariant in
-    let read = c.word_at.ensures.reads in
+    let read = c.read_halfword.ensures.reads in
     record {
       reads = reads_then g.B.Board g.met.B.Board.reads inv.reads read;
       erased = λ told. let told_then = read.changes.told told in
