@@ -12,7 +12,7 @@ use Rattle.flash_traits.specs.Words.{Words}
 use Rattle.flash_traits.specs.declared.board.Region.{Region}
 use Rattle.flash_traits.specs.declared.board.Region.TheVariants.{S0, S1}
 use Rattle.guard_row.specs.Row as guard_row
-use Rattle.guard_row.specs.Says.{void_of}
+use Rattle.guard_row.specs.Home.{void_of}
 use Rattle.sector_log.specs.declared.log.Log.{Log}
 use Rattle.sector_log.specs.Entries.{Entry}
 use Rattle.sector_log.specs.Sector as sector
