@@ -18,6 +18,7 @@ blank_halfwords n = record {
   guard = replicate GUARD_HALFWORDS ERASED;
 }
 
--- the halfwords at odd offsets of one region are FFFF, and all others as they were: what a failed erase leaves
+-- the halfwords at odd offsets of one region are FFFF, and all others as they were: what a failed
+-- erase leaves
 abbrev pub half_erased : Words → Region → Words
 half_erased w r = with_halfwords w r (half_set (halfwords_in w r))

@@ -35,7 +35,8 @@ start base = record { words = words_of base; events = []; frames = [] }
 abbrev pub frame_of : Sent → SentFrame
 frame_of s = sent_frame s.peer s.bytes.items
 
--- The record, replayed over the image of the last attach, gives the image, the moment and the first frames.
+-- The record, replayed over the image of the last attach, gives the image, the moment and the first
+-- frames.
 pub record IsKept (image base : Flash) (feed : List Feed) (calls : List Call) (sent : List Sent) (now first : Counts) : Type 0 where
   pub words : words_of image ≡ (replayed feed calls (start base)).words
   pub moment : moment_of now ≡ moment_after feed calls (moment_of first)

@@ -13,7 +13,8 @@ use Rattle.flash_board.specs.declared.memory.Memory.{Memory}
 abbrev pub Now : Memory → Outcome → Type 0
 Now m o = (m.full ≡ false) × (o ≡ replayed m.feed.items m.calls.items (start m.base))
 
--- while there is room in the record: what a loss between or inside the recorded calls may have left since a moment
+-- while there is room in the record: what a loss between or inside the recorded calls may have left
+-- since a moment
 abbrev pub Left : Memory → Moment → Outcome → Type 0
 Left m t o = (m.full ≡ false) × LeftBy m.feed.items m.calls.items (moment_of m.first) (start m.base) t o
 
@@ -95,7 +96,8 @@ pub record MemorySends (old new : Memory) (frame : SentFrame) (done : Bool) : Ty
   pub passes : MemoryPasses old new (Either Unchanged (Sends frame)) (IfSent done (Sends frame) (Either Unchanged (Sends frame)))
   pub covers : MemoryCovers old new (Either Unchanged (Sends frame))
 
--- while it tells, it stands for one pair of lists, and a loss now leaves just these and what reads give
+-- while it tells, it stands for one pair of lists, and a loss now leaves just these and what reads
+-- give
 pub one_pair : (m : Memory) (told : m.full ≡ false) (e : List Received) (f : List SentFrame) → HasLists m e f ↔ ((e ≡ events_of m) × (f ≡ frames_of m))
 one_pair m told e f = (λ stood. stood told, λ same told. same)
 

@@ -52,7 +52,8 @@ module _ (feed : List Feed) where
   moment_after [] t = t
   moment_after (c ∷ calls) t = moment_after calls (counted c t)
 
-  -- a loss since t, in front of one of these calls, inside it, or behind the last, when m and s were before the first
+  -- a loss since t, in front of one of these calls, inside it, or behind the last, when m and s
+  -- were before the first
   abbrev pub LeftBy : List Call → Moment → Outcome → Moment → Outcome → Type 0
   LeftBy [] m s t o = IsUpTo t m × (o ≡ s)
   LeftBy (c ∷ calls) m s t o = (IsUpTo t m × ((o ≡ s) ⊎ MayLeave c s o)) ⊎ LeftBy calls (counted c m) (stepped c s) t o

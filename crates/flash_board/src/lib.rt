@@ -1,7 +1,8 @@
 //! Boards, sources and sinks in memory, which tell what they hold.
 //!
-//! Calls of `MemBoard`, `MemSource` and `MemSink` fail by their number; those of `SureBoard`, `SureSource` and `SureSink`
-//! never fail. What they stand for, `Board`, `Source` and `Sink`, is passed on from `flash_traits`.
+//! Calls of `MemBoard`, `MemSource` and `MemSink` fail by their number; those of `SureBoard`,
+//! `SureSource` and `SureSink` never fail. What they stand for, `Board`, `Source` and `Sink`, is
+//! passed on from `flash_traits`.
 #![tactic(auto)]
 
 mod counts;

@@ -11,9 +11,10 @@ use std::alloc::{AllocError, Global};
 
 /// A board in memory whose calls with certain numbers fail.
 ///
-/// It tells its words, events, frames and losses until its record of program, erase, recv and send calls since the last
-/// attach has no room for one more, and then works on as before without telling them. Of each method `goes_on` says when
-/// it tells on, and `as_before` what it does, told or not.
+/// It tells its words, events, frames and losses until its record of program, erase, recv and send
+/// calls since the last attach has no room for one more, and then works on as before without
+/// telling them. Of each method `goes_on` says when it tells on, and `as_before` what it does, told
+/// or not.
 #[derive(Drop)]
 pub struct MemBoard {
     memory: Memory,
@@ -32,10 +33,11 @@ impl MemBoard {
     ghost use Rattle.flash_board.specs.Holdings.{frame_in};
     ghost use Rattle.flash_board.specs.OfMemBoard.{holdings, failing_calls, next_call};
 
-    /// A board with this image and this feed, before its first attach. The call with the number k, counted from 0 over
-    /// all calls but `geometry`, fails where k is in `fails`. A program that fails leaves the halfword as it was, an erase
-    /// leaves odd offsets FFFF and even offsets as they were, a recv received nothing and a send sent nothing. An attach
-    /// fails too where the image has another length than 49,152, 81,920, 147,456 or 278,528 bytes and none is made.
+    /// A board with this image and this feed, before its first attach. The call with the number k,
+    /// counted from 0 over all calls but `geometry`, fails where k is in `fails`. A program that
+    /// fails leaves the halfword as it was, an erase leaves odd offsets FFFF and even offsets as
+    /// they were, a recv received nothing and a send sent nothing. An attach fails too where the
+    /// image has another length than 49,152, 81,920, 147,456 or 278,528 bytes and none is made.
     pub fn new(
         alloc: Global,
         image: &[u8],
@@ -66,14 +68,14 @@ impl MemBoard {
         })
     }
 
-    /// While it tells its words, the board tells everything: the events and frames as one pair of lists, and that a loss
-    /// now leaves just what reads and these lists give.
+    /// While it tells its words, the board tells everything: the events and frames as one pair of
+    /// lists, and that a loss now leaves just what reads and these lists give.
     pub fn tells_all(&self)
         ensures { ⟦<MemBoard as Board>⟧.tells self.now → TellsAll ⟦<MemBoard as Board>⟧ self.now }
     {}
 
-    /// The n-th frame sent since the last attach, counted from 0, with its peer. None where fewer were sent, and for n of
-    /// 4,096 and more.
+    /// The n-th frame sent since the last attach, counted from 0, with its peer. None where fewer
+    /// were sent, and for n of 4,096 and more.
     pub fn sent(&self, n: u32) -> Option<(u8, ArrayVec<u8, 280>)>
         ensures sent_frame { frame_in result ≡ slice_get (holdings self.now).first_frames n }
         ensures told { ⟦<MemBoard as Board>⟧.tells self.now → (e : List Received) (f : List SentFrame) → ⟦<MemBoard as Board>⟧.has_lists self.now e f → (holdings self.now).first_frames ≡ take 4096 f }
@@ -81,7 +83,8 @@ impl MemBoard {
         self.memory.sent(n)
     }
 
-    /// The words as a file's bytes: sector 0, sector 1, the guard row, each halfword with its low byte first.
+    /// The words as a file's bytes: sector 0, sector 1, the guard row, each halfword with its low
+    /// byte first.
     pub fn image(&self, alloc: Global) -> Result<Vec<u8>, AllocError>
         ensures { IfOk result (λ bytes. bytes.items ≡ image_bytes (⟦<MemBoard as Board>⟧.words self.now)) }
     {

@@ -6,8 +6,8 @@ use crate::output::Output;
 use crate::{Failed, Sink};
 use std::alloc::{AllocError, Global};
 
-/// A sink in memory whose calls with certain numbers fail. From the first piece on that finds no room it keeps nothing more and tells
-/// nothing, and works on as before.
+/// A sink in memory whose calls with certain numbers fail. From the first piece on that finds no
+/// room it keeps nothing more and tells nothing, and works on as before.
 #[derive(Drop)]
 pub struct MemSink {
     output: Output,
@@ -20,8 +20,8 @@ impl MemSink {
     ghost use Rattle.std.specs.Prelude.{IfOk, []};
     ghost use Rattle.flash_board.specs.OfMemSink.{failing_calls, next_call, room_of};
 
-    /// A sink with room for so many bytes. The call with the number k, counted from 0, fails where k is in `fails`, and
-    /// writes nothing.
+    /// A sink with room for so many bytes. The call with the number k, counted from 0, fails where
+    /// k is in `fails`, and writes nothing.
     pub fn new(alloc: Global, room: u32, fails: &[u32]) -> Result<MemSink, AllocError>
         ensures told { IfOk result (λ sink. ⟦<MemSink as Sink>⟧.tells_written sink) }
         ensures written { IfOk result (λ sink. ⟦<MemSink as Sink>⟧.written sink ≡ []) }

@@ -6,7 +6,8 @@ use crate::input::Input;
 use crate::{Failed, Source};
 use std::alloc::{AllocError, Global};
 
-/// A source in memory whose calls with certain numbers fail. It tells the bytes that it has given and those that are left.
+/// A source in memory whose calls with certain numbers fail. It tells the bytes that it has given
+/// and those that are left.
 #[derive(Drop)]
 pub struct MemSource {
     input: Input,
@@ -19,7 +20,8 @@ impl MemSource {
     ghost use Rattle.std.specs.Prelude.{IfOk, []};
     ghost use Rattle.flash_board.specs.OfMemSource.{failing_calls, next_call};
 
-    /// A source of these bytes. The call with the number k, counted from 0, fails where k is in `fails`, and gives nothing.
+    /// A source of these bytes. The call with the number k, counted from 0, fails where k is in
+    /// `fails`, and gives nothing.
     pub fn new(alloc: Global, bytes: &[u8], fails: &[u32]) -> Result<MemSource, AllocError>
         ensures told { IfOk result (λ source. ⟦<MemSource as Source>⟧.tells_given source × ⟦<MemSource as Source>⟧.tells_rest source) }
         ensures given { IfOk result (λ source. ⟦<MemSource as Source>⟧.given source ≡ []) }

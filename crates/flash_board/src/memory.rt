@@ -276,7 +276,8 @@ impl Memory {
         Some((sent.peer, copied(sent.bytes.as_slice())))
     }
 
-    /// Attaches the image, or a blank one in its place. False where it has another length than the four.
+    /// Attaches the image, or a blank one in its place. False where it has another length than the
+    /// four.
     pub(crate) fn attach(&mut self, make: Option<u32>) -> bool
         requires { ForSome make IsSectorSize }
         ensures size { OnTrue result (IsSectorSize self.new.sector_bytes × IfSome make (λ size. self.new.sector_bytes ≡ size)) }

@@ -18,7 +18,8 @@ pub(crate) struct Sent {
     pub(crate) bytes: ArrayVec<u8, 280>,
 }
 
-/// A call since the last attach. `done` says that it didn't fail, and `next` is a place in the feed.
+/// A call since the last attach. `done` says that it didn't fail, and `next` is a place in the
+/// feed.
 #[derive(Drop)]
 pub(crate) enum Call {
     Program {

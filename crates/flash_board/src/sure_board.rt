@@ -11,9 +11,10 @@ use std::alloc::{AllocError, Global};
 
 /// A board in memory whose calls never fail.
 ///
-/// It tells its words, events, frames and losses until its record of program, erase, recv and send calls since the last
-/// attach has no room for one more, and then works on as before without telling them. Of each method `goes_on` says when
-/// it tells on, and `as_before` what it does, told or not.
+/// It tells its words, events, frames and losses until its record of program, erase, recv and send
+/// calls since the last attach has no room for one more, and then works on as before without
+/// telling them. Of each method `goes_on` says when it tells on, and `as_before` what it does, told
+/// or not.
 #[derive(Drop)]
 pub struct SureBoard {
     memory: Memory,
@@ -30,8 +31,8 @@ impl SureBoard {
     ghost use Rattle.flash_board.specs.Holdings.{frame_in};
     ghost use Rattle.flash_board.specs.OfSureBoard.{holdings};
 
-    /// A board with this image and this feed, before its first attach. The image has 49,152, 81,920, 147,456 or 278,528
-    /// bytes.
+    /// A board with this image and this feed, before its first attach. The image has 49,152,
+    /// 81,920, 147,456 or 278,528 bytes.
     pub fn new(alloc: Global, image: &[u8], feed: &[Feed]) -> Result<SureBoard, AllocError>
         requires peers { IsTrue (peers_fit feed.now) }
         requires size { IsTrue (is_size (image_size (length image.now))) }
@@ -52,14 +53,14 @@ impl SureBoard {
         ensures { (kind : Fault) → ⟦<SureBoard as Board>⟧.faults self.now kind ≡ 0 }
     {}
 
-    /// While it tells its words, the board tells everything: the events and frames as one pair of lists, and that a loss
-    /// now leaves just what reads and these lists give.
+    /// While it tells its words, the board tells everything: the events and frames as one pair of
+    /// lists, and that a loss now leaves just what reads and these lists give.
     pub fn tells_all(&self)
         ensures { ⟦<SureBoard as Board>⟧.tells self.now → TellsAll ⟦<SureBoard as Board>⟧ self.now }
     {}
 
-    /// The n-th frame sent since the last attach, counted from 0, with its peer. None where fewer were sent, and for n of
-    /// 4,096 and more.
+    /// The n-th frame sent since the last attach, counted from 0, with its peer. None where fewer
+    /// were sent, and for n of 4,096 and more.
     pub fn sent(&self, n: u32) -> Option<(u8, ArrayVec<u8, 280>)>
         ensures sent_frame { frame_in result ≡ slice_get (holdings self.now).first_frames n }
         ensures told { ⟦<SureBoard as Board>⟧.tells self.now → (e : List Received) (f : List SentFrame) → ⟦<SureBoard as Board>⟧.has_lists self.now e f → (holdings self.now).first_frames ≡ take 4096 f }
@@ -67,7 +68,8 @@ impl SureBoard {
         self.memory.sent(n)
     }
 
-    /// The words as a file's bytes: sector 0, sector 1, the guard row, each halfword with its low byte first.
+    /// The words as a file's bytes: sector 0, sector 1, the guard row, each halfword with its low
+    /// byte first.
     pub fn image(&self, alloc: Global) -> Result<Vec<u8>, AllocError>
         ensures { IfOk result (λ bytes. bytes.items ≡ image_bytes (⟦<SureBoard as Board>⟧.words self.now)) }
     {

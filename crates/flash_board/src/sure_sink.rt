@@ -5,8 +5,8 @@ use crate::output::Output;
 use crate::{Failed, Sink};
 use std::alloc::{AllocError, Global};
 
-/// A sink in memory that never fails. From the first piece on that finds no room it keeps nothing more and tells
-/// nothing, and works on as before.
+/// A sink in memory that never fails. From the first piece on that finds no room it keeps nothing
+/// more and tells nothing, and works on as before.
 #[derive(Drop)]
 pub struct SureSink {
     output: Output,

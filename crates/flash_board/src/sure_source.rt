@@ -5,7 +5,8 @@ use crate::input::Input;
 use crate::{Failed, Source};
 use std::alloc::{AllocError, Global};
 
-/// A source in memory that never fails. It tells the bytes that it has given and those that are left.
+/// A source in memory that never fails. It tells the bytes that it has given and those that are
+/// left.
 #[derive(Drop)]
 pub struct SureSource {
     input: Input,

@@ -1,12 +1,12 @@
 -- How calls on a board follow one another.
 use Rattle.std.proofs.Common.{◌≡◌, inl, inr, ⊎_elim, ℕ, List, refl, sym, ◌∙◌, ap, subst, arith, Result, Ok, Err}
 use Rattle.std.specs.Prelude.{IsErr, IsOk}
-use Rattle.flash_traits.specs.Words.{Words, halfwords_in, with_halfwords}
+use Rattle.flash_traits.specs.Words.{Words, Same, halfwords_in, with_halfwords}
 use Rattle.flash_traits.specs.declared.board.Region.{Region}
 use Rattle.flash_traits.specs.declared.board.Region.TheVariants.{S0, S1, Guard}
 use Rattle.flash_traits.specs.Losses.{Moment, IsUpTo, after_program, after_recv, after_send, Outcome, Elapses, OnWords, ByResult}
 use Rattle.flash_traits.specs.declared.board.Board.{Ghosts}
-use Rattle.flash_traits.specs.Calls.{Changes, ErasesNothing}
+use Rattle.flash_traits.specs.Calls.{Changes, ErasesNothing, OnlyReads}
 
 pub up_to_self : (t : Moment) → IsUpTo t t
 up_to_self t = record { programs = omega arith; erases = omega arith; receptions = omega arith; sendings = omega arith }
@@ -224,3 +224,13 @@ by_err (Err e) done lost u w err is = is
 pub by_ok : {T E X : Type 0} (r : Result T E) (done lost : X → X → Type 0) (u w : X) → IsOk r → done u w → ByResult r done lost u w
 by_ok (Ok v) done lost u w ok is = is
 by_ok (Err e) done lost u w ok is = absurd (cc)
+
+-- calls that only read, one after the other
+module _ {B : Type 0} (g : Ghosts B) (reads : (b : B) (o : Outcome) → g.now b o → g.tells b × (o.words ≡ g.words b)) where
+  pub reads_then : {a b c : B} → OnlyReads g a b → OnlyReads g b c → OnlyReads g a c
+  reads_then first second = record {
+    changes = chained_words g reads Same Same first.changes second.changes (λ told o same. same) (λ told m o one two. two ∙ one) (λ told m o one two. two ∙ one);
+    keeps_told = λ told. second.keeps_told (first.keeps_told told);
+    moment = second.moment ∙ first.moment;
+    counts = λ k. omega (arith, first.counts k, second.counts k);
+  }

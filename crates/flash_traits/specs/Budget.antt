@@ -18,7 +18,8 @@ line_bytes = 10
 abbrev pub chunks : ℕ
 chunks = LINES / 8
 
--- How many entries of one line fit into a sector beside its header, a full copy of the storage and one
--- more whole entry.
+-- How many entries of one line fit into a sector beside its header, a full copy of the storage and
+-- one more whole entry.
 abbrev pub budget_of : ℕ → ℕ
-budget_of sector_bytes = (sector_bytes - (header_bytes + copy_bytes * chunks + copy_bytes)) / line_bytes
+budget_of sector_bytes =
+    (sector_bytes - (header_bytes + copy_bytes * chunks + copy_bytes)) / line_bytes

@@ -67,15 +67,17 @@ pub record Outcome : Type 0 where
   pub frames : List SentFrame
 
 -- one of the outcomes at the start, after a step
-pub record After (start : Outcome → Type 0) (step : Outcome → Outcome → Type 0) (o : Outcome) : Type 0 where
+pub record After (start : Outcome → Type 0) (step : Outcome → Outcome → Type 0)
+    (o : Outcome) : Type 0 where
   pub from : Outcome
   pub was : start from
   pub steps : step from o
 
--- Time goes on, and what a loss may have left before, it still may, as long as the board tells losses. A loss inside
--- leaves an outcome of before after a step of `lost`, and one at the end leaves one
--- after a step of `done`.
-pub record Elapses {B : Type 0} (moment : B → Moment) (now : B → Outcome → Type 0) (left : B → Moment → Outcome → Type 0)
+-- Time goes on, and what a loss may have left before, it still may, as long as the board tells
+-- losses. A loss inside leaves an outcome of before after a step of `lost`, and one at the end
+-- leaves one after a step of `done`.
+pub record Elapses {B : Type 0} (moment : B → Moment) (now : B → Outcome → Type 0)
+    (left : B → Moment → Outcome → Type 0)
     (old new : B) (lost done : Outcome → Outcome → Type 0) : Type 0 where
   pub later : IsUpTo (moment old) (moment new)
   pub inside : (t : Moment) (o : Outcome) → IsUpTo t (moment old) → left new t o
@@ -103,21 +105,26 @@ abbrev pub Unchanged : Outcome → Outcome → Type 0
 Unchanged old new = new ≡ old
 
 -- the one step or the other
-abbrev pub Either : (Outcome → Outcome → Type 0) → (Outcome → Outcome → Type 0) → Outcome → Outcome → Type 0
+abbrev pub Either : (Outcome → Outcome → Type 0) → (Outcome → Outcome → Type 0) → Outcome → Outcome
+    → Type 0
 Either p q old new = p old new ⊎ q old new
 
 -- the one step at Ok, the other at Err
-abbrev pub ByResult : {T E X : Type 0} → Result T E → (X → X → Type 0) → (X → X → Type 0) → X → X → Type 0
+abbrev pub ByResult : {T E X : Type 0} → Result T E → (X → X → Type 0) → (X → X → Type 0) → X → X
+    → Type 0
 ByResult (Ok v) done lost = done
 ByResult (Err e) done lost = lost
 
--- A call that changes at most the words, and no geometry, event or frame. What was told stays told or is told no
--- more. Where the words are told at the end they have made the step `done`. A loss inside leaves what a loss before
--- the call left, or what stood at its start after a step of `lost`; a loss at the end leaves it after a step of `done`.
--- The trait cites this record while it is declared, and so can't hand over its members as one: `Changes` does.
+-- A call that changes at most the words, and no geometry, event or frame. What was told stays told
+-- or is told no more. Where the words are told at the end they have made the step `done`. A loss
+-- inside leaves what a loss before the call left, or what stood at its start after a step of
+-- `lost`; a loss at the end leaves it after a step of `done`. The trait cites this record while it
+-- is declared, and so can't hand over its members as one: `Changes` does.
 pub record ChangesWords {B : Type 0} (sector_bytes : B → ℕ) (tells : B → Type 0) (words : B → Words)
-    (has_lists : B → List Received → List SentFrame → Type 0) (moment : B → Moment) (now : B → Outcome → Type 0)
-    (left : B → Moment → Outcome → Type 0) (old new : B) (lost done : Words → Words → Type 0) : Type 0 where
+    (has_lists : B → List Received → List SentFrame → Type 0) (moment : B → Moment) (now : B
+    → Outcome → Type 0)
+    (left : B → Moment → Outcome → Type 0) (old new : B) (lost done : Words → Words
+    → Type 0) : Type 0 where
   pub geometry : sector_bytes new ≡ sector_bytes old
   pub told : tells new → tells old
   pub content : tells new → done (words old) (words new)
@@ -131,13 +138,17 @@ pub record ChangesWords {B : Type 0} (sector_bytes : B → ℕ) (tells : B → T
   pub keeps : (n : Outcome) → now new n → (t : Moment) (o : Outcome) → IsUpTo t (moment old)
       → left old t o → left new t o
 
--- Where the board still tells losses, each outcome of a step of `lost` may have been left inside this call.
-pub record Covers {B : Type 0} (moment : B → Moment) (now : B → Outcome → Type 0) (left : B → Moment → Outcome → Type 0)
+-- Where the board still tells losses, each outcome of a step of `lost` may have been left inside
+-- this call.
+pub record Covers {B : Type 0} (moment : B → Moment) (now : B → Outcome → Type 0)
+    (left : B → Moment → Outcome → Type 0)
     (old new : B) (lost : Outcome → Outcome → Type 0) : Type 0 where
-  pub each : (n : Outcome) → now new n → (o : Outcome) → After (now old) lost o → left new (moment old) o
+  pub each : (n : Outcome) → now new n → (o : Outcome) → After (now old) lost o
+      → left new (moment old) o
 
 -- A call of the link, which changes no word and no geometry.
-pub record KeepsWords {B : Type 0} (sector_bytes : B → ℕ) (tells : B → Type 0) (words : B → Words) (old new : B) : Type 0 where
+pub record KeepsWords {B : Type 0} (sector_bytes : B → ℕ) (tells : B → Type 0) (words : B → Words)
+    (old new : B) : Type 0 where
   pub geometry : sector_bytes new ≡ sector_bytes old
   pub told : tells new → tells old
   pub content : tells new → words new ≡ words old

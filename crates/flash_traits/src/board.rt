@@ -1,4 +1,5 @@
-//! The device and its link: each call by what it does, and by what a loss of power inside it may leave.
+//! The device and its link: each call by what it does, and by what a loss of power inside it may
+//! leave.
 ghost use Rattle.std.specs.Prelude.{◌≡◌, ◌⊎◌, ◌<◌, ◌≤◌, ◌++◌, [], ◌∷◌, List, ℕ, length, slice_index, IfOk, OnOk, OnErr, IfSome, MatchResult, MatchOption, Ok, Err, Some};
 ghost use Rattle.std.specs.Option.{ForSome};
 ghost use Rattle.flash_traits.specs.declared.board.Fault.{Fault};
@@ -82,11 +83,12 @@ impl From<Fault> for LogError {
 
 /// A flash device and a link. Offsets count halfwords from the start of a region.
 ///
-/// A program can only clear bits, and an erase makes every halfword of a sector FFFF. A loss of power inside a program
-/// leaves the halfword before or after; inside an erase it leaves anything in that sector. A call that failed leaves what
-/// a loss inside may leave. Programs, erases, receptions and sendings are counted on one clock, the moment, so that one
-/// loss leaves words, events and frames together. A board need not tell its words, events or frames; what it doesn't tell
-/// it never tells later.
+/// A program can only clear bits, and an erase makes every halfword of a sector FFFF. A loss of
+/// power inside a program leaves the halfword before or after; inside an erase it leaves anything
+/// in that sector. A call that failed leaves what a loss inside may leave. Programs, erases,
+/// receptions and sendings are counted on one clock, the moment, so that one loss leaves words,
+/// events and frames together. A board need not tell its words, events or frames; what it doesn't
+/// tell it never tells later.
 pub trait Board {
     /// The sector size of the last attach, or 0.
     ghost sector_bytes: { Self → ℕ };
@@ -97,7 +99,8 @@ pub trait Board {
     /// The words that reads give, where they are told.
     ghost words: { Self → Words };
 
-    /// The board stands for these events received so far and these frames sent so far. Where it doesn't tell them, it stands for any.
+    /// The board stands for these events received so far and these frames sent so far. Where it
+    /// doesn't tell them, it stands for any.
     ghost has_lists: { Self → List Received → List SentFrame → Type 0 };
 
     /// How many calls of each kind there were.
@@ -112,17 +115,23 @@ pub trait Board {
     /// How often each kind of call has failed.
     ghost faults: { Self → Fault → ℕ };
 
-    /// Opens the image of this name, or with `make` a blank one of that sector size in its place. Port 0 opens no link.
-    /// The lists begin anew.
+    /// Opens the image of this name, or with `make` a blank one of that sector size in its place.
+    /// Port 0 opens no link. The lists begin anew.
     fn attach(&mut self, name: &str, port: u16, make: Option<u32>) -> Result<Geometry, Failed>
         requires { ForSome make IsSectorSize }
-        ensures geometry { IfOk result (λ geometry. (sector_bytes self.new ≡ geometry.sector_bytes) × IsSectorSize geometry.sector_bytes
+        ensures geometry { IfOk result
+            (λ geometry. (sector_bytes self.new ≡ geometry.sector_bytes)
+            × IsSectorSize geometry.sector_bytes
             × IfSome make (λ size. geometry.sector_bytes ≡ size)) }
         ensures told { tells self.new → tells self.old }
-        ensures words { OnOk result (tells self.new → MatchOption make (words self.new ≡ words self.old) (λ size. words self.new ≡ blank size)) }
+        ensures words { OnOk result (tells self.new
+            → MatchOption make (words self.new ≡ words self.old)
+            (λ size. words self.new ≡ blank size)) }
         ensures lists { OnOk result (has_lists self.new [] []) }
-        ensures starts { OnOk result ((o : Outcome) → now self.new o → (o.events ≡ []) × (o.frames ≡ [])) }
-        ensures untold { ((e : List Received) (f : List SentFrame) → has_lists self.old e f) → (e : List Received) (f : List SentFrame) → has_lists self.new e f }
+        ensures starts { OnOk result ((o : Outcome) → now self.new o → (o.events ≡ [])
+            × (o.frames ≡ [])) }
+        ensures untold { ((e : List Received) (f : List SentFrame) → has_lists self.old e f)
+            → (e : List Received) (f : List SentFrame) → has_lists self.new e f }
         ensures moment { moment self.new ≡ moment self.old }
         ensures cause { HasCause Fault.Attach (faults self.old) (faults self.new) result };
 
@@ -135,8 +144,10 @@ pub trait Board {
     fn read(&mut self, region: Region, at: u32) -> Result<u16, Failed>
         requires attached { IsSectorSize (sector_bytes self.old) }
         requires inside { at < region_length (sector_bytes self.old) region }
-        ensures value { tells self.new → IfOk result (λ word. word ≡ slice_index (halfwords_in (words self.old) region) at) }
-        ensures changes { ChangesWords sector_bytes tells words has_lists moment now left self.old self.new Same Same }
+        ensures value { tells self.new
+            → IfOk result (λ word. word ≡ slice_index (halfwords_in (words self.old) region) at) }
+        ensures changes { ChangesWords sector_bytes tells words has_lists moment now left
+            self.old self.new Same Same }
         ensures keeps_told { tells self.old → tells self.new }
         ensures moment { moment self.new ≡ moment self.old }
         ensures cause { HasCause Fault.Read (faults self.old) (faults self.new) result };
@@ -145,9 +156,11 @@ pub trait Board {
     fn program(&mut self, region: Region, at: u32, word: u16) -> Result<(), Failed>
         requires attached { IsSectorSize (sector_bytes self.old) }
         requires inside { at < region_length (sector_bytes self.old) region }
-        ensures changes { ChangesWords sector_bytes tells words has_lists moment now left self.old self.new (ProgramMayLeave region at word)
+        ensures changes { ChangesWords sector_bytes tells words has_lists moment now left
+            self.old self.new (ProgramMayLeave region at word)
             (ByResult result (Programs region at word) (ProgramMayLeave region at word)) }
-        ensures covers { Covers moment now left self.old self.new (OnWords (ProgramMayLeave region at word)) }
+        ensures covers { Covers moment now left self.old self.new
+            (OnWords (ProgramMayLeave region at word)) }
         ensures moment { moment self.new ≡ after_program (moment self.old) }
         ensures cause { HasCause Fault.Flash (faults self.old) (faults self.new) result };
 
@@ -155,7 +168,8 @@ pub trait Board {
     fn erase(&mut self, region: Region) -> Result<(), Failed>
         requires attached { IsSectorSize (sector_bytes self.old) }
         requires sector { IsSectorRegion region }
-        ensures changes { ChangesWords sector_bytes tells words has_lists moment now left self.old self.new (EraseMayLeave region)
+        ensures changes { ChangesWords sector_bytes tells words has_lists moment now left
+            self.old self.new (EraseMayLeave region)
             (ByResult result (Erases region) (EraseMayLeave region)) }
         ensures covers { Covers moment now left self.old self.new (OnWords (EraseMayLeave region)) }
         ensures moment { moment self.new ≡ after_erase (moment self.old) }
@@ -168,11 +182,16 @@ pub trait Board {
         ensures bounds { IfOk result (λ event. IsEventInRange event) }
         ensures words { KeepsWords sector_bytes tells words self.old self.new }
         ensures lists { (e : List Received) (f : List SentFrame) → has_lists self.old e f →
-            MatchResult result (λ event. has_lists self.new (e ++ received event into.new ∷ []) f) (λ _. has_lists self.new e f) }
+            MatchResult result (λ event. has_lists self.new (e ++ received event into.new ∷ []) f)
+            (λ _. has_lists self.new e f) }
         ensures time { MatchResult result
-            (λ event. Elapses moment now left self.old self.new (Either Unchanged (Receives (received event into.new))) (Receives (received event into.new)))
+            (λ event. Elapses moment now left self.old self.new
+            (Either Unchanged (Receives (received event into.new)))
+            (Receives (received event into.new)))
             (λ _. Elapses moment now left self.old self.new Unchanged Unchanged) }
-        ensures covers { IfOk result (λ event. Covers moment now left self.old self.new (Either Unchanged (Receives (received event into.new)))) }
+        ensures covers { IfOk result
+            (λ event. Covers moment now left self.old self.new
+            (Either Unchanged (Receives (received event into.new)))) }
         ensures moment { moment self.new ≡ after_recv (moment self.old) }
         ensures cause { HasCause Fault.Recv (faults self.old) (faults self.new) result };
 
@@ -184,10 +203,14 @@ pub trait Board {
         ensures words { KeepsWords sector_bytes tells words self.old self.new }
         ensures lists { (e : List Received) (f : List SentFrame) → has_lists self.old e f →
             MatchResult result (λ _. has_lists self.new e (f ++ sent_frame peer bytes.now ∷ []))
-            (λ _. has_lists self.new e f ⊎ has_lists self.new e (f ++ sent_frame peer bytes.now ∷ [])) }
-        ensures time { Elapses moment now left self.old self.new (Either Unchanged (Sends (sent_frame peer bytes.now)))
-            (ByResult result (Sends (sent_frame peer bytes.now)) (Either Unchanged (Sends (sent_frame peer bytes.now)))) }
-        ensures covers { Covers moment now left self.old self.new (Either Unchanged (Sends (sent_frame peer bytes.now))) }
+            (λ _. has_lists self.new e f
+            ⊎ has_lists self.new e (f ++ sent_frame peer bytes.now ∷ [])) }
+        ensures time { Elapses moment now left self.old self.new
+            (Either Unchanged (Sends (sent_frame peer bytes.now)))
+            (ByResult result (Sends (sent_frame peer bytes.now))
+            (Either Unchanged (Sends (sent_frame peer bytes.now)))) }
+        ensures covers { Covers moment now left self.old self.new
+            (Either Unchanged (Sends (sent_frame peer bytes.now))) }
         ensures moment { moment self.new ≡ after_send (moment self.old) }
         ensures cause { HasCause Fault.Send (faults self.old) (faults self.new) result };
 
@@ -195,11 +218,13 @@ pub trait Board {
     ghost reads: { (b : Self) (o : Outcome) → now b o → tells b × (o.words ≡ words b) };
 
     /// This moment is one of those since an earlier one.
-    ghost counts_now: { (b : Self) (t : Moment) (o : Outcome) → IsUpTo t (moment b) → now b o → left b t o };
+    ghost counts_now: { (b : Self) (t : Moment) (o : Outcome) → IsUpTo t (moment b) → now b o
+        → left b t o };
 
     /// Since this moment there is no other.
     ghost only_now: { (b : Self) (o : Outcome) → left b (moment b) o → now b o };
 
     /// The lists have the lengths of the sector size.
-    ghost shape: { (b : Self) → tells b → IsSectorSize (sector_bytes b) → HasShape (sector_bytes b) (words b) };
+    ghost shape: { (b : Self) → tells b → IsSectorSize (sector_bytes b)
+        → HasShape (sector_bytes b) (words b) };
 }

@@ -2,7 +2,7 @@
 ghost use Rattle.std.specs.Prelude.{◌≡◌, ◌<◌, IfOk, slice_index};
 ghost use Rattle.flash_traits.specs.declared.board.Fault.TheVariants.{Read, Flash};
 ghost use Rattle.flash_traits.specs.Words.{halfwords_in, region_length, IsSectorSize, Programs, ProgramMayLeave};
-ghost use Rattle.flash_traits.specs.Losses.{ByResult};
+ghost use Rattle.flash_traits.specs.Losses.{ByResult, after_program};
 ghost use Rattle.flash_traits.specs.Counts.{raised_by};
 ghost use Rattle.flash_traits.specs.Calls.{Changes, ErasesNothing, OnlyReads};
 ghost use Rattle.flash_traits.specs.Causes.{FailsBy};
@@ -35,6 +35,7 @@ pub fn program_halfword<B: Board>(
     requires inside { at < region_length (B.sector_bytes board.old) region }
     ensures changes { Changes B.Board board.old board.new (ProgramMayLeave region at word)
         (ByResult result (Programs region at word) (ProgramMayLeave region at word)) }
+    ensures moment { B.moment board.new ≡ after_program (B.moment board.old) }
     ensures erases { ErasesNothing B.Board board.old board.new }
     ensures programs { (B.moment board.new).programs ≡ raised_by 1 (B.moment board.old).programs }
     ensures fails { FailsBy Flash (B.faults board.old) (B.faults board.new) result }

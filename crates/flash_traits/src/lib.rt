@@ -1,4 +1,5 @@
-//! A flash device with a link, as the storage above sees it: what reads give, and what a loss of power may leave.
+//! A flash device with a link, as the storage above sees it: what reads give, and what a loss of
+//! power may leave.
 //!
 //! `Board` is the device and its link, `Source` and `Sink` are bytes that come in and go out.
 #![tactic(auto)]

@@ -10,7 +10,8 @@ ghost use Rattle.flash_traits.specs.Pairs.{ProgramsPair, PairMayLeave};
 
 use crate::{Board, Failed, Region};
 
-/// Programs two neighbouring halfwords, as a sector's header has. A loss inside leaves none, the first or both of them.
+/// Programs two neighbouring halfwords, as a sector's header has. A loss inside leaves none, the
+/// first or both of them.
 pub fn program_pair<B: Board>(
     board: &mut B,
     region: Region,
@@ -21,7 +22,8 @@ pub fn program_pair<B: Board>(
     requires attached { IsSectorSize (B.sector_bytes board.old) }
     requires inside { at + 1 < region_length (B.sector_bytes board.old) region }
     ensures changes { Changes B.Board board.old board.new (PairMayLeave region at first second)
-        (ByResult result (ProgramsPair region at first second) (PairMayLeave region at first second)) }
+        (ByResult result (ProgramsPair region at first second)
+        (PairMayLeave region at first second)) }
     ensures programs { (B.moment board.new).programs ≤ raised_by 2 (B.moment board.old).programs }
     ensures erases { ErasesNothing B.Board board.old board.new }
     ensures cause { HasCause Fault.Flash (B.faults board.old) (B.faults board.new) result }

@@ -24,7 +24,8 @@ sector_beside Guard = Guard
 
 -- the home, or the sector that isn't void
 abbrev pub first_of : ℕ → Region
-first_of count = option_map_or (λ home. home) (home_of count) (option_map_or sector_beside (void_of count) S0)
+first_of count =
+    option_map_or (λ home. home) (home_of count) (option_map_or sector_beside (void_of count) S0)
 
 -- the sector beside home, or the void one
 abbrev pub second_of : ℕ → Region

@@ -9,4 +9,5 @@ Counts count old new = IsGuardRow old.guard count → IsGuardRow new.guard (coun
 
 -- a row of this count still has it, or has the next one
 abbrev pub CountMayLeave : ℕ → Words → Words → Type 0
-CountMayLeave count old new = IsGuardRow old.guard count → IsGuardRow new.guard count ⊎ IsGuardRow new.guard (count + 1)
+CountMayLeave count old new =
+    IsGuardRow old.guard count → IsGuardRow new.guard count ⊎ IsGuardRow new.guard (count + 1)

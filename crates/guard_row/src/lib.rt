@@ -1,4 +1,5 @@
-//! The guard row: halfwords that are programmed to 0 one after the other, and count the switches from sector to sector.
+//! The guard row: halfwords that are programmed to 0 one after the other, and count the switches
+//! from sector to sector.
 #![tactic(auto)]
 
 mod home;

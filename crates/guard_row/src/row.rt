@@ -1,17 +1,20 @@
-// The count that a guard row tells, and its next one.
+//! The count that a guard row tells, and the program that makes it the next one.
 ghost use Rattle.std.specs.Prelude.{◌≡◌, ◌≢◌, ◌+◌, ◌<◌, ◌≤◌, ℕ, slice_index, IfOk, OnOk, IfErr};
 ghost use Rattle.flash_traits.specs.declared.board.Fault.{Fault};
 ghost use Rattle.flash_traits.specs.declared.board.Fault.TheVariants.{Read, Flash};
 ghost use Rattle.flash_traits.specs.declared.board.Region.TheVariants.{Guard};
 ghost use Rattle.flash_traits.specs.Words.{IsSectorSize, Same, Programs, ProgramMayLeave};
 ghost use Rattle.flash_traits.specs.Losses.{ByResult, after_program};
-ghost use Rattle.flash_traits.specs.Calls.{Changes};
+ghost use Rattle.flash_traits.specs.Calls.{Changes, OnlyReads};
+ghost use Rattle.flash_traits.specs.declared.numbers.TheConstants.{ERASED, GUARD_HALFWORDS};
 ghost use Rattle.flash_traits.specs.Causes.{Rose, HasCause};
 ghost use Rattle.guard_row.specs.Row.{IsGuardRow, FirstBad, FirstFrom};
 ghost use Rattle.guard_row.specs.Steps.{Counts, CountMayLeave};
 ghost use Rattle.guard_row.specs.Errors.{OnWord, OnFault};
 
-use flash_traits::{Board, Fault, Region};
+use flash_traits::{
+    Board, ERASED, Fault, GUARD_HALFWORDS, Region, program_halfword, read_halfword,
+};
 
 /// Why there is no count.
 #[derive(Clone, Copy, Debug, PartialEq, Eq)]
@@ -22,64 +25,54 @@ pub enum GuardError {
     Word { offset: u32, word: u16 },
 }
 
-/// The halfwords of the guard row.
-const HALFWORDS: u32 = 8192;
+impl From<Fault> for GuardError {
+    ghost use Rattle.guard_row.specs.declared.row.GuardError.TheVariants as errors;
 
-/// The halfword at an offset.
-fn word_at<B: Board>(board: &mut B, at: u32) -> Result<u16, GuardError>
-    requires attached { IsSectorSize (B.sector_bytes board.old) }
-    requires inside { at < 8192 }
-    ensures word { IfOk result (λ word. B.tells board.new → word ≡ slice_index (B.words board.old).guard at) }
-    ensures no_word { IfErr result (λ e. OnWord e (λ offset word. ⊥)) }
-    ensures fault { IfErr result (λ e. OnFault e (λ kind. (kind ≡ Read) × Rose (B.faults board.old Read) (B.faults board.new Read))) }
-    ensures counts { (k : Fault) → B.faults board.old k ≤ B.faults board.new k }
-    ensures changes { Changes B.Board board.old board.new Same Same }
-    ensures keeps_told { B.tells board.old → B.tells board.new }
-    ensures moment { B.moment board.new ≡ B.moment board.old }
-{
-    match board.read(Region::Guard, at) {
-        Ok(word) => Ok(word),
-        Err(_) => Err(GuardError::Fault(Fault::Read)),
+    ghost from_gives = { λ fault e. e ≡ errors.Fault fault };
+
+    fn from(fault: Fault) -> GuardError {
+        GuardError::Fault(fault)
     }
 }
 
 /// How many zeros lead.
 fn leading_zeros<B: Board>(board: &mut B) -> Result<u32, GuardError>
     requires attached { IsSectorSize (B.sector_bytes board.old) }
-    ensures within { IfOk result (λ count. count ≤ 8192) }
-    ensures zeros { IfOk result (λ count. B.tells board.new → (k : ℕ) → k < count → slice_index (B.words board.old).guard k ≡ 0) }
-    ensures other { IfOk result (λ count. B.tells board.new → count < 8192 → slice_index (B.words board.old).guard count ≢ 0) }
+    ensures within { IfOk result (λ count. count ≤ GUARD_HALFWORDS) }
+    ensures zeros { IfOk result (λ count. B.tells board.new →
+        (k : ℕ) → k < count → slice_index (B.words board.old).guard k ≡ 0) }
+    ensures other { IfOk result (λ count. B.tells board.new →
+        count < GUARD_HALFWORDS → slice_index (B.words board.old).guard count ≢ 0) }
     ensures no_word { IfErr result (λ e. OnWord e (λ offset word. ⊥)) }
-    ensures fault { IfErr result (λ e. OnFault e (λ kind. (kind ≡ Read) × Rose (B.faults board.old Read) (B.faults board.new Read))) }
-    ensures counts { (k : Fault) → B.faults board.old k ≤ B.faults board.new k }
-    ensures changes { Changes B.Board board.old board.new Same Same }
-    ensures keeps_told { B.tells board.old → B.tells board.new }
-    ensures moment { B.moment board.new ≡ B.moment board.old }
+    ensures fault { IfErr result (λ e. OnFault e (λ kind. (kind ≡ Read)
+        × Rose (B.faults board.old Read) (B.faults board.new Read))) }
+    ensures reads { OnlyReads B.Board board.old board.new }
 {
-    for at in 0..HALFWORDS {
-        let word = word_at(board, at)?;
+    for at in 0..GUARD_HALFWORDS {
+        let word = read_halfword(board, Region::Guard, at)?;
         if word != 0 {
             return Ok(at);
         }
     }
-    Ok(HALFWORDS)
+    Ok(GUARD_HALFWORDS)
 }
 
 /// Tests that each halfword from an offset on is erased.
 fn test_erased<B: Board>(board: &mut B, from: u32) -> Result<(), GuardError>
     requires attached { IsSectorSize (B.sector_bytes board.old) }
-    requires within { from ≤ 8192 }
-    ensures erased { OnOk result (B.tells board.new → (k : ℕ) → from ≤ k → k < 8192 → slice_index (B.words board.old).guard k ≡ 65535) }
-    ensures word { IfErr result (λ e. OnWord e (λ place word. B.tells board.new → FirstFrom (B.words board.old).guard from place word)) }
-    ensures fault { IfErr result (λ e. OnFault e (λ kind. (kind ≡ Read) × Rose (B.faults board.old Read) (B.faults board.new Read))) }
-    ensures counts { (k : Fault) → B.faults board.old k ≤ B.faults board.new k }
-    ensures changes { Changes B.Board board.old board.new Same Same }
-    ensures keeps_told { B.tells board.old → B.tells board.new }
-    ensures moment { B.moment board.new ≡ B.moment board.old }
+    requires within { from ≤ GUARD_HALFWORDS }
+    ensures erased { OnOk result (B.tells board.new →
+        (k : ℕ) → from ≤ k → k < GUARD_HALFWORDS
+        → slice_index (B.words board.old).guard k ≡ ERASED) }
+    ensures word { IfErr result (λ e. OnWord e (λ place word. B.tells board.new →
+        FirstFrom (B.words board.old).guard from place word)) }
+    ensures fault { IfErr result (λ e. OnFault e (λ kind. (kind ≡ Read)
+        × Rose (B.faults board.old Read) (B.faults board.new Read))) }
+    ensures reads { OnlyReads B.Board board.old board.new }
 {
-    for at in from..HALFWORDS {
-        let word = word_at(board, at)?;
-        if word != 0xFFFF {
+    for at in from..GUARD_HALFWORDS {
+        let word = read_halfword(board, Region::Guard, at)?;
+        if word != ERASED {
             return Err(GuardError::Word { offset: at, word });
         }
     }
@@ -89,10 +82,13 @@ fn test_erased<B: Board>(board: &mut B, from: u32) -> Result<(), GuardError>
 /// How many halfwords of the guard row are 0.
 pub fn count<B: Board>(board: &mut B) -> Result<u16, GuardError>
     requires attached { IsSectorSize (B.sector_bytes board.old) }
-    ensures most { IfOk result (λ count. count ≤ 8192) }
-    ensures count { IfOk result (λ count. B.tells board.new → IsGuardRow (B.words board.old).guard count) }
-    ensures word { IfErr result (λ e. OnWord e (λ place word. B.tells board.new → FirstBad (B.words board.old).guard place word)) }
-    ensures fault { IfErr result (λ e. OnFault e (λ kind. (kind ≡ Read) × Rose (B.faults board.old Read) (B.faults board.new Read))) }
+    ensures most { IfOk result (λ count. count ≤ GUARD_HALFWORDS) }
+    ensures count { IfOk result (λ count. B.tells board.new
+        → IsGuardRow (B.words board.old).guard count) }
+    ensures word { IfErr result (λ e. OnWord e (λ place word. B.tells board.new →
+        FirstBad (B.words board.old).guard place word)) }
+    ensures fault { IfErr result (λ e. OnFault e (λ kind. (kind ≡ Read)
+        × Rose (B.faults board.old Read) (B.faults board.new Read))) }
     ensures counts { (k : Fault) → B.faults board.old k ≤ B.faults board.new k }
     ensures changes { Changes B.Board board.old board.new Same Same }
     ensures keeps_told { B.tells board.old → B.tells board.new }
@@ -103,21 +99,20 @@ pub fn count<B: Board>(board: &mut B) -> Result<u16, GuardError>
     Ok(zeros as u16)
 }
 
-/// Programs the next halfword of the guard row to 0, and gives the next count. A loss inside leaves the count or the
-/// next one.
+/// Programs the next halfword of the guard row to 0, and gives the next count. A loss inside leaves
+/// the count or the next one.
 pub fn step<B: Board>(board: &mut B, count: u16) -> Result<u16, Fault>
     requires attached { IsSectorSize (B.sector_bytes board.old) }
-    requires left { count < 8192 }
+    requires left { count < GUARD_HALFWORDS }
     ensures next { IfOk result (λ next. next ≡ count + 1) }
     ensures changes { Changes B.Board board.old board.new (ProgramMayLeave Guard count 0)
         (ByResult result (Programs Guard count 0) (ProgramMayLeave Guard count 0)) }
-    ensures losses { Changes B.Board board.old board.new (CountMayLeave count) (ByResult result (Counts count) (CountMayLeave count)) }
+    ensures losses { Changes B.Board board.old board.new (CountMayLeave count)
+        (ByResult result (Counts count) (CountMayLeave count)) }
     ensures moment { B.moment board.new ≡ after_program (B.moment board.old) }
     ensures cause { HasCause Flash (B.faults board.old) (B.faults board.new) result }
     ensures kind { IfErr result (λ kind. kind ≡ Flash) }
 {
-    match board.program(Region::Guard, count as u32, 0) {
-        Ok(()) => Ok(count + 1),
-        Err(_) => Err(Fault::Flash),
-    }
+    program_halfword(board, Region::Guard, count as u32, 0)?;
+    Ok(count + 1)
 }

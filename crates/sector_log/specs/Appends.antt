@@ -22,63 +22,86 @@ pub record InRegion (r : Region) (P : List ℕ → Type 0) (old new : Words) : T
 
 -- the entry of this state, first line, number of lines and content
 abbrev pub entry_of : ℕ → ℕ → ℕ → List ℕ → Entry
-entry_of state line lines content = record { header = record { state = state; line = line; lines = lines }; content = content }
+entry_of state line lines content =
+    record { header = record { state = state; line = line; lines = lines }; content = content }
 
--- A prefix of these halfwords is already programmed to the new ones, and the rest is as it was before.
+-- A prefix of these halfwords is already programmed to the new ones, and the rest is as it was
+-- before.
 pub record IsPartWay (before new now : List ℕ) : Type 0 where
   pub count : ℕ
   pub prefix : (k : ℕ) → k < count → slice_index now k ≡ slice_index new k
   pub rest : (k : ℕ) → count ≤ k → k < length now → slice_index now k ≡ slice_index before k
 
--- The log without the entry, with it torn so that it can be completed, or with it valid. Where it is torn, a prefix of
--- its content is programmed, and the rest is erased.
+-- The log without the entry, with it torn so that it can be completed, or with it valid. Where it
+-- is torn, a prefix of its content is programmed, and the rest is erased.
 abbrev pub IsOneOfThree : List Entry → ℕ → ℕ → List ℕ → List ℕ → Type 0
 IsOneOfThree entries line lines content words =
     IsSector words InUse entries
     ⊎ ((now : List ℕ) × (programmable now content ≡ true)
-        × IsSector words InUse (entries ++ entry_of 1 line lines now ∷ [])
-        × IsPartWay (replicate (4 * lines) ERASED) content now)
+    × IsSector words InUse (entries ++ entry_of 1 line lines now ∷ [])
+    × IsPartWay (replicate (4 * lines) ERASED) content now)
     ⊎ IsSector words InUse (entries ++ entry_of 0 line lines content ∷ [])
 
--- an append of these bytes from this line on, to a sector in use whose entries end where the log says
+-- an append of these bytes from this line on, to a sector in use whose entries end where the log
+-- says
 abbrev pub AppendMayLeave : Log → ℕ → List ℕ → Words → Words → Type 0
-AppendMayLeave log line bytes old new = (entries : List Entry) → log.end ≡ end_of entries → IsSector (halfwords_in old log.region) InUse entries
-    → InRegion log.region (IsOneOfThree entries line (length bytes / 8) (halfwords_of bytes)) old new
+AppendMayLeave log line bytes old new =
+    (entries : List Entry) → log.end ≡ end_of entries
+    → IsSector (halfwords_in old log.region) InUse entries
+    → InRegion log.region
+    (IsOneOfThree entries line (length bytes / 8) (halfwords_of bytes)) old new
 
 abbrev pub Appends : Log → ℕ → List ℕ → Words → Words → Type 0
-Appends log line bytes old new = (entries : List Entry) → log.end ≡ end_of entries → IsSector (halfwords_in old log.region) InUse entries
-    → InRegion log.region (λ words. IsSector words InUse (entries ++ entry_of 0 line (length bytes / 8) (halfwords_of bytes) ∷ [])) old new
+Appends log line bytes old new =
+    (entries : List Entry) → log.end ≡ end_of entries
+    → IsSector (halfwords_in old log.region) InUse entries
+    → InRegion log.region
+    (λ words. IsSector words InUse
+    (entries ++ entry_of 0 line (length bytes / 8) (halfwords_of bytes) ∷ [])) old new
 
 -- the log with one more valid entry of so many lines
 abbrev pub appended : Log → ℕ → Log
-appended log lines = record { region = log.region; mark = log.mark; end = log.end + 1 + 4 * lines; torn = None; valid = log.valid + 1; gaps = log.gaps }
+appended log lines =
+    record log { end = log.end + 1 + 4 * lines; torn = None; valid = log.valid + 1 }
 
--- The last entry stays torn so that it can be completed, or is valid. Where it is torn, a prefix of its content is
--- programmed, and the rest is as it was before.
+-- The last entry stays torn so that it can be completed, or is valid. Where it is torn, a prefix of
+-- its content is programmed, and the rest is as it was before.
 abbrev pub IsOneOfTwo : Mark → List Entry → ℕ → ℕ → List ℕ → List ℕ → List ℕ → Type 0
 IsOneOfTwo mark entries line lines before content words =
     ((now : List ℕ) × (programmable now content ≡ true)
-        × IsSector words mark (entries ++ entry_of 1 line lines now ∷ [])
-        × IsPartWay before content now)
+    × IsSector words mark (entries ++ entry_of 1 line lines now ∷ [])
+    × IsPartWay before content now)
     ⊎ IsSector words mark (entries ++ entry_of 0 line lines content ∷ [])
 
 -- the log is that of the region's words, and its last entry is torn
-pub record IsTornLast (log : Log) (words : Words) (mark : Mark) (entries : List Entry) (line lines : ℕ) (content : List ℕ) : Type 0 where
+pub record IsTornLast (log : Log) (words : Words) (mark : Mark) (entries : List Entry)
+    (line lines : ℕ) (content : List ℕ) : Type 0 where
   pub tells : IsLogOf log log.region mark (entries ++ entry_of 1 line lines content ∷ [])
-  pub sector : IsSector (halfwords_in words log.region) mark (entries ++ entry_of 1 line lines content ∷ [])
+  pub sector : IsSector (halfwords_in words log.region) mark
+      (entries ++ entry_of 1 line lines content ∷ [])
 
 -- completing the torn last entry with these bytes
 abbrev pub FinishMayLeave : Log → List ℕ → Words → Words → Type 0
-FinishMayLeave log bytes old new = (mark : Mark) (entries : List Entry) (line lines : ℕ) (content : List ℕ) → IsTornLast log old mark entries line lines content
-    → programmable content (halfwords_of bytes) ≡ true → InRegion log.region (IsOneOfTwo mark entries line lines content (halfwords_of bytes)) old new
+FinishMayLeave log bytes old new =
+    (mark : Mark) (entries : List Entry) (line lines : ℕ) (content : List ℕ)
+    → IsTornLast log old mark entries line lines content
+    → programmable content (halfwords_of bytes) ≡ true
+    → InRegion log.region
+    (IsOneOfTwo mark entries line lines content (halfwords_of bytes)) old new
 
 abbrev pub Finishes : Log → List ℕ → Words → Words → Type 0
-Finishes log bytes old new = (mark : Mark) (entries : List Entry) (line lines : ℕ) (content : List ℕ) → IsTornLast log old mark entries line lines content
-    → programmable content (halfwords_of bytes) ≡ true → InRegion log.region (λ words. IsSector words mark (entries ++ entry_of 0 line lines (halfwords_of bytes) ∷ [])) old new
+Finishes log bytes old new =
+    (mark : Mark) (entries : List Entry) (line lines : ℕ) (content : List ℕ)
+    → IsTornLast log old mark entries line lines content
+    → programmable content (halfwords_of bytes) ≡ true
+    → InRegion log.region
+    (λ words. IsSector words mark
+    (entries ++ entry_of 0 line lines (halfwords_of bytes) ∷ [])) old new
 
 -- the log with its torn last entry valid
 abbrev pub finished : Log → Log
-finished log = record { region = log.region; mark = log.mark; end = log.end; torn = None; valid = log.valid + 1; gaps = log.gaps - 1 }
+finished log =
+    record log { torn = None; valid = log.valid + 1; gaps = log.gaps - 1 }
 
 -- whole lines of the storage
 pub record AreLines (first : ℕ) (bytes : List ℕ) : Type 0 where

@@ -8,7 +8,8 @@ use Rattle.sector_log.specs.Entries.{Entry}
 
 -- the bytes with the entry's content at its lines, where it is valid
 abbrev pub apply : List ℕ → Entry → List ℕ
-apply bytes e = if e.header.state == 0 then put (8 * e.header.line) (bytes_of e.content) bytes else bytes
+apply bytes e =
+    if e.header.state == 0 then put (8 * e.header.line) (bytes_of e.content) bytes else bytes
 
 -- the entries one after the other
 abbrev pub applied : List ℕ → List Entry → List ℕ
@@ -16,10 +17,12 @@ applied bytes entries = fold apply bytes entries
 
 -- the lines that a content writes, from this one on: each has four halfwords
 abbrev pub lines_from : ℕ → List ℕ → List Line
-lines_from line (a ∷ b ∷ c ∷ d ∷ rest) = record { number = line; bytes = bytes_of (a ∷ b ∷ c ∷ d ∷ []) } ∷ lines_from (line + 1) rest
+lines_from line (a ∷ b ∷ c ∷ d ∷ rest) =
+    record { number = line; bytes = bytes_of (a ∷ b ∷ c ∷ d ∷ []) } ∷ lines_from (line + 1) rest
 lines_from line rest = []
 
--- the lines that an entry writes, in order: those of its content where it is valid, and none where it is torn
+-- the lines that an entry writes, in order: those of its content where it is valid, and none where
+-- it is torn
 abbrev pub lines_in : Entry → List Line
 lines_in e = if e.header.state == 0 then lines_from e.header.line e.content else []
 
@@ -31,8 +34,8 @@ lines_of entries = flat_map lines_in entries
 abbrev pub byte_of : List Entry → ℕ → ℕ → ℕ
 byte_of entries other k = byte_written (lines_of entries) other k
 
--- The bytes of a list of entries: each line is what the last valid entry that covers it gives it, and zeros where
--- there is none.
+-- The bytes of a list of entries: each line is what the last valid entry that covers it gives it,
+-- and zeros where there is none.
 abbrev pub IsValue : List Entry → List ℕ → Type 0
 IsValue entries bytes = IsValueUpTo storage_bytes (lines_of entries) bytes
 

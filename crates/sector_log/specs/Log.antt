@@ -20,7 +20,14 @@ last_of (e ∷ entries) = option_or (last_of entries) (Some e)
 
 -- an entry that ends at this place, where it is torn
 abbrev pub torn_at : ℕ → Entry → Option Torn
-torn_at end e = if e.header.state == 1 then Some (record { at = end - length (entry_words e); line = e.header.line; lines = e.header.lines }) else None
+torn_at end e =
+    if e.header.state == 1 then Some
+    (record {
+      at = end - length
+          (entry_words e);
+      line = e.header.line;
+      lines = e.header.lines;
+    }) else None
 
 -- the last entry, where it is torn
 abbrev pub torn_of : List Entry → Option Torn
@@ -45,7 +52,8 @@ mark_in log = log.mark
 abbrev pub end_in : Log → ℕ
 end_in log = log.end
 
--- After a refusal: the bytes with the valid ones of some entries behind the sector's first two halfwords, those that were read.
+-- After a refusal: the bytes with the valid ones of some entries behind the sector's first two
+-- halfwords, those that were read.
 pub record IsReadSoFar (words before after : List ℕ) : Type 0 where
   pub entries : List Entry
   pub rest : List ℕ
@@ -53,10 +61,10 @@ pub record IsReadSoFar (words before after : List ℕ) : Type 0 where
   pub each : All IsEntry entries
   pub bytes : after ≡ applied before entries
 
--- After a refusal at this place: the bytes with the valid ones of all entries before it. Among the first two halfwords
--- that is none of them, and else no entry begins where they end.
+-- After a refusal at this place: the bytes with the valid ones of all entries before it. Among the
+-- first two halfwords that is none of them, and else no entry begins where they end.
 abbrev pub IsReadUpTo : List ℕ → ℕ → List ℕ → List ℕ → Type 0
 IsReadUpTo words place before after =
     ((place ≤ 1) × (after ≡ before))
     ⊎ ((mark : Mark) × (entries : List Entry) × (rest : List ℕ)
-        × Splits words mark entries rest × (after ≡ applied before entries))
+    × Splits words mark entries rest × (after ≡ applied before entries))

@@ -7,7 +7,8 @@ use Rattle.sector_log.specs.Entries.{Entry, IsEntry, entry_words, spelling, NoEn
 use Rattle.sector_log.specs.Bytes.{apply, applied}
 use Rattle.sector_log.specs.Log.{IsLogOf, torn_at}
 
--- the log with one more entry, with which the halfwords from its old end on begin, and the bytes with it
+-- the log with one more entry, with which the halfwords from its old end on begin, and the bytes
+-- with it
 pub record Adds (words : List ℕ) (old new : Log) (before after : List ℕ) (e : Entry) : Type 0 where
   pub entry : IsEntry e
   pub here : drop old.end words ≡ entry_words e ++ drop new.end words
@@ -27,8 +28,10 @@ pub record BadHere (words : List ℕ) (at place word : ℕ) : Type 0 where
   pub other : word ≢ 65535
   pub none : NoEntry (drop at words)
 
--- These entries were read behind the mark, up to the log's end, and the bytes are the earlier ones with the valid ones of them.
-pub record Walked (words : List ℕ) (of : Region) (first : Mark) (log : Log) (before after : List ℕ) (entries : List Entry) : Type 0 where
+-- These entries were read behind the mark, up to the log's end, and the bytes are the earlier ones
+-- with the valid ones of them.
+pub record Walked (words : List ℕ) (of : Region) (first : Mark) (log : Log) (before after : List ℕ)
+    (entries : List Entry) : Type 0 where
   pub whole : drop 2 words ≡ spelling entries ++ drop log.end words
   pub each : All IsEntry entries
   pub tells : IsLogOf log of first entries

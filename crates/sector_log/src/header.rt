@@ -5,8 +5,8 @@ ghost use Rattle.sector_log.specs.Header.{IsLawful, header_word};
 
 use flash_traits::LINES;
 
-/// The header of an entry. The state is 0 (valid) or 1 (writing, so that the entry is torn where nothing follows), and
-/// the entry has 1 to 8 lines from the first one on, all below 1,920.
+/// The header of an entry. The state is 0 (valid) or 1 (writing, so that the entry is torn where
+/// nothing follows), and the entry has 1 to 8 lines from the first one on, all below 1,920.
 #[derive(Clone, Copy, Debug, PartialEq, Eq)]
 pub struct Header {
     pub state: u8,
@@ -19,7 +19,8 @@ pub struct Header {
 /// The lawful header that a halfword is, or None where it is none.
 pub fn header_of(word: u16) -> Option<Header>
     ensures some { IfSome result (λ header. IsLawful header × (header_word header ≡ word)) }
-    ensures none { IfNone result ((header : Header) → IsLawful header → header_word header ≡ word → ⊥) }
+    ensures none { IfNone result ((header : Header) → IsLawful header → header_word header ≡ word
+        → ⊥) }
 {
     let state = (word % 4) as u8;
     let line = word / 4 % 2048;
@@ -30,8 +31,8 @@ pub fn header_of(word: u16) -> Option<Header>
     Some(Header { state, line, lines })
 }
 
-/// The halfword of a lawful header: bits 0 to 1 are the state, 2 to 12 the first line, 13 to 15 the number of lines
-/// less one.
+/// The halfword of a lawful header: bits 0 to 1 are the state, 2 to 12 the first line, 13 to 15 the
+/// number of lines less one.
 pub fn word_of(header: Header) -> u16
     requires { IsLawful header }
     ensures { result ≡ header_word header }

@@ -29,7 +29,8 @@ pub struct Marks {
 /// The mark that a halfword is, where it is one that may stand here.
 fn mark_of(word: u16, marks: Marks) -> Option<Mark>
     ensures some { IfSome result (λ mark. IsTrue (may_stand marks mark) × (word ≡ mark_word mark)) }
-    ensures none { IfNone result ((mark : Mark) → IsTrue (may_stand marks mark) → word ≢ mark_word mark) }
+    ensures none { IfNone result ((mark : Mark) → IsTrue (may_stand marks mark)
+        → word ≢ mark_word mark) }
 {
     let mark = Mark::from_word(word)?;
     let stands = match mark {
@@ -47,7 +48,8 @@ pub fn read_head<B: Board>(board: &mut B, region: Region, marks: Marks) -> Resul
     requires attached { IsSectorSize (B.sector_bytes board.old) }
     requires sector { IsSectorRegion region }
     ensures may { IfOk result (λ mark. IsTrue (may_stand marks mark)) }
-    ensures head { IfOk result (λ mark. B.tells board.new → HasHead (halfwords_in (B.words board.old) region) mark) }
+    ensures head { IfOk result
+        (λ mark. B.tells board.new → HasHead (halfwords_in (B.words board.old) region) mark) }
     ensures word { IfErr result (λ e. OnWord e (λ place word. B.tells board.new →
         BadHead (may_stand marks) (halfwords_in (B.words board.old) region) place word)) }
     ensures fault { IfErr result (λ e. OnFault e (λ kind. (kind ≡ Read)
@@ -71,7 +73,8 @@ pub fn read_head<B: Board>(board: &mut B, region: Region, marks: Marks) -> Resul
 pub fn begin_sector<B: Board>(board: &mut B, region: Region, mark: Mark) -> Result<(), Fault>
     requires attached { IsSectorSize (B.sector_bytes board.old) }
     requires sector { IsSectorRegion region }
-    ensures changes { Changes B.Board board.old board.new (PairMayLeave region 0 (mark_word mark) SIGNATURE)
+    ensures changes { Changes B.Board board.old board.new
+        (PairMayLeave region 0 (mark_word mark) SIGNATURE)
         (ByResult result (ProgramsPair region 0 (mark_word mark) SIGNATURE)
         (PairMayLeave region 0 (mark_word mark) SIGNATURE)) }
     ensures erases { ErasesNothing B.Board board.old board.new }
@@ -88,8 +91,10 @@ pub fn begin_sector<B: Board>(board: &mut B, region: Region, mark: Mark) -> Resu
 pub fn set_mark<B: Board>(board: &mut B, region: Region, mark: Mark) -> Result<(), Fault>
     requires attached { IsSectorSize (B.sector_bytes board.old) }
     requires sector { IsSectorRegion region }
-    ensures changes { Changes B.Board board.old board.new (ProgramMayLeave region 0 (mark_word mark))
-        (ByResult result (Programs region 0 (mark_word mark)) (ProgramMayLeave region 0 (mark_word mark))) }
+    ensures changes { Changes B.Board board.old board.new
+        (ProgramMayLeave region 0 (mark_word mark))
+        (ByResult result (Programs region 0 (mark_word mark))
+        (ProgramMayLeave region 0 (mark_word mark))) }
     ensures erases { ErasesNothing B.Board board.old board.new }
     ensures programs { (B.moment board.new).programs ≡ raised_by 1 (B.moment board.old).programs }
     ensures fails { FailsBy Flash (B.faults board.old) (B.faults board.new) result }

@@ -1,7 +1,8 @@
 // What a scan tells of a sector's log.
 use flash_traits::{Mark, Region};
 
-/// A torn last entry: the offset of its header in halfwords, its first line and its number of lines.
+/// A torn last entry: the offset of its header in halfwords, its first line and its number of
+/// lines.
 #[derive(Clone, Copy, Debug, PartialEq, Eq)]
 pub struct Torn {
     pub at: u32,

@@ -39,9 +39,12 @@ fn content_at<B: Board>(
     requires within { at + count ≤ region_length (B.sector_bytes board.old) region }
     requires room { length content.old ≡ 2 * count }
     requires few { count ≤ 32 }
-    ensures content { OnOk result (B.tells board.new → content.new ≡ bytes_of (take count (drop at (halfwords_in (B.words board.old) region)))) }
+    ensures content { OnOk result (B.tells board.new
+        → content.new ≡ bytes_of (take count (drop at (halfwords_in (B.words board.old) region)))) }
     ensures no_word { IfErr result (λ e. OnWord e (λ offset word. ⊥)) }
-    ensures fault { IfErr result (λ e. OnFault e (λ kind. (kind ≡ Read) × Rose (B.faults board.old Read) (B.faults board.new Read))) }
+    ensures fault { IfErr result
+        (λ e. OnFault e (λ kind. (kind ≡ Read)
+        × Rose (B.faults board.old Read) (B.faults board.new Read))) }
     ensures reads { OnlyReads B.Board board.old board.new }
 {
     for i in 0..count {
@@ -64,11 +67,16 @@ fn copy_content<B: Board>(
     requires lawful { IsLawful header }
     requires within { at + 4 * header.lines ≤ region_length (B.sector_bytes board.old) region }
     requires storage { length into.old ≡ storage_bytes }
-    ensures copied { OnOk result (B.tells board.new → into.new ≡ put (8 * header.line) (bytes_of (take (4 * header.lines) (drop at (halfwords_in (B.words board.old) region)))) into.old) }
+    ensures copied { OnOk result (B.tells board.new
+        → into.new ≡ put (8 * header.line)
+        (bytes_of (take (4 * header.lines)
+        (drop at (halfwords_in (B.words board.old) region)))) into.old) }
     ensures size { length into.new ≡ storage_bytes }
     ensures err { OnErr result (into.new ≡ into.old) }
     ensures no_word { IfErr result (λ e. OnWord e (λ offset word. ⊥)) }
-    ensures fault { IfErr result (λ e. OnFault e (λ kind. (kind ≡ Read) × Rose (B.faults board.old Read) (B.faults board.new Read))) }
+    ensures fault { IfErr result
+        (λ e. OnFault e (λ kind. (kind ≡ Read)
+        × Rose (B.faults board.old Read) (B.faults board.new Read))) }
     ensures reads { OnlyReads B.Board board.old board.new }
 {
     let mut content = [0u8; 64];
@@ -85,16 +93,25 @@ fn copy_content<B: Board>(
     Ok(())
 }
 
-/// The header of the entry that begins at a log's end, or None where none does and the sector may be erased from there on.
+/// The header of the entry that begins at a log's end, or None where none does and the sector may
+/// be erased from there on.
 fn next_header<B: Board>(board: &mut B, len: u32, log: Log) -> Result<Option<Header>, LogError>
     requires attached { IsSectorSize (B.sector_bytes board.old) }
     requires len { len ≡ region_length (B.sector_bytes board.old) log.region }
     requires within { log.end ≤ len }
-    ensures fits { IfOk result (λ next. IfSome next (λ header. IsLawful header × (log.end + 1 + 4 * header.lines ≤ len))) }
-    ensures next { IfOk result (λ next. B.tells board.new → MatchOption next (NoEntry (drop log.end (halfwords_in (B.words board.old) log.region)))
-        (λ header. header_word header ≡ slice_index (halfwords_in (B.words board.old) log.region) log.end)) }
-    ensures word { IfErr result (λ e. OnWord e (λ place word. B.tells board.new → BadHere (halfwords_in (B.words board.old) log.region) log.end place word)) }
-    ensures fault { IfErr result (λ e. OnFault e (λ kind. (kind ≡ Read) × Rose (B.faults board.old Read) (B.faults board.new Read))) }
+    ensures fits { IfOk result
+        (λ next. IfSome next (λ header. IsLawful header × (log.end + 1 + 4 * header.lines ≤ len))) }
+    ensures next { IfOk result
+        (λ next. B.tells board.new
+        → MatchOption next (NoEntry (drop log.end (halfwords_in (B.words board.old) log.region)))
+        (λ header. header_word header ≡ slice_index
+        (halfwords_in (B.words board.old) log.region) log.end)) }
+    ensures word { IfErr result
+        (λ e. OnWord e (λ place word. B.tells board.new
+        → BadHere (halfwords_in (B.words board.old) log.region) log.end place word)) }
+    ensures fault { IfErr result
+        (λ e. OnFault e (λ kind. (kind ≡ Read)
+        × Rose (B.faults board.old Read) (B.faults board.new Read))) }
     ensures reads { OnlyReads B.Board board.old board.new }
 {
     if log.end == len {
@@ -117,7 +134,8 @@ fn next_header<B: Board>(board: &mut B, len: u32, log: Log) -> Result<Option<Hea
     Ok(Some(header))
 }
 
-/// The log with the entry that begins at its end, or None where none does and the sector may be erased from there on.
+/// The log with the entry that begins at its end, or None where none does and the sector may be
+/// erased from there on.
 fn next_entry<B: Board>(
     board: &mut B,
     len: u32,
@@ -129,14 +147,24 @@ fn next_entry<B: Board>(
     requires log { IsLogIn len log }
     requires behind { 2 ≤ log.end }
     requires storage { length into.old ≡ storage_bytes }
-    ensures every { IfOk result (λ next. IfSome next (λ new. (log.end < new.end) × IsLogIn len new × (new.region ≡ log.region) × (new.mark ≡ log.mark))) }
+    ensures every { IfOk result
+        (λ next. IfSome next
+        (λ new. (log.end < new.end) × IsLogIn len new × (new.region ≡ log.region)
+        × (new.mark ≡ log.mark))) }
     ensures next { IfOk result (λ next. MatchOption next
-        ((into.new ≡ into.old) × (B.tells board.new → NoEntry (drop log.end (halfwords_in (B.words board.old) log.region))))
-        (λ new. B.tells board.new → (e : Entry) × Adds (halfwords_in (B.words board.old) log.region) log new into.old into.new e)) }
+        ((into.new ≡ into.old)
+        × (B.tells board.new
+        → NoEntry (drop log.end (halfwords_in (B.words board.old) log.region))))
+        (λ new. B.tells board.new → (e : Entry)
+        × Adds (halfwords_in (B.words board.old) log.region) log new into.old into.new e)) }
     ensures size { length into.new ≡ storage_bytes }
     ensures err { OnErr result (into.new ≡ into.old) }
-    ensures word { IfErr result (λ e. OnWord e (λ place word. B.tells board.new → BadHere (halfwords_in (B.words board.old) log.region) log.end place word)) }
-    ensures fault { IfErr result (λ e. OnFault e (λ kind. (kind ≡ Read) × Rose (B.faults board.old Read) (B.faults board.new Read))) }
+    ensures word { IfErr result
+        (λ e. OnWord e (λ place word. B.tells board.new
+        → BadHere (halfwords_in (B.words board.old) log.region) log.end place word)) }
+    ensures fault { IfErr result
+        (λ e. OnFault e (λ kind. (kind ≡ Read)
+        × Rose (B.faults board.old Read) (B.faults board.new Read))) }
     ensures reads { OnlyReads B.Board board.old board.new }
 {
     let Some(header) = next_header(board, len, log)? else {
@@ -179,14 +207,26 @@ fn entries_of<B: Board>(
     requires sector { IsSectorRegion region }
     requires len { len ≡ region_length (B.sector_bytes board.old) region }
     requires storage { length into.old ≡ storage_bytes }
-    ensures every { IfOk result (λ log. IsLogIn len log × (log.region ≡ region) × (log.mark ≡ mark)) }
-    ensures log { IfOk result (λ log. B.tells board.new → NoEntry (drop log.end (halfwords_in (B.words board.old) region))
-        × (entries : List Entry) × Walked (halfwords_in (B.words board.old) region) region mark log into.old into.new entries) }
+    ensures every { IfOk result
+        (λ log. IsLogIn len log × (log.region ≡ region) × (log.mark ≡ mark)) }
+    ensures log { IfOk result
+        (λ log. B.tells board.new → NoEntry (drop log.end (halfwords_in (B.words board.old) region))
+        × (entries : List Entry)
+        × Walked (halfwords_in
+        (B.words board.old) region) region mark log into.old into.new entries) }
     ensures size { length into.new ≡ storage_bytes }
-    ensures err { OnErr result (B.tells board.new → (log : Log) × (entries : List Entry) × Walked (halfwords_in (B.words board.old) region) region mark log into.old into.new entries) }
-    ensures word { IfErr result (λ e. OnWord e (λ place word. B.tells board.new → (log : Log) × BadHere (halfwords_in (B.words board.old) region) log.end place word
-        × (entries : List Entry) × Walked (halfwords_in (B.words board.old) region) region mark log into.old into.new entries)) }
-    ensures fault { IfErr result (λ e. OnFault e (λ kind. (kind ≡ Read) × Rose (B.faults board.old Read) (B.faults board.new Read))) }
+    ensures err { OnErr result (B.tells board.new → (log : Log) × (entries : List Entry)
+        × Walked (halfwords_in
+        (B.words board.old) region) region mark log into.old into.new entries) }
+    ensures word { IfErr result
+        (λ e. OnWord e (λ place word. B.tells board.new → (log : Log)
+        × BadHere (halfwords_in (B.words board.old) region) log.end place word
+        × (entries : List Entry)
+        × Walked (halfwords_in
+        (B.words board.old) region) region mark log into.old into.new entries)) }
+    ensures fault { IfErr result
+        (λ e. OnFault e (λ kind. (kind ≡ Read)
+        × Rose (B.faults board.old Read) (B.faults board.new Read))) }
     ensures reads { OnlyReads B.Board board.old board.new }
 {
     let mut log = Log {
@@ -208,9 +248,14 @@ fn test_erased<B: Board>(board: &mut B, len: u32, region: Region, from: u32) -> 
     requires attached { IsSectorSize (B.sector_bytes board.old) }
     requires len { len ≡ region_length (B.sector_bytes board.old) region }
     requires within { from ≤ len }
-    ensures erased { OnOk result (B.tells board.new → All (λ word. word ≡ 65535) (drop from (halfwords_in (B.words board.old) region))) }
-    ensures word { IfErr result (λ e. OnWord e (λ place word. B.tells board.new → (n : ℕ) × (place ≡ from + n) × FirstOther (drop from (halfwords_in (B.words board.old) region)) n word)) }
-    ensures fault { IfErr result (λ e. OnFault e (λ kind. (kind ≡ Read) × Rose (B.faults board.old Read) (B.faults board.new Read))) }
+    ensures erased { OnOk result (B.tells board.new
+        → All (λ word. word ≡ 65535) (drop from (halfwords_in (B.words board.old) region))) }
+    ensures word { IfErr result
+        (λ e. OnWord e (λ place word. B.tells board.new → (n : ℕ) × (place ≡ from + n)
+        × FirstOther (drop from (halfwords_in (B.words board.old) region)) n word)) }
+    ensures fault { IfErr result
+        (λ e. OnFault e (λ kind. (kind ≡ Read)
+        × Rose (B.faults board.old Read) (B.faults board.new Read))) }
     ensures reads { OnlyReads B.Board board.old board.new }
 {
     for at in from..len {
@@ -235,16 +280,23 @@ fn log_behind<B: Board>(
     requires len { len ≡ region_length (B.sector_bytes board.old) region }
     requires head { B.tells board.old → HasHead (halfwords_in (B.words board.old) region) mark }
     requires storage { length into.old ≡ storage_bytes }
-    ensures every { IfOk result (λ log. IsLogIn len log × (log.region ≡ region) × (log.mark ≡ mark)) }
+    ensures every { IfOk result
+        (λ log. IsLogIn len log × (log.region ≡ region) × (log.mark ≡ mark)) }
     ensures log { IfOk result (λ log. B.tells board.new → (entries : List Entry)
-        × Splits (halfwords_in (B.words board.old) region) mark entries (drop log.end (halfwords_in (B.words board.old) region))
+        × Splits (halfwords_in (B.words board.old) region) mark entries
+        (drop log.end (halfwords_in (B.words board.old) region))
         × IsLogOf log region mark entries × (into.new ≡ applied into.old entries)) }
-    ensures word { IfErr result (λ e. OnWord e (λ place word. B.tells board.new → FirstBad (halfwords_in (B.words board.old) region) place word)) }
+    ensures word { IfErr result
+        (λ e. OnWord e (λ place word. B.tells board.new
+        → FirstBad (halfwords_in (B.words board.old) region) place word)) }
     ensures before { IfErr result (λ e. OnWord e (λ place word. B.tells board.new →
         IsReadUpTo (halfwords_in (B.words board.old) region) place into.old into.new)) }
-    ensures read { OnErr result (B.tells board.new → IsReadSoFar (halfwords_in (B.words board.old) region) into.old into.new) }
+    ensures read { OnErr result (B.tells board.new
+        → IsReadSoFar (halfwords_in (B.words board.old) region) into.old into.new) }
     ensures size { length into.new ≡ storage_bytes }
-    ensures fault { IfErr result (λ e. OnFault e (λ kind. (kind ≡ Read) × Rose (B.faults board.old Read) (B.faults board.new Read))) }
+    ensures fault { IfErr result
+        (λ e. OnFault e (λ kind. (kind ≡ Read)
+        × Rose (B.faults board.old Read) (B.faults board.new Read))) }
     ensures reads { OnlyReads B.Board board.old board.new }
 {
     match mark {
@@ -262,26 +314,34 @@ fn log_behind<B: Board>(
 
 /// Reads the log of a sector, and puts its valid entries at their lines of the storage, in order.
 ///
-/// A Word is the first place where the sector breaks the grammar. `into` then holds the entries before it, and after a
-/// Fault those that were read.
-/// Each halfword is read at most once.
+/// A Word is the first place where the sector breaks the grammar. `into` then holds the entries
+/// before it, and after a Fault those that were read. Each halfword is read at most once.
 pub fn scan<B: Board>(board: &mut B, region: Region, into: &mut [u8]) -> Result<Log, LogError>
     requires attached { IsSectorSize (B.sector_bytes board.old) }
     requires sector { IsSectorRegion region }
     requires storage { length into.old ≡ storage_bytes }
 
     // on every board
-    ensures every { IfOk result (λ log. IsLogIn (region_length (B.sector_bytes board.old) region) log × (log.region ≡ region)) }
+    ensures every { IfOk result
+        (λ log. IsLogIn (region_length (B.sector_bytes board.old) region) log
+        × (log.region ≡ region)) }
     ensures size { length into.new ≡ storage_bytes }
 
     // where the words are told: the sector is of the grammar, or fails first at this place
-    ensures log { IfOk result (λ log. B.tells board.new → (entries : List Entry) × IsSector (halfwords_in (B.words board.old) region) log.mark entries
+    ensures log { IfOk result
+        (λ log. B.tells board.new → (entries : List Entry)
+        × IsSector (halfwords_in (B.words board.old) region) log.mark entries
         × IsLogOf log region log.mark entries × (into.new ≡ applied into.old entries)) }
-    ensures word { IfErr result (λ e. OnWord e (λ place word. B.tells board.new → FirstBad (halfwords_in (B.words board.old) region) place word)) }
+    ensures word { IfErr result
+        (λ e. OnWord e (λ place word. B.tells board.new
+        → FirstBad (halfwords_in (B.words board.old) region) place word)) }
     ensures before { IfErr result (λ e. OnWord e (λ place word. B.tells board.new →
         IsReadUpTo (halfwords_in (B.words board.old) region) place into.old into.new)) }
-    ensures read { OnErr result (B.tells board.new → IsReadSoFar (halfwords_in (B.words board.old) region) into.old into.new) }
-    ensures fault { IfErr result (λ e. OnFault e (λ kind. (kind ≡ Read) × Rose (B.faults board.old Read) (B.faults board.new Read))) }
+    ensures read { OnErr result (B.tells board.new
+        → IsReadSoFar (halfwords_in (B.words board.old) region) into.old into.new) }
+    ensures fault { IfErr result
+        (λ e. OnFault e (λ kind. (kind ≡ Read)
+        × Rose (B.faults board.old Read) (B.faults board.new Read))) }
     ensures reads { OnlyReads B.Board board.old board.new }
 {
     let len = board.geometry().sector_bytes / 2;

@@ -18,7 +18,8 @@ const EMPTY: Log = Log {
 
 const BYTES: [u8; 8] = [1, 2, 3, 4, 5, 6, 7, 8];
 
-// A board whose sector 0 is in use and without entries, which three calls have made. The calls with these numbers fail.
+// A board whose sector 0 is in use and without entries, which three calls have made. The calls with
+// these numbers fail.
 fn in_use(alloc: Global, fails: &[u32]) -> Result<MemBoard, Fail>
     ensures { IfOk result (λ board. ⟦<MemBoard as Board>⟧.sector_bytes board ≡ 16384) }
 {

@@ -17,8 +17,11 @@ use flash_traits::{Board, Fault, Region};
 fn word_fits<B: Board>(board: &mut B, region: Region, at: u32, new: u16) -> Result<bool, Fault>
     requires attached { IsSectorSize (B.sector_bytes board.old) }
     requires inside { at < region_length (B.sector_bytes board.old) region }
-    ensures fits { IfOk result (λ fits. B.tells board.new → fits ≡ (bit_and (slice_index (halfwords_in (B.words board.old) region) at) new == new)) }
-    ensures fault { IfErr result (λ kind. (kind ≡ Read) × Rose (B.faults board.old Read) (B.faults board.new Read)) }
+    ensures fits { IfOk result
+        (λ fits. B.tells board.new
+        → fits ≡ (bit_and (slice_index (halfwords_in (B.words board.old) region) at) new == new)) }
+    ensures fault { IfErr result
+        (λ kind. (kind ≡ Read) × Rose (B.faults board.old Read) (B.faults board.new Read)) }
     ensures reads { OnlyReads B.Board board.old board.new }
 {
     match board.read(region, at) {
@@ -27,15 +30,20 @@ fn word_fits<B: Board>(board: &mut B, region: Region, at: u32, new: u16) -> Resu
     }
 }
 
-/// Whether the torn last entry can be completed with these bytes, as many as it has: a program can only clear bits.
+/// Whether the torn last entry can be completed with these bytes, as many as it has: a program can
+/// only clear bits.
 pub fn torn_fits<B: Board>(board: &mut B, log: Log, bytes: &[u8]) -> Result<bool, Fault>
     requires attached { IsSectorSize (B.sector_bytes board.old) }
     requires log { IsLogIn (region_length (B.sector_bytes board.old) log.region) log }
     requires torn { IsSome log.torn }
     requires size { IfSome log.torn (λ torn. length bytes.now ≡ 8 * torn.lines) }
-    ensures fits { IfOk result (λ fits. B.tells board.new → (mark : Mark) (entries : List Entry) (line lines : ℕ) (content : List ℕ)
-        → IsTornLast log (B.words board.old) mark entries line lines content → fits ≡ programmable content (halfwords_of bytes.now)) }
-    ensures fault { IfErr result (λ kind. (kind ≡ Read) × Rose (B.faults board.old Read) (B.faults board.new Read)) }
+    ensures fits { IfOk result
+        (λ fits. B.tells board.new
+        → (mark : Mark) (entries : List Entry) (line lines : ℕ) (content : List ℕ)
+        → IsTornLast log (B.words board.old) mark entries line lines content
+        → fits ≡ programmable content (halfwords_of bytes.now)) }
+    ensures fault { IfErr result
+        (λ kind. (kind ≡ Read) × Rose (B.faults board.old Read) (B.faults board.new Read)) }
     ensures reads { OnlyReads B.Board board.old board.new }
 {
     let Some(torn) = log.torn else { unreachable!() };

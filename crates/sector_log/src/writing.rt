@@ -22,8 +22,11 @@ fn fill<B: Board>(board: &mut B, region: Region, at: u32, bytes: &[u8]) -> Resul
     ensures changes { Changes B.Board board.old board.new (FillMayLeave region at bytes.now)
         (ByResult result (Fills region at bytes.now) (FillMayLeave region at bytes.now)) }
     ensures erases { ErasesNothing B.Board board.old board.new }
-    ensures programs { OnOk result ((B.moment board.new).programs ≡ raised_by (length bytes.now / 2) (B.moment board.old).programs) }
-    ensures at_most { (B.moment board.new).programs ≤ raised_by (length bytes.now / 2) (B.moment board.old).programs }
+    ensures programs { OnOk result
+        ((B.moment board.new).programs ≡ raised_by (length bytes.now / 2)
+        (B.moment board.old).programs) }
+    ensures at_most { (B.moment board.new).programs ≤ raised_by (length bytes.now / 2)
+        (B.moment board.old).programs }
     ensures cause { HasCause Flash (B.faults board.old) (B.faults board.new) result }
     ensures kind { IfErr result (λ kind. kind ≡ Flash) }
 {
@@ -44,12 +47,18 @@ fn complete<B: Board>(
 ) -> Result<(), Fault>
     requires attached { IsSectorSize (B.sector_bytes board.old) }
     requires lines { AreLines first bytes.now }
-    requires inside { at + 1 + length bytes.now / 2 ≤ region_length (B.sector_bytes board.old) region }
-    ensures changes { Changes B.Board board.old board.new (CompleteMayLeave region at first bytes.now)
-        (ByResult result (Completes region at first bytes.now) (CompleteMayLeave region at first bytes.now)) }
+    requires inside { at + 1 + length bytes.now / 2 ≤ region_length
+        (B.sector_bytes board.old) region }
+    ensures changes { Changes B.Board board.old board.new
+        (CompleteMayLeave region at first bytes.now)
+        (ByResult result (Completes region at first bytes.now)
+        (CompleteMayLeave region at first bytes.now)) }
     ensures erases { ErasesNothing B.Board board.old board.new }
-    ensures programs { OnOk result ((B.moment board.new).programs ≡ raised_by (1 + length bytes.now / 2) (B.moment board.old).programs) }
-    ensures at_most { (B.moment board.new).programs ≤ raised_by (1 + length bytes.now / 2) (B.moment board.old).programs }
+    ensures programs { OnOk result
+        ((B.moment board.new).programs ≡ raised_by (1 + length bytes.now / 2)
+        (B.moment board.old).programs) }
+    ensures at_most { (B.moment board.new).programs ≤ raised_by (1 + length bytes.now / 2)
+        (B.moment board.old).programs }
     ensures cause { HasCause Flash (B.faults board.old) (B.faults board.new) result }
     ensures kind { IfErr result (λ kind. kind ≡ Flash) }
 {
@@ -62,21 +71,27 @@ fn complete<B: Board>(
     program_halfword(board, region, at, valid)
 }
 
-/// Appends an entry of 1 to 8 whole lines behind a log in use: its header as writing, its content, its header as valid.
+/// Appends an entry of 1 to 8 whole lines behind a log in use: its header as writing, its content,
+/// its header as valid.
 ///
-/// A loss inside leaves the log without the entry, with it torn such that it can still be completed, or with it valid.
+/// A loss inside leaves the log without the entry, with it torn such that it can still be
+/// completed, or with it valid.
 pub fn append<B: Board>(board: &mut B, log: Log, first: u16, bytes: &[u8]) -> Result<Log, Fault>
     requires attached { IsSectorSize (B.sector_bytes board.old) }
     requires log { IsLogIn (region_length (B.sector_bytes board.old) log.region) log }
     requires in_use { log.mark ≡ InUse }
     requires lines { AreLines first bytes.now }
-    requires room { log.end + 1 + length bytes.now / 2 ≤ region_length (B.sector_bytes board.old) log.region }
+    requires room { log.end + 1 + length bytes.now / 2 ≤ region_length
+        (B.sector_bytes board.old) log.region }
     ensures log { IfOk result (λ new. new ≡ appended log (length bytes.now / 8)) }
     ensures changes { Changes B.Board board.old board.new (AppendMayLeave log first bytes.now)
         (ByResult result (Appends log first bytes.now) (AppendMayLeave log first bytes.now)) }
     ensures erases { ErasesNothing B.Board board.old board.new }
-    ensures programs { OnOk result ((B.moment board.new).programs ≡ raised_by (2 + length bytes.now / 2) (B.moment board.old).programs) }
-    ensures at_most { (B.moment board.new).programs ≤ raised_by (2 + length bytes.now / 2) (B.moment board.old).programs }
+    ensures programs { OnOk result
+        ((B.moment board.new).programs ≡ raised_by (2 + length bytes.now / 2)
+        (B.moment board.old).programs) }
+    ensures at_most { (B.moment board.new).programs ≤ raised_by (2 + length bytes.now / 2)
+        (B.moment board.old).programs }
     ensures cause { HasCause Flash (B.faults board.old) (B.faults board.new) result }
     ensures kind { IfErr result (λ kind. kind ≡ Flash) }
 {
@@ -96,10 +111,11 @@ pub fn append<B: Board>(board: &mut B, log: Log, first: u16, bytes: &[u8]) -> Re
     })
 }
 
-/// Completes the torn last entry with these bytes, as many as it has: its content, and then its header as valid.
+/// Completes the torn last entry with these bytes, as many as it has: its content, and then its
+/// header as valid.
 ///
-/// Where each halfword of the entry can still become the new one (`torn_fits`), a loss inside leaves the entry torn such
-/// that it still can be completed, or valid.
+/// Where each halfword of the entry can still become the new one (`torn_fits`), a loss inside
+/// leaves the entry torn such that it still can be completed, or valid.
 pub fn finish_torn<B: Board>(board: &mut B, log: Log, bytes: &[u8]) -> Result<Log, Fault>
     requires attached { IsSectorSize (B.sector_bytes board.old) }
     requires log { IsLogIn (region_length (B.sector_bytes board.old) log.region) log }
@@ -109,8 +125,11 @@ pub fn finish_torn<B: Board>(board: &mut B, log: Log, bytes: &[u8]) -> Result<Lo
     ensures changes { Changes B.Board board.old board.new (FinishMayLeave log bytes.now)
         (ByResult result (Finishes log bytes.now) (FinishMayLeave log bytes.now)) }
     ensures erases { ErasesNothing B.Board board.old board.new }
-    ensures programs { OnOk result ((B.moment board.new).programs ≡ raised_by (1 + length bytes.now / 2) (B.moment board.old).programs) }
-    ensures at_most { (B.moment board.new).programs ≤ raised_by (1 + length bytes.now / 2) (B.moment board.old).programs }
+    ensures programs { OnOk result
+        ((B.moment board.new).programs ≡ raised_by (1 + length bytes.now / 2)
+        (B.moment board.old).programs) }
+    ensures at_most { (B.moment board.new).programs ≤ raised_by (1 + length bytes.now / 2)
+        (B.moment board.old).programs }
     ensures cause { HasCause Flash (B.faults board.old) (B.faults board.new) result }
     ensures kind { IfErr result (λ kind. kind ≡ Flash) }
 {

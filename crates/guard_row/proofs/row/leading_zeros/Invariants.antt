@@ -1,15 +1,10 @@
 use Rattle.std.proofs.Common.{◌≡◌, ◌≤◌, ◌<◌, ℕ}
 use Rattle.std.specs.Prelude.{slice_index}
-use Rattle.flash_traits.specs.declared.board.Fault.{Fault}
-use Rattle.flash_traits.specs.Words.{Same}
-use Rattle.flash_traits.specs.Calls.{Changes}
+use Rattle.flash_traits.specs.Calls.{OnlyReads}
 use Rattle.guard_row.proofs.row.leading_zeros.Given as goal
 
 abbrev pub invariant-loop-at : goal.invariant-loop-at
 invariant-loop-at g l = record {
-  changes : Changes g.B.Board l.fn.board l.board Same Same;
-  keeps_told : g.B.Board.tells l.fn.board → g.B.Board.tells l.board;
-  moment : g.B.Board.moment l.board ≡ g.B.Board.moment l.fn.board;
-  counts : (k : Fault) → g.B.Board.faults l.fn.board k ≤ g.B.Board.faults l.board k;
+  reads : OnlyReads g.B.Board l.fn.board l.board;
   zeros : g.B.Board.tells l.board → (k : ℕ) → k < l.at → slice_index (g.B.Board.words l.fn.board).guard k ≡ 0;
 }

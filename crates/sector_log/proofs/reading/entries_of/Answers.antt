@@ -2,7 +2,7 @@ use Rattle.std.proofs.Common.{◌≡◌, List, ℕ, ◌∷◌, ◌++◌, [], ap,
 use Rattle.flash_traits.specs.Words.{Words, halfwords_in}
 use Rattle.flash_traits.specs.declared.board.Region.{Region}
 use Rattle.sector_log.specs.Walks.{Adds}
-use Rattle.sector_log.proofs.ReadLemmas.{reads_then}
+use Rattle.flash_traits.proofs.Moments.{reads_then}
 use Rattle.sector_log.proofs.LogLemmas.{walked_more}
 use Rattle.sector_log.proofs.reading.entries_of.Goals as goal
 

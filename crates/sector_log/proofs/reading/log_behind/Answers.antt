@@ -52,7 +52,11 @@ returns-in-InUse-clause-before g c =
     let Q : ℕ → ℕ → Type 0 = λ place word. T → IsReadUpTo W place c.args.into.now c.entries_of.new.into in
     if_err_weaker c.entries_of.result (λ e. OnWord e P) (λ e. OnWord e Q)
     (λ e. on_word_weaker e P Q (λ place word told_p told. let p = told_p told in
-    inr (c.args.mark, p.2, drop p.0.end W,
-    splits_walked W c.args.region c.args.mark p.0 c.args.into.now c.entries_of.new.into p.2 (c.requires.head (c.entries_of.ensures.reads.changes.told told)) (not_available c.args.mark c.in-InUse.is) p.1.none p.3,
-    p.3.bytes)))
+    inr (
+      c.args.mark,
+      p.2,
+      drop p.0.end W,
+      splits_walked W c.args.region c.args.mark p.0 c.args.into.now c.entries_of.new.into p.2 (c.requires.head (c.entries_of.ensures.reads.changes.told told)) (not_available c.args.mark c.in-InUse.is) p.1.none p.3,
+      p.3.bytes,
+    )))
     c.entries_of.ensures.word

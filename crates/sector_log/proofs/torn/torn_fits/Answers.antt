@@ -2,7 +2,7 @@ use Rattle.std.proofs.Common.{◌≡◌, ◌+◌, ◌-◌, ◌*◌, true, false,
 use Rattle.std.specs.Prelude.{bit_and, ◌==◌}
 use Rattle.flash_traits.specs.Words.{Words, halfwords_in, halfwords_of}
 use Rattle.sector_log.proofs.BytesLemmas.{read_halfword, length_halfwords}
-use Rattle.sector_log.proofs.ReadLemmas.{reads_then}
+use Rattle.flash_traits.proofs.Moments.{reads_then}
 use Rattle.sector_log.proofs.TornLemmas.{as_many, each_more, one_fails, all_fit}
 use Rattle.sector_log.proofs.torn.torn_fits.Goals as goal
 
