@@ -1,0 +1,13 @@
+pub mod Points
+pub mod Figures
+pub mod Cuts
+pub mod Steps
+pub mod Rereads
+pub mod Cutting
+pub mod Replaces
+pub mod Patterns
+pub mod Listing
+pub mod Runs
+pub mod Touched
+pub mod Records
+pub mod Results
