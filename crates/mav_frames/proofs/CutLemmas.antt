@@ -1,11 +1,11 @@
 -- A stream has one cut, and one more byte goes on with it.
 use Rattle.std.proofs.Common.{◌≡◌, ◌⊎◌, inl, inr, ℕ, ◌+◌, ◌*◌, ◌%◌, ◌<◌, ◌≤◌, ◌==◌, Bool, true, false, cond, List, [], ◌∷◌, ◌++◌, length, take, drop, get_or, refl, sym, ◌∙◌, ap, subst, arith, append_assoc, append-nil, Option, Some, None, lit<, eqb-true}
 use Rattle.std.specs.Prelude.{All, option_to_list}
-use Rattle.std.proofs.lemmas.List.{take_at, drop_at, length-append, length_push, get_or_append_left}
+use Rattle.std.proofs.lemmas.List.{take_at, drop_at, length-append, length_push, get_or_append_left, length-take-le, take-append-drop}
 use Rattle.std.proofs.lemmas.Grind.{flat_map-append}
 use Rattle.std.proofs.lemmas.List.Elements.{All-head, All-tail, All-nil, All-cons, All-append}
 use Rattle.std.proofs.lemmas.Bool.{cases_lt}
-use Rattle.mav_frames.specs.Cut.{IsStart, frame_length, IsFrame, Piece, Skipped, Whole, piece_bytes, IsPiece, spelling, BeginsNone, Cut, frames_in, IsPartial, Pushes, Runs}
+use Rattle.mav_frames.specs.Cut.{IsStart, frame_length, IsFrame, Piece, Skipped, Whole, piece_bytes, IsPiece, stream_of, BeginsNone, Cut, frames_in, IsPartial, Pushes, Runs}
 
 abbrev length_by : ℕ → ℕ → ℕ → ℕ
 length_by a b c = cond (a == 254) (8 + b) (12 + b + 13 * (c % 2))
@@ -57,13 +57,13 @@ same_piece (Whole f) (Whole g) x y p q e =
     (ap Whole parts.0, parts.1)
 
 -- a stream has one cut
-pub one_cut : (ps qs : List Piece) (x y : List ℕ) → All IsPiece ps → All IsPiece qs → BeginsNone x → BeginsNone y → spelling ps ++ x ≡ spelling qs ++ y → (ps ≡ qs) × (x ≡ y)
+pub one_cut : (ps qs : List Piece) (x y : List ℕ) → All IsPiece ps → All IsPiece qs → BeginsNone x → BeginsNone y → stream_of ps ++ x ≡ stream_of qs ++ y → (ps ≡ qs) × (x ≡ y)
 one_cut [] [] x y p q nx ny same = (refl, same)
-one_cut [] (b ∷ qs) x y p q nx ny same = absurd (nx b (spelling qs ++ y) (All-head IsPiece b qs q) (same ∙ append_assoc (piece_bytes b) (spelling qs) y))
-one_cut (a ∷ ps) [] x y p q nx ny same = absurd (ny a (spelling ps ++ x) (All-head IsPiece a ps p) (sym same ∙ append_assoc (piece_bytes a) (spelling ps) x))
+one_cut [] (b ∷ qs) x y p q nx ny same = absurd (nx b (stream_of qs ++ y) (All-head IsPiece b qs q) (same ∙ append_assoc (piece_bytes b) (stream_of qs) y))
+one_cut (a ∷ ps) [] x y p q nx ny same = absurd (ny a (stream_of ps ++ x) (All-head IsPiece a ps p) (sym same ∙ append_assoc (piece_bytes a) (stream_of ps) x))
 one_cut (a ∷ ps) (b ∷ qs) x y p q nx ny same =
-    let front = same_piece a b (spelling ps ++ x) (spelling qs ++ y) (All-head IsPiece a ps p) (All-head IsPiece b qs q)
-    (sym (append_assoc (piece_bytes a) (spelling ps) x) ∙ same ∙ append_assoc (piece_bytes b) (spelling qs) y) in
+    let front = same_piece a b (stream_of ps ++ x) (stream_of qs ++ y) (All-head IsPiece a ps p) (All-head IsPiece b qs q)
+    (sym (append_assoc (piece_bytes a) (stream_of ps) x) ∙ same ∙ append_assoc (piece_bytes b) (stream_of qs) y) in
     let others = one_cut ps qs x y (All-tail IsPiece a ps p) (All-tail IsPiece b qs q) nx ny front.1 in
     let head : a ≡ b = front.0 in
     let tail : ps ≡ qs = others.0 in
@@ -87,7 +87,7 @@ partial_nil = record { start = λ h. absurd (omega arith); short = lit< tt }
 -- a cut goes on behind its rest
 pub cut_more : (s t r u : List ℕ) (ps qs : List Piece) → Cut s ps r → Cut (r ++ t) qs u → Cut (s ++ t) (ps ++ qs) u
 cut_more s t r u ps qs a b = record {
-  whole = ap (λ (l : List ℕ). l ++ t) a.whole ∙ append_assoc (spelling ps) r t ∙ ap (λ (l : List ℕ). spelling ps ++ l) b.whole ∙ sym (append_assoc (spelling ps) (spelling qs) u) ∙ ap (λ (l : List ℕ). l ++ u) (sym (flat_map-append piece_bytes ps qs));
+  whole = ap (λ (l : List ℕ). l ++ t) a.whole ∙ append_assoc (stream_of ps) r t ∙ ap (λ (l : List ℕ). stream_of ps ++ l) b.whole ∙ sym (append_assoc (stream_of ps) (stream_of qs) u) ∙ ap (λ (l : List ℕ). l ++ u) (sym (flat_map-append piece_bytes ps qs));
   each = All-append IsPiece ps qs a.each b.each;
   last = b.last;
 }
@@ -239,3 +239,37 @@ cut_on (byte ∷ bytes) old stream pieces cut p =
 
 pub a_cut : (stream : List ℕ) → (pieces : List Piece) × (rest : List ℕ) × Cut stream pieces rest
 a_cut stream = cut_on stream [] [] [] cut_nil partial_nil
+
+-- the whole frame with which bytes begin is as long as they say
+pub record FrontFrame (n : ℕ) (bytes : List ℕ) : Type 0 where
+  pub long : 8 ≤ n
+  pub start : IsStart (get_or bytes 0 0)
+  pub length_is : n ≡ frame_length bytes
+
+pub front_says : (n : ℕ) (bytes : List ℕ) → n ≤ length bytes → IsFrame (take n bytes) → FrontFrame n bytes
+front_says n bytes within frame =
+    let long = frame_long (take n bytes) frame in
+    let size : length (take n bytes) ≡ n = length-take-le n bytes within in
+    let whole : take n bytes ++ drop n bytes ≡ bytes = take-append-drop n bytes in
+    let head : get_or bytes 0 0 ≡ get_or (take n bytes) 0 0
+    = ap (λ (l : List ℕ). get_or l 0 0) (sym whole) ∙ get_or_append_left (take n bytes) (drop n bytes) 0 0 (omega arith) in
+    let same : frame_length bytes ≡ frame_length (take n bytes)
+    = ap frame_length (sym whole) ∙ frame_length-front (take n bytes) (drop n bytes) (omega arith) in
+    record {
+      long = omega arith;
+      start = subst IsStart (sym head) frame.start;
+      length_is = sym size ∙ frame.whole ∙ sym same;
+    }
+
+pub front_frame : (bytes : List ℕ) → 3 ≤ length bytes → IsStart (get_or bytes 0 0) → frame_length bytes ≤ length bytes
+    → IsFrame (take (frame_length bytes) bytes)
+front_frame bytes three start within =
+    let n = frame_length bytes in
+    let long = frame_length-long bytes in
+    let size : length (take n bytes) ≡ n = length-take-le n bytes within in
+    let whole : take n bytes ++ drop n bytes ≡ bytes = take-append-drop n bytes in
+    let head : get_or bytes 0 0 ≡ get_or (take n bytes) 0 0
+    = ap (λ (l : List ℕ). get_or l 0 0) (sym whole) ∙ get_or_append_left (take n bytes) (drop n bytes) 0 0 (omega arith) in
+    let same : frame_length bytes ≡ frame_length (take n bytes)
+    = ap frame_length (sym whole) ∙ frame_length-front (take n bytes) (drop n bytes) (omega arith) in
+    record { start = subst IsStart head start; whole = size ∙ same }

@@ -7,7 +7,7 @@ use Rattle.mav_crc.specs.Register.{crc_of}
 use Rattle.mav_messages.specs.declared.messages.Message.{Message}
 use Rattle.mav_messages.specs.Fields.{Description}
 use Rattle.mav_messages.specs.Descriptions.{described}
-use Rattle.mav_messages.specs.Messages.{Says}
+use Rattle.mav_messages.specs.Messages.{SaysMessage}
 use Rattle.mav_frames.specs.declared.frames.Frame.{Frame}
 use Rattle.mav_frames.specs.Cut.{IsFrame}
 use Rattle.mav_frames.specs.Frames.{flags_of, id_of, payload_of, covered, crc_in, IsReadFrom, IsMessageOf, head_bytes, framed}
@@ -46,7 +46,7 @@ reads false seq system component id payload crc two small =
 pub read_of : (body crc : List ℕ) (id : ℕ) (payload : List ℕ) (m : Message) (extra value : ℕ) → Reads body crc id payload
     → option_map (λ (d : Description). d.extra) (described id) ≡ Some extra
     → value ≡ crc_of (crc_of 0xFFFF (drop 1 body)) (extra ∷ []) → value < 2 ^ 16 → crc ≡ little_bytes 2 value
-    → Says id payload m → IsMessageOf (body ++ crc) m
+    → SaysMessage id payload m → IsMessageOf (body ++ crc) m
 read_of body crc id payload m extra value r listed is small bytes says =
     let v : little_number 2 crc ≡ value = ap (little_number 2) bytes ∙ little_number-reads_back 2 value [] small in
     record {
@@ -56,13 +56,13 @@ read_of body crc id payload m extra value r listed is small bytes says =
         agrees = r.crc_is ∙ v ∙ is ∙ ap (λ (l : List ℕ). crc_of (crc_of 0xFFFF l) (extra ∷ [])) (sym r.covers);
         known = let f = r.flags in omega arith;
       };
-      says = subst (λ (n : ℕ). Says n (payload_of (body ++ crc)) m) (sym r.id_is) (subst (λ (l : List ℕ). Says id l m) (sym r.payload_is) says);
+      says = subst (λ (n : ℕ). SaysMessage n (payload_of (body ++ crc)) m) (sym r.id_is) (subst (λ (l : List ℕ). SaysMessage id l m) (sym r.payload_is) says);
     }
 
 pub written : (v2 : Bool) (seq system component id count extra : ℕ) (m : Message) (payload head body bytes : List ℕ)
     → count ≡ length payload → head ≡ head_bytes v2 count seq system component id → body ≡ head ++ payload → bytes ≡ framed body extra
-    → id < 256 → crc_of (crc_of 0xFFFF (drop 1 body)) (extra ∷ []) < 2 ^ 16
-    → option_map (λ (d : Description). d.extra) (described id) ≡ Some extra → Says id payload m → IsFrame bytes × IsMessageOf bytes m
+    → id < 2 ^ 24 → crc_of (crc_of 0xFFFF (drop 1 body)) (extra ∷ []) < 2 ^ 16
+    → option_map (λ (d : Description). d.extra) (described id) ≡ Some extra → SaysMessage id payload m → IsFrame bytes × IsMessageOf bytes m
 written v2 seq system component id count extra m payload head body bytes n h b w small fits listed says =
     let value = crc_of (crc_of 0xFFFF (drop 1 body)) (extra ∷ []) in
     let crc = little_bytes 2 value in
@@ -73,6 +73,6 @@ written v2 seq system component id count extra m payload head body bytes n h b w
     (subst IsFrame (sym w) r.frame, subst (λ (l : List ℕ). IsMessageOf l m) (sym w) (read_of body crc id payload m extra value r listed refl fits refl says))
 
 -- what was read from a frame of the message says the message
-pub says_at : (bytes payload : List ℕ) (f : Frame) (m : Message) → IsReadFrom bytes f → payload ≡ f.payload.items → IsMessageOf bytes m → Says f.id payload m
+pub says_at : (bytes payload : List ℕ) (f : Frame) (m : Message) → IsReadFrom bytes f → payload ≡ f.payload.items → IsMessageOf bytes m → SaysMessage f.id payload m
 says_at bytes payload f m read e of =
-    subst (λ (n : ℕ). Says n payload m) (sym read.id) (subst (λ (l : List ℕ). Says (id_of bytes) l m) (sym (e ∙ read.payload)) of.says)
+    subst (λ (n : ℕ). SaysMessage n payload m) (sym read.id) (subst (λ (l : List ℕ). SaysMessage (id_of bytes) l m) (sym (e ∙ read.payload)) of.says)

@@ -2,13 +2,16 @@
 use Rattle.std.specs.Prelude.{ℕ, ◌≡◌, ◌+◌, ◌*◌, ◌%◌, ◌<◌, ◌⊎◌, ◌==◌, if◌then◌else◌, List, [], ◌∷◌, ◌++◌, length, slice_index, All, Option, option_to_list}
 use Rattle.std.specs.List.{flat_map}
 
--- the byte begins a frame: FE one of version 1, FD one of version 2
+-- the byte begins a frame: 0xFE one of version 1, 0xFD one of version 2
 abbrev pub IsStart : ℕ → Type 0
-IsStart byte = (byte ≡ 254) ⊎ (byte ≡ 253)
+IsStart byte = (byte ≡ 0xFE) ⊎ (byte ≡ 0xFD)
 
--- how long a frame is by its start byte, its length byte and, in version 2, the flag that it is signed
+-- how long a frame is by its start byte, its length byte and, in version 2, the flag that it is
+-- signed
 abbrev pub frame_length : List ℕ → ℕ
-frame_length bytes = if slice_index bytes 0 == 254 then 8 + slice_index bytes 1 else 12 + slice_index bytes 1 + 13 * (slice_index bytes 2 % 2)
+frame_length bytes =
+    if slice_index bytes 0 == 0xFE then 8 + slice_index bytes 1
+    else 12 + slice_index bytes 1 + 13 * (slice_index bytes 2 % 2)
 
 -- A whole frame, right or not: a start byte, and as many bytes as the first ones say.
 pub record IsFrame (bytes : List ℕ) : Type 0 where
@@ -29,17 +32,18 @@ abbrev pub IsPiece : Piece → Type 0
 IsPiece (Skipped byte) = IsStart byte → ⊥
 IsPiece (Whole bytes) = IsFrame bytes
 
--- the bytes of pieces, one behind another
-abbrev pub spelling : List Piece → List ℕ
-spelling pieces = flat_map piece_bytes pieces
+-- the bytes of pieces, one after another
+abbrev pub stream_of : List Piece → List ℕ
+stream_of pieces = flat_map piece_bytes pieces
 
 -- begins neither with a whole frame nor with a byte to skip
 abbrev pub BeginsNone : List ℕ → Type 0
-BeginsNone rest = (piece : Piece) (more : List ℕ) → IsPiece piece → rest ≡ piece_bytes piece ++ more → ⊥
+BeginsNone rest =
+    (piece : Piece) (more : List ℕ) → IsPiece piece → rest ≡ piece_bytes piece ++ more → ⊥
 
 -- The cut of a stream: it is these pieces, and a rest that begins with none.
 pub record Cut (stream : List ℕ) (pieces : List Piece) (rest : List ℕ) : Type 0 where
-  pub whole : stream ≡ spelling pieces ++ rest
+  pub whole : stream ≡ stream_of pieces ++ rest
   pub each : All IsPiece pieces
   pub last : BeginsNone rest
 
@@ -59,7 +63,9 @@ pub record Pushes (old : List ℕ) (byte : ℕ) (frame : Option (List ℕ)) (new
 abbrev pub Runs : List ℕ → List ℕ → List (List ℕ) → List ℕ → Type 0
 Runs old [] frames new = (frames ≡ []) × (new ≡ old)
 Runs old (byte ∷ bytes) frames new =
-    (frame : Option (List ℕ)) × (rest : List ℕ) × (later : List (List ℕ)) × (frames ≡ option_to_list frame ++ later) × Pushes old byte frame rest × Runs rest bytes later new
+    (frame : Option (List ℕ)) × (rest : List ℕ) × (later : List (List ℕ))
+    × (frames ≡ option_to_list frame ++ later)
+    × Pushes old byte frame rest × Runs rest bytes later new
 
 -- the start of a frame that isn't whole, or nothing
 pub record IsPartial (bytes : List ℕ) : Type 0 where

@@ -4,15 +4,17 @@
 mod cutting;
 mod frames;
 mod laws;
+mod reading;
 mod writing;
 
-pub use cutting::{Cutter, whole_frame};
-pub use frames::Frame;
+pub use cutting::{Cutter, front_length, whole_frame};
+pub use frames::{Frame, FrameBytes, Heading};
 pub use laws::{
     a_cut, a_message_or_none, empty_stream, goes_on, one_by_one, one_byte_more, one_cut,
     one_message, one_piece,
 };
-pub use writing::{message, read_back, write_frame};
+pub use reading::{heading_of, message, message_in, read_back};
+pub use writing::{write_frame, write_frame_into};
 
 #[cfg(test)]
 mod tests {
@@ -30,7 +32,8 @@ mod tests {
         0xFE, 0x14, 0, 0xFF, 0xBE, 0x14, 0, 0, 1, 1, 0, 0, 0, 0, 0, 0, 0, 0, 0, 0, 0, 0, 0, 0, 0,
         0, 0xE7, 0xF3,
     ];
-    // MISSION_COUNT 1 of mission type 0, as version 2 without its trailing zero; with incompat flag 02; signed.
+    // MISSION_COUNT 1 of mission type 0, as version 2 without its trailing zero; with incompat flag
+    // 02; signed.
     const COUNT: &[u8] = &[
         0xFD, 4, 0, 0, 0, 0xFF, 0xBE, 0x2C, 0, 0, 1, 0, 1, 1, 0x8F, 0x5A,
     ];
@@ -44,7 +47,8 @@ mod tests {
         0xFE, 0xFE, 0xFE, 0xFE, 0xFE, 0xFE, 0xFE, 0xFE, 0xFE,
     ];
 
-    // How many frames are cut from the bytes, how many of them have a message, and the last message.
+    // How many frames are cut from the bytes, how many of them have a message, and the last
+    // message.
     fn cut(parts: &[&[u8]]) -> (u32, u32, Option<Message>) {
         let mut cutter = Cutter::new();
         let mut frames: u32 = 0;
@@ -105,6 +109,17 @@ mod tests {
         assert_eq!(rt; frame.id, 20);
         assert_eq!(rt; frame.system, 0xFF);
         assert!(rt; whole_frame(&REQUEST[1..]).is_none());
+        Ok(())
+    }
+
+    #[test]
+    fn takes_the_front_of_a_datagram(rt: HostRuntime) -> Result<(), Fail> {
+        let datagram = &[COUNT, REQUEST].concat(rt.alloc())?;
+        let length = front_length(datagram).ok_or("no front")?;
+        assert_eq!(rt; length, COUNT.len());
+        let front = &datagram[..length];
+        assert_eq!(rt; heading_of(front).system, 0xFF);
+        assert_eq!(rt; message_in(front).ok_or("no message")?.id(), 44);
         Ok(())
     }
 

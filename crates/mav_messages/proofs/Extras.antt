@@ -2,11 +2,11 @@
 use Rattle.std.proofs.Common.{ℕ, ◌≡◌, ◌==◌, Bool, true, false, cond, List, [], ◌∷◌, Option, Some, refl, ap, option_map}
 use Rattle.mav_crc.specs.Register.{register_after, crc_of}
 use Rattle.mav_crc.specs.Extra.{extra_byte}
-use Rattle.mav_messages.specs.Fields.{Description, description_bytes}
+use Rattle.mav_messages.specs.Fields.{Description, description_text}
 use Rattle.mav_messages.specs.Descriptions.{described, descriptions, find_id, heartbeat, param_request_read, param_request_list, param_value, param_set, mission_request, mission_request_list, mission_count, mission_clear_all, mission_ack, mission_request_int, mission_item_int, command_long, command_ack}
 
 abbrev computed : Description → ℕ
-computed d = extra_byte (crc_of 0xFFFF (description_bytes d))
+computed d = extra_byte (crc_of 0xFFFF (description_text d))
 
 abbrev AreRight : List Description → Type 0
 AreRight [] = Unit {0}

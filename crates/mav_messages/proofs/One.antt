@@ -1,5 +1,5 @@
 -- A payload says one message.
-use Rattle.std.proofs.Common.{ℕ, zero, suc, ◌≡◌, ◌==◌, cond, Bool, true, false, List, [], ◌∷◌, Option, Some, None, refl, sym, ap, ◌∙◌, ℤ, rules}
+use Rattle.std.proofs.Common.{ℕ, zero, suc, ◌≡◌, ◌==◌, cond, Bool, List, [], ◌∷◌, Option, Some, None, refl, sym, ap, ◌∙◌, ℤ, rules}
 use Rattle.std.specs.Int.{w16, w32, cast_unsigned, cast_signed}
 use Rattle.std.proofs.lemmas.Int.{to_z-of_z}
 use Rattle.mav_messages.specs.declared.messages.Message.{Message}
@@ -8,7 +8,8 @@ use Rattle.mav_messages.specs.Fields.{Description, layout_of}
 use Rattle.mav_messages.specs.Payload.{Value, Number, Bytes, values_in, filled}
 use Rattle.std.specs.Prelude.{MatchOption, IfSome}
 use Rattle.mav_messages.specs.Descriptions.{described}
-use Rattle.mav_messages.specs.Messages.{values_of, description_of, plain, sent, FitsTypes, Says}
+use Rattle.mav_messages.specs.Messages.{field_values, description_of, FitsTypes, SaysMessage, ArrivesAs}
+use Rattle.mav_messages.proofs.Plain.{plain}
 
 unfoldable pub number : Value → ℕ
 number (Number n) = n
@@ -42,7 +43,7 @@ remake id vs =
     cond (id == 77) (CommandAck (number (at vs 0)) (number (at vs 1)) (number (at vs 2)) (cast_signed w32 (number (at vs 3))) (number (at vs 4)) (number (at vs 5))) (
     ParamRequestList 0 0))))))))))))))
 
-remade : (m : Message) → FitsTypes m → remake (description_of m).id (values_of m) ≡ m
+remade : (m : Message) → FitsTypes m → remake (description_of m).id (field_values m) ≡ m
 unfolding remake at number bytes
 remade (Heartbeat custom_mode kind autopilot base_mode system_status mavlink_version) h = refl
 remade (ParamRequestRead param_index target_system target_component param_id) h = ap (λ (z : ℤ). ParamRequestRead z target_system target_component param_id) (to_z-of_z w16 param_index h)
@@ -62,20 +63,20 @@ remade (CommandAck command result progress result_param2 target_system target_co
 same_description : (d e : Description) → Some d ≡ Some e → d ≡ e
 same_description d e h = cc
 
-pub one_message : (id : ℕ) (payload : List ℕ) (m n : Message) → FitsTypes m → FitsTypes n → Says id payload m → Says id payload n → m ≡ n
+pub one_message : (id : ℕ) (payload : List ℕ) (m n : Message) → FitsTypes m → FitsTypes n → SaysMessage id payload m → SaysMessage id payload n → m ≡ n
 one_message id payload m n f g a b =
     let d : description_of m ≡ description_of n = same_description (description_of m) (description_of n) (sym a.listed ∙ b.listed) in
-    let v : values_of m ≡ values_of n = a.fields ∙ ap (λ (e : Description). values_in (layout_of e) (filled payload)) d ∙ sym b.fields in
-    sym (remade m f) ∙ ap (λ (e : Description). remake e.id (values_of m)) d ∙ ap (remake (description_of n).id) v ∙ remade n g
+    let v : field_values m ≡ field_values n = a.fields ∙ ap (λ (e : Description). values_in (layout_of e) (filled payload)) d ∙ sym b.fields in
+    sym (remade m f) ∙ ap (λ (e : Description). remake e.id (field_values m)) d ∙ ap (remake (description_of n).id) v ∙ remade n g
 
 -- a message that the bytes say under a description is made of the values there, and has them
-pub made_of : (d : Description) (s : List ℕ) (m : Message) → FitsTypes m → Some d ≡ Some (description_of m) → values_of m ≡ values_in (layout_of (description_of m)) s
-    → values_of (remake d.id (values_in (layout_of d) s)) ≡ values_in (layout_of d) s
+pub made_of : (d : Description) (s : List ℕ) (m : Message) → FitsTypes m → Some d ≡ Some (description_of m) → field_values m ≡ values_in (layout_of (description_of m)) s
+    → field_values (remake d.id (values_in (layout_of d) s)) ≡ values_in (layout_of d) s
 made_of d s m f listed fields =
     let e : description_of m ≡ d = same_description (description_of m) d (sym listed) in
-    let v : values_of m ≡ values_in (layout_of d) s = fields ∙ ap (λ (d : Description). values_in (layout_of d) s) e in
-    let is : m ≡ remake d.id (values_in (layout_of d) s) = sym (remade m f) ∙ ap (λ (d : Description). remake d.id (values_of m)) e ∙ ap (remake d.id) v in
-    ap values_of (sym is) ∙ v
+    let v : field_values m ≡ values_in (layout_of d) s = fields ∙ ap (λ (d : Description). values_in (layout_of d) s) e in
+    let is : m ≡ remake d.id (values_in (layout_of d) s) = sym (remade m f) ∙ ap (λ (d : Description). remake d.id (field_values m)) e ∙ ap (remake d.id) v in
+    ap field_values (sym is) ∙ v
 
 pub plain_fits : (m : Message) → FitsTypes m → FitsTypes (plain m)
 plain_fits (Heartbeat custom_mode kind autopilot base_mode system_status mavlink_version) h = h
@@ -93,12 +94,13 @@ plain_fits (MissionItemInt param1 param2 param3 param4 x y z seq command target_
 plain_fits (CommandLong param1 param2 param3 param4 param5 param6 param7 command target_system target_component confirmation) h = h
 plain_fits (CommandAck command result progress result_param2 target_system target_component) h = search rules
 
-pub sent_fits : (v2 : Bool) (m : Message) → FitsTypes m → FitsTypes (sent v2 m)
-sent_fits true m h = h
-sent_fits false m h = plain_fits m h
+pub one_arrival : (v2 : Bool) (m a b : Message) → ArrivesAs v2 m a → ArrivesAs v2 m b → a ≡ b
+one_arrival v2 m a b p q =
+    sym (remade a p.fits) ∙ ap (λ (e : Description). remake e.id (field_values a)) (p.kind ∙ sym q.kind)
+    ∙ ap (remake (description_of b).id) (p.fields ∙ sym q.fields) ∙ remade b q.fits
 
 -- what is read is the one message that the payload says
-pub read_is : (id : ℕ) (payload : List ℕ) (read : Option Message) → MatchOption read (described id ≡ None) (Says id payload) → IfSome read FitsTypes
-    → (m : Message) → FitsTypes m → Says id payload m → read ≡ Some m
+pub read_is : (id : ℕ) (payload : List ℕ) (read : Option Message) → MatchOption read (described id ≡ None) (SaysMessage id payload) → IfSome read FitsTypes
+    → (m : Message) → FitsTypes m → SaysMessage id payload m → read ≡ Some m
 read_is id payload None none fits m f says = let e = says.listed in cc
 read_is id payload (Some n) is fits m f says = ap Some (one_message id payload n m fits f is says)

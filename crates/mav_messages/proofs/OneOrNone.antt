@@ -6,16 +6,16 @@ use Rattle.std.proofs.lemmas.Bool.Decides.{nat_tests}
 use Rattle.std.proofs.lemmas.Int.{ints, of_z-to_z}
 use Rattle.mav_messages.specs.declared.messages.Message.{Message}
 use Rattle.mav_messages.specs.Fields.{Description, layout_of}
-use Rattle.mav_messages.specs.Payload.{Value, Number, Bytes, number_at, bytes_at, values_in, filled}
+use Rattle.mav_messages.specs.Payload.{Value, Number, Bytes, offset_number, offset_bytes, values_in, filled}
 use Rattle.mav_messages.specs.Descriptions.{descriptions, find_id, heartbeat, param_request_read, param_request_list, param_value, param_set, mission_request, mission_request_list, mission_count, mission_clear_all, mission_ack, mission_request_int, mission_item_int, command_long, command_ack}
-use Rattle.mav_messages.specs.Messages.{values_of, description_of, FitsTypes, Says}
+use Rattle.mav_messages.specs.Messages.{field_values, description_of, FitsTypes, SaysMessage}
 use Rattle.mav_messages.proofs.One.{number, bytes, at, remake, made_of}
 
 -- under a description or none, the bytes say a message, or none
 abbrev Decided : Option Description → List ℕ → Type 0
 Decided x s =
-    ((m : Message) × FitsTypes m × (x ≡ Some (description_of m)) × (values_of m ≡ values_in (layout_of (description_of m)) s))
-    ⊎ ((m : Message) → FitsTypes m → x ≡ Some (description_of m) → values_of m ≡ values_in (layout_of (description_of m)) s → ⊥)
+    ((m : Message) × FitsTypes m × (x ≡ Some (description_of m)) × (field_values m ≡ values_in (layout_of (description_of m)) s))
+    ⊎ ((m : Message) → FitsTypes m → x ≡ Some (description_of m) → field_values m ≡ values_in (layout_of (description_of m)) s → ⊥)
 
 fits_sixteen : (n : ℕ) → n < 2 ^ 16 → FitsSigned w16 (cast_signed w16 n)
 fits_sixteen n h = record { sfits = grind (arith, nat_tests, ints) }
@@ -77,46 +77,46 @@ of_command_long s = inl (remake command_long.id (values_in (layout_of command_lo
 of_param_request_read : (s : List ℕ) → Decided (Some param_request_read) s
 unfolding remake at number bytes
 of_param_request_read s =
-    elim (cases_lt (number_at 2 0 s) (2 ^ 16)) [
+    elim (cases_lt (offset_number 2 0 s) (2 ^ 16)) [
       | inl less ↦ inl (
         remake param_request_read.id (values_in (layout_of param_request_read) s),
-        fits_sixteen (number_at 2 0 s) less,
+        fits_sixteen (offset_number 2 0 s) less,
         refl,
-        ap (λ (n : ℕ). Number n ∷ Number (number_at 1 2 s) ∷ Number (number_at 1 3 s) ∷ Bytes (bytes_at 16 4 s) ∷ []) (of_z-to_z w16 (number_at 2 0 s) less),
+        ap (λ (n : ℕ). Number n ∷ Number (offset_number 1 2 s) ∷ Number (offset_number 1 3 s) ∷ Bytes (offset_bytes 16 4 s) ∷ []) (of_z-to_z w16 (offset_number 2 0 s) less),
       )
-      | inr more ↦ inr (λ m f listed fields. let e : cast_unsigned w16 (cast_signed w16 (number_at 2 0 s)) ≡ number_at 2 0 s = ap (λ (vs : List Value). number (at vs 0)) (made_of param_request_read s m f listed fields) in omega (arith, small_sixteen (number_at 2 0 s)))
+      | inr more ↦ inr (λ m f listed fields. let e : cast_unsigned w16 (cast_signed w16 (offset_number 2 0 s)) ≡ offset_number 2 0 s = ap (λ (vs : List Value). number (at vs 0)) (made_of param_request_read s m f listed fields) in omega (arith, small_sixteen (offset_number 2 0 s)))
     ]
 
 of_command_ack : (s : List ℕ) → Decided (Some command_ack) s
 unfolding remake at number bytes
 of_command_ack s =
-    elim (cases_lt (number_at 4 4 s) (2 ^ 32)) [
+    elim (cases_lt (offset_number 4 4 s) (2 ^ 32)) [
       | inl less ↦ inl (
         remake command_ack.id (values_in (layout_of command_ack) s),
-        fits_thirty_two (number_at 4 4 s) less,
+        fits_thirty_two (offset_number 4 4 s) less,
         refl,
-        ap (λ (n : ℕ). Number (number_at 2 0 s) ∷ Number (number_at 1 2 s) ∷ Number (number_at 1 3 s) ∷ Number n ∷ Number (number_at 1 8 s) ∷ Number (number_at 1 9 s) ∷ []) (of_z-to_z w32 (number_at 4 4 s) less),
+        ap (λ (n : ℕ). Number (offset_number 2 0 s) ∷ Number (offset_number 1 2 s) ∷ Number (offset_number 1 3 s) ∷ Number n ∷ Number (offset_number 1 8 s) ∷ Number (offset_number 1 9 s) ∷ []) (of_z-to_z w32 (offset_number 4 4 s) less),
       )
-      | inr more ↦ inr (λ m f listed fields. let e : cast_unsigned w32 (cast_signed w32 (number_at 4 4 s)) ≡ number_at 4 4 s = ap (λ (vs : List Value). number (at vs 3)) (made_of command_ack s m f listed fields) in omega (arith, small_thirty_two (number_at 4 4 s)))
+      | inr more ↦ inr (λ m f listed fields. let e : cast_unsigned w32 (cast_signed w32 (offset_number 4 4 s)) ≡ offset_number 4 4 s = ap (λ (vs : List Value). number (at vs 3)) (made_of command_ack s m f listed fields) in omega (arith, small_thirty_two (offset_number 4 4 s)))
     ]
 
 items : List ℕ → ℕ → ℕ → List Value
-items s x y = Number (number_at 4 0 s) ∷ Number (number_at 4 4 s) ∷ Number (number_at 4 8 s) ∷ Number (number_at 4 12 s) ∷ Number x ∷ Number y ∷ Number (number_at 4 24 s) ∷ Number (number_at 2 28 s) ∷ Number (number_at 2 30 s) ∷ Number (number_at 1 32 s) ∷ Number (number_at 1 33 s) ∷ Number (number_at 1 34 s) ∷ Number (number_at 1 35 s) ∷ Number (number_at 1 36 s) ∷ Number (number_at 1 37 s) ∷ []
+items s x y = Number (offset_number 4 0 s) ∷ Number (offset_number 4 4 s) ∷ Number (offset_number 4 8 s) ∷ Number (offset_number 4 12 s) ∷ Number x ∷ Number y ∷ Number (offset_number 4 24 s) ∷ Number (offset_number 2 28 s) ∷ Number (offset_number 2 30 s) ∷ Number (offset_number 1 32 s) ∷ Number (offset_number 1 33 s) ∷ Number (offset_number 1 34 s) ∷ Number (offset_number 1 35 s) ∷ Number (offset_number 1 36 s) ∷ Number (offset_number 1 37 s) ∷ []
 
 of_mission_item_int : (s : List ℕ) → Decided (Some mission_item_int) s
 unfolding remake at number bytes items
 of_mission_item_int s =
-    elim (cases_lt (number_at 4 16 s) (2 ^ 32)) [
-      | inl less ↦ elim (cases_lt (number_at 4 20 s) (2 ^ 32)) [
+    elim (cases_lt (offset_number 4 16 s) (2 ^ 32)) [
+      | inl less ↦ elim (cases_lt (offset_number 4 20 s) (2 ^ 32)) [
         | inl low ↦ inl (
           remake mission_item_int.id (values_in (layout_of mission_item_int) s),
-          (fits_thirty_two (number_at 4 16 s) less, fits_thirty_two (number_at 4 20 s) low),
+          (fits_thirty_two (offset_number 4 16 s) less, fits_thirty_two (offset_number 4 20 s) low),
           refl,
-          ap (λ (n : ℕ). items s n (cast_unsigned w32 (cast_signed w32 (number_at 4 20 s)))) (of_z-to_z w32 (number_at 4 16 s) less) ∙ ap (items s (number_at 4 16 s)) (of_z-to_z w32 (number_at 4 20 s) low),
+          ap (λ (n : ℕ). items s n (cast_unsigned w32 (cast_signed w32 (offset_number 4 20 s)))) (of_z-to_z w32 (offset_number 4 16 s) less) ∙ ap (items s (offset_number 4 16 s)) (of_z-to_z w32 (offset_number 4 20 s) low),
         )
-        | inr more ↦ inr (λ m f listed fields. let e : cast_unsigned w32 (cast_signed w32 (number_at 4 20 s)) ≡ number_at 4 20 s = ap (λ (vs : List Value). number (at vs 5)) (made_of mission_item_int s m f listed fields) in omega (arith, small_thirty_two (number_at 4 20 s)))
+        | inr more ↦ inr (λ m f listed fields. let e : cast_unsigned w32 (cast_signed w32 (offset_number 4 20 s)) ≡ offset_number 4 20 s = ap (λ (vs : List Value). number (at vs 5)) (made_of mission_item_int s m f listed fields) in omega (arith, small_thirty_two (offset_number 4 20 s)))
       ]
-      | inr more ↦ inr (λ m f listed fields. let e : cast_unsigned w32 (cast_signed w32 (number_at 4 16 s)) ≡ number_at 4 16 s = ap (λ (vs : List Value). number (at vs 4)) (made_of mission_item_int s m f listed fields) in omega (arith, small_thirty_two (number_at 4 16 s)))
+      | inr more ↦ inr (λ m f listed fields. let e : cast_unsigned w32 (cast_signed w32 (offset_number 4 16 s)) ≡ offset_number 4 16 s = ap (λ (vs : List Value). number (at vs 4)) (made_of mission_item_int s m f listed fields) in omega (arith, small_thirty_two (offset_number 4 16 s)))
     ]
 
 AllDecided : List Description → List ℕ → Type 0
@@ -137,7 +137,7 @@ unfolding AllDecided
 all_decided s =
     (of_heartbeat s, (of_param_request_read s, (of_param_request_list s, (of_param_value s, (of_param_set s, (of_mission_request s, (of_mission_request_list s, (of_mission_count s, (of_mission_clear_all s, (of_mission_ack s, (of_mission_request_int s, (of_mission_item_int s, (of_command_long s, (of_command_ack s, tt))))))))))))))
 
-pub one_or_none : (id : ℕ) (payload : List ℕ) → ((m : Message) × FitsTypes m × Says id payload m) ⊎ ((m : Message) → FitsTypes m → Says id payload m → ⊥)
+pub one_or_none : (id : ℕ) (payload : List ℕ) → ((m : Message) × FitsTypes m × SaysMessage id payload m) ⊎ ((m : Message) → FitsTypes m → SaysMessage id payload m → ⊥)
 one_or_none id payload =
     elim (found descriptions id (filled payload) (all_decided (filled payload))) [
       | inl is ↦ inl (is.0, is.1, record { listed = is.2; fields = is.3 })

@@ -6,16 +6,16 @@ use Rattle.std.proofs.Math.Nat.{zero-div}
 use Rattle.byteorder.specs.Numbers.{little_number-reads_back}
 use Rattle.std.specs.Int.{bytes_low_first, byte_at}
 use Rattle.mav_messages.specs.declared.layouts.Row.{Row}
-use Rattle.mav_messages.specs.Fields.{Field, size_of, row_at, rows_from}
-use Rattle.mav_messages.specs.Payload.{Value, Number, Bytes, number_at, bytes_at, value_at, values_in, filled, number_bytes, value_bytes, spelling, Suits, Suit}
+use Rattle.mav_messages.specs.Fields.{Field, field_size, row_at, rows_from}
+use Rattle.mav_messages.specs.Payload.{Value, Number, Bytes, offset_number, offset_bytes, value_at, values_in, filled, number_bytes, value_bytes, wire_bytes, plain_values, Suits, Suit}
 use Rattle.mav_messages.proofs.Spelling.{length-number_bytes}
 
-number_there : (w n o : ℕ) (front rest : List ℕ) → length front ≡ o → n < 256 ^ w → number_at w o (front ++ (number_bytes w n ++ rest)) ≡ n
-unfolding number_at number_bytes
+number_there : (w n o : ℕ) (front rest : List ℕ) → length front ≡ o → n < 256 ^ w → offset_number w o (front ++ (number_bytes w n ++ rest)) ≡ n
+unfolding offset_number number_bytes
 number_there w n o front rest e h = ap (little_number w) (drop_at front (number_bytes w n ++ rest) o e) ∙ little_number-reads_back w n rest h
 
-bytes_there : (a o : ℕ) (bs front rest : List ℕ) → length front ≡ o → length bs ≡ a → bytes_at a o (front ++ (bs ++ rest)) ≡ bs
-unfolding bytes_at
+bytes_there : (a o : ℕ) (bs front rest : List ℕ) → length front ≡ o → length bs ≡ a → offset_bytes a o (front ++ (bs ++ rest)) ≡ bs
+unfolding offset_bytes
 bytes_there a o bs front rest e h = ap (take a) (drop_at front (bs ++ rest) o e) ∙ take_at bs rest a h
 
 not_zero : (b : Bool) (a : ℕ) → b ≡ (a == 0) → 0 < a → (a == 0) ≡ false
@@ -25,11 +25,11 @@ not_zero false a e h = sym e
 value_there : (r : Row) (v : Value) (front rest : List ℕ) → length front ≡ r.offset → Suits r v → value_at (front ++ (value_bytes r v ++ rest)) r ≡ v
 value_there r (Number n) front rest e h =
     let p = front ++ (number_bytes r.width n ++ rest) in
-    ap (λ (a : ℕ). cond (a == 0) (Number (number_at r.width r.offset p)) (Bytes (bytes_at r.array r.offset p))) h.0
+    ap (λ (a : ℕ). cond (a == 0) (Number (offset_number r.width r.offset p)) (Bytes (offset_bytes r.array r.offset p))) h.0
     ∙ ap Number (number_there r.width n r.offset front rest e h.2)
 value_there r (Bytes bs) front rest e h =
     let p = front ++ (bs ++ rest) in
-    ap (λ (b : Bool). cond b (Number (number_at r.width r.offset p)) (Bytes (bytes_at r.array r.offset p))) (not_zero (r.array == 0) r.array refl h.0)
+    ap (λ (b : Bool). cond b (Number (offset_number r.width r.offset p)) (Bytes (offset_bytes r.array r.offset p))) (not_zero (r.array == 0) r.array refl h.0)
     ∙ ap Bytes (bytes_there r.array r.offset bs front rest e h.1)
 
 one : (w a : ℕ) → a ≡ 0 → w ≡ w * max 1 a
@@ -44,21 +44,21 @@ value_length r (Bytes bs) h = h.1 ∙ many r.width r.array h.0 h.2
 
 -- the values that were written are read
 pub values_there : (fs : List Field) (o : ℕ) (vs : List Value) (front rest : List ℕ) → length front ≡ o → Suit (rows_from o fs) vs
-    → values_in (rows_from o fs) (front ++ (spelling true (rows_from o fs) vs ++ rest)) ≡ vs
-unfolding spelling
+    → values_in (rows_from o fs) (front ++ (wire_bytes true (rows_from o fs) vs ++ rest)) ≡ vs
+unfolding wire_bytes
 values_there [] o [] front rest e h = refl
 values_there [] o (v ∷ vs) front rest e h = absurd h
 values_there (f ∷ fs) o [] front rest e h = absurd h
 values_there (f ∷ fs) o (v ∷ vs) front rest e h =
     let r = row_at o f in
     let b = value_bytes r v in
-    let tail = spelling true (rows_from (o + size_of f) fs) vs in
+    let tail = wire_bytes true (rows_from (o + field_size f) fs) vs in
     let p : front ++ ((b ++ tail) ++ rest) ≡ front ++ (b ++ (tail ++ rest)) = ap (λ (l : List ℕ). front ++ l) (append_assoc b tail rest) in
     let q : front ++ ((b ++ tail) ++ rest) ≡ (front ++ b) ++ (tail ++ rest) = p ∙ sym (append_assoc front b (tail ++ rest)) in
     let head : value_at (front ++ ((b ++ tail) ++ rest)) r ≡ v = ap (λ (l : List ℕ). value_at l r) p ∙ value_there r v front (tail ++ rest) e h.0 in
-    let long : length (front ++ b) ≡ o + size_of f = length-append front b ∙ ap (λ (n : ℕ). n + length b) e ∙ ap (λ (n : ℕ). o + n) (value_length r v h.0) in
-    let more : values_in (rows_from (o + size_of f) fs) (front ++ ((b ++ tail) ++ rest)) ≡ vs = ap (values_in (rows_from (o + size_of f) fs)) q ∙ values_there fs (o + size_of f) vs (front ++ b) rest long h.1 in
-    ap (λ (x : Value). x ∷ values_in (rows_from (o + size_of f) fs) (front ++ ((b ++ tail) ++ rest))) head ∙ ap (λ (l : List Value). v ∷ l) more
+    let long : length (front ++ b) ≡ o + field_size f = length-append front b ∙ ap (λ (n : ℕ). n + length b) e ∙ ap (λ (n : ℕ). o + n) (value_length r v h.0) in
+    let more : values_in (rows_from (o + field_size f) fs) (front ++ ((b ++ tail) ++ rest)) ≡ vs = ap (values_in (rows_from (o + field_size f) fs)) q ∙ values_there fs (o + field_size f) vs (front ++ b) rest long h.1 in
+    ap (λ (x : Value). x ∷ values_in (rows_from (o + field_size f) fs) (front ++ ((b ++ tail) ++ rest))) head ∙ ap (λ (l : List Value). v ∷ l) more
 
 filled_by : (k zeros : ℕ) (whole bytes : List ℕ) → whole ≡ bytes ++ replicate zeros 0 → length whole ≤ k → take k bytes ++ replicate (k - length bytes) 0 ≡ whole ++ replicate (k - length whole) 0
 filled_by k zeros whole bytes e h =
@@ -74,12 +74,6 @@ filled_by k zeros whole bytes e h =
 pub filled_zeros : (zeros : ℕ) (whole bytes : List ℕ) → whole ≡ bytes ++ replicate zeros 0 → length whole ≤ 64 → (rest : List ℕ) × (filled bytes ≡ whole ++ rest)
 unfolding filled
 filled_zeros zeros whole bytes e h = (replicate (64 - length whole) 0, filled_by 64 zeros whole bytes e h)
-
--- extensions 0
-abbrev pub plain_values : List Row → List Value → List Value
-plain_values [] vs = []
-plain_values (r ∷ rs) [] = []
-plain_values (r ∷ rs) (v ∷ vs) = cond r.extension (Number 0) v ∷ plain_values rs vs
 
 -- each is an extension, and a number
 abbrev pub Extra : List Row → Type 0
@@ -103,34 +97,34 @@ number_zero : (w : ℕ) → number_bytes w 0 ≡ replicate w 0
 unfolding number_bytes
 number_zero w = zero_bytes 0 w
 
-none_spelled : (rs : List Row) (vs : List Value) → Extra rs → spelling false rs vs ≡ []
-unfolding spelling
+none_spelled : (rs : List Row) (vs : List Value) → Extra rs → wire_bytes false rs vs ≡ []
+unfolding wire_bytes
 none_spelled [] vs h = refl
 none_spelled (r ∷ rs) [] h = refl
-none_spelled (r ∷ rs) (v ∷ vs) h = ap (λ (b : Bool). cond b [] (value_bytes r v) ++ spelling false rs vs) h.0 ∙ none_spelled rs vs h.2
+none_spelled (r ∷ rs) (v ∷ vs) h = ap (λ (b : Bool). cond b [] (value_bytes r v) ++ wire_bytes false rs vs) h.0 ∙ none_spelled rs vs h.2
 
-zeros_spelled : (rs : List Row) (vs : List Value) → Extra rs → (k : ℕ) × (spelling true rs (plain_values rs vs) ≡ replicate k 0)
-unfolding spelling
+zeros_spelled : (rs : List Row) (vs : List Value) → Extra rs → (k : ℕ) × (wire_bytes true rs (plain_values rs vs) ≡ replicate k 0)
+unfolding wire_bytes
 zeros_spelled [] vs h = (0, refl)
 zeros_spelled (r ∷ rs) [] h = (0, refl)
 zeros_spelled (r ∷ rs) (v ∷ vs) h =
     let more = zeros_spelled rs vs h.2 in (
       r.width + more.0,
-      ap (λ (b : Bool). value_bytes r (cond b (Number 0) v) ++ spelling true rs (plain_values rs vs)) h.0
-          ∙ ap (λ (l : List ℕ). l ++ spelling true rs (plain_values rs vs)) (number_zero r.width) ∙ ap (λ (l : List ℕ). replicate r.width 0 ++ l) more.1 ∙ replicate-append-replicate r.width more.0 0,
+      ap (λ (b : Bool). value_bytes r (cond b (Number 0) v) ++ wire_bytes true rs (plain_values rs vs)) h.0
+          ∙ ap (λ (l : List ℕ). l ++ wire_bytes true rs (plain_values rs vs)) (number_zero r.width) ∙ ap (λ (l : List ℕ). replicate r.width 0 ++ l) more.1 ∙ replicate-append-replicate r.width more.0 0,
     )
 
 -- what is sent without extensions is what is sent with extensions 0, without trailing zeros
-pub padded : (rs : List Row) (vs : List Value) → Last rs → (k : ℕ) × (spelling true rs (plain_values rs vs) ≡ spelling false rs vs ++ replicate k 0)
-unfolding spelling
+pub padded : (rs : List Row) (vs : List Value) → Last rs → (k : ℕ) × (wire_bytes true rs (plain_values rs vs) ≡ wire_bytes false rs vs ++ replicate k 0)
+unfolding wire_bytes
 padded [] vs h = (0, refl)
 padded (r ∷ rs) [] h = (0, refl)
 padded (r ∷ rs) (v ∷ vs) (inl h) =
     let more = padded rs vs h.1 in (
       more.0,
-      ap (λ (b : Bool). value_bytes r (cond b (Number 0) v) ++ spelling true rs (plain_values rs vs)) h.0
-          ∙ ap (λ (l : List ℕ). value_bytes r v ++ l) more.1 ∙ sym (append_assoc (value_bytes r v) (spelling false rs vs) (replicate more.0 0))
-          ∙ ap (λ (b : Bool). (cond b [] (value_bytes r v) ++ spelling false rs vs) ++ replicate more.0 0) (sym h.0),
+      ap (λ (b : Bool). value_bytes r (cond b (Number 0) v) ++ wire_bytes true rs (plain_values rs vs)) h.0
+          ∙ ap (λ (l : List ℕ). value_bytes r v ++ l) more.1 ∙ sym (append_assoc (value_bytes r v) (wire_bytes false rs vs) (replicate more.0 0))
+          ∙ ap (λ (b : Bool). (cond b [] (value_bytes r v) ++ wire_bytes false rs vs) ++ replicate more.0 0) (sym h.0),
     )
 padded (r ∷ rs) (v ∷ vs) (inr h) =
     let more = zeros_spelled (r ∷ rs) (v ∷ vs) h in

@@ -1,5 +1,5 @@
--- The messages as MAVLink defines them (common message set): id, extra byte, name, and the fields in wire order. Which
--- extensions they have is this project's profile.
+-- The messages as MAVLink defines them (common message set): id, extra byte, name, and the fields
+-- in wire order. Which extensions they have is this project's profile.
 use Rattle.std.specs.Prelude.{ℕ, ◌==◌, if◌then◌else◌, true, false, List, [], ◌∷◌, Option, Some, None, codes}
 use Rattle.mav_messages.specs.Fields.{Field, Description}
 use Rattle.mav_messages.specs.declared.layouts.FieldKind.{FieldKind}

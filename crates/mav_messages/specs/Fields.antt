@@ -39,27 +39,34 @@ type_name Uint32 = codes "uint32_t"
 type_name Int32 = codes "int32_t"
 type_name Float = codes "float"
 
--- the texts of the fields that are no extensions, one behind another
-abbrev pub fields_bytes : List Field → List ℕ
-fields_bytes [] = []
-fields_bytes (f ∷ fs) = (if f.extension then [] else field_text (type_name f.kind) f.name f.array) ++ fields_bytes fs
+-- the texts of the fields that are no extensions, one after another
+abbrev pub field_texts : List Field → List ℕ
+field_texts [] = []
+field_texts (f ∷ fs) =
+    (if f.extension then [] else field_text (type_name f.kind) f.name f.array) ++ field_texts fs
 
 -- the bytes whose CRC gives the extra byte
-abbrev pub description_bytes : Description → List ℕ
-description_bytes d = d.name ++ (32 ∷ fields_bytes d.fields)
+abbrev pub description_text : Description → List ℕ
+description_text d = d.name ++ (32 ∷ field_texts d.fields)
 
 -- how many bytes the field takes
-abbrev pub size_of : Field → ℕ
-size_of f = width_of f.kind * max 1 f.array
+abbrev pub field_size : Field → ℕ
+field_size f = width_of f.kind * max 1 f.array
 
 -- the row of a field that stands at an offset
 abbrev pub row_at : ℕ → Field → Row
-row_at offset f = record { kind = f.kind; offset = offset; width = width_of f.kind; array = f.array; extension = f.extension }
+row_at offset f = record {
+  kind = f.kind;
+  offset = offset;
+  width = width_of f.kind;
+  array = f.array;
+  extension = f.extension;
+}
 
--- the rows of fields that stand one behind another from an offset on
+-- the rows of fields that stand one after another from an offset on
 abbrev pub rows_from : ℕ → List Field → List Row
 rows_from offset [] = []
-rows_from offset (f ∷ fs) = row_at offset f ∷ rows_from (offset + size_of f) fs
+rows_from offset (f ∷ fs) = row_at offset f ∷ rows_from (offset + field_size f) fs
 
 -- where the fields of a message stand in its payload
 abbrev pub layout_of : Description → List Row

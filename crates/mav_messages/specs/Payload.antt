@@ -9,16 +9,18 @@ pub data Value : Type 0 where
   Bytes : List ℕ → Value
 
 -- the little endian number at an offset
-unfoldable pub number_at : ℕ → ℕ → List ℕ → ℕ
-number_at width offset payload = little_number width (drop offset payload)
+unfoldable pub offset_number : ℕ → ℕ → List ℕ → ℕ
+offset_number width offset payload = little_number width (drop offset payload)
 
 -- so many bytes at an offset
-unfoldable pub bytes_at : ℕ → ℕ → List ℕ → List ℕ
-bytes_at count offset payload = take count (drop offset payload)
+unfoldable pub offset_bytes : ℕ → ℕ → List ℕ → List ℕ
+offset_bytes count offset payload = take count (drop offset payload)
 
 -- the value of a row's field
 abbrev pub value_at : List ℕ → Row → Value
-value_at payload r = if r.array == 0 then Number (number_at r.width r.offset payload) else Bytes (bytes_at r.array r.offset payload)
+value_at payload r =
+    if r.array == 0 then Number (offset_number r.width r.offset payload)
+    else Bytes (offset_bytes r.array r.offset payload)
 
 -- the values of all fields
 abbrev pub values_in : List Row → List ℕ → List Value
@@ -37,11 +39,23 @@ abbrev pub value_bytes : Row → Value → List ℕ
 value_bytes r (Number n) = number_bytes r.width n
 value_bytes r (Bytes bytes) = bytes
 
--- the bytes of fields one behind another; in version 1 without extensions
-unfoldable pub spelling : Bool → List Row → List Value → List ℕ
-spelling v2 [] vs = []
-spelling v2 (r ∷ rs) [] = []
-spelling v2 (r ∷ rs) (v ∷ vs) = (if not v2 && r.extension then [] else value_bytes r v) ++ spelling v2 rs vs
+-- the bytes of fields one after another; in version 1 without extensions
+unfoldable pub wire_bytes : Bool → List Row → List Value → List ℕ
+wire_bytes v2 [] vs = []
+wire_bytes v2 (r ∷ rs) [] = []
+wire_bytes v2 (r ∷ rs) (v ∷ vs) =
+    (if not v2 && r.extension then [] else value_bytes r v) ++ wire_bytes v2 rs vs
+
+-- the values of fields without those of extensions, which are 0
+abbrev pub plain_values : List Row → List Value → List Value
+plain_values [] vs = []
+plain_values (r ∷ rs) [] = []
+plain_values (r ∷ rs) (v ∷ vs) = (if r.extension then Number 0 else v) ∷ plain_values rs vs
+
+-- the values that arrive: all in version 2, and in version 1 extensions are 0
+abbrev pub arriving_values : Bool → List Row → List Value → List Value
+arriving_values true rows values = values
+arriving_values false rows values = plain_values rows values
 
 -- a value has the form of its row: a number that fits its width, or as many bytes as the array has
 abbrev pub Suits : Row → Value → Type 0
@@ -62,10 +76,11 @@ pub record IsTrimmed (whole bytes : List ℕ) : Type 0 where
   pub some : 0 < length bytes
   pub last : (length bytes ≡ 1) ⊎ (slice_index bytes (length bytes - 1) ≢ 0)
 
--- the payload that is sent: in version 1 whole and without extensions, in version 2 without trailing zeros
+-- the payload that is sent: in version 1 whole and without extensions, in version 2 without
+-- trailing zeros
 abbrev pub IsPayload : Bool → List Row → List Value → List ℕ → Type 0
-IsPayload false rows values bytes = bytes ≡ spelling false rows values
-IsPayload true rows values bytes = IsTrimmed (spelling true rows values) bytes
+IsPayload false rows values bytes = bytes ≡ wire_bytes false rows values
+IsPayload true rows values bytes = IsTrimmed (wire_bytes true rows values) bytes
 
 -- how many bytes all fields take
 abbrev pub total : List Row → ℕ

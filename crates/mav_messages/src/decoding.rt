@@ -1,16 +1,16 @@
-//! Payloads read.
-#![tactic(auto)]
+//! Payloads read: the message that stands in the bytes under an id.
 
 ghost use Rattle.std.specs.Prelude.{◌≡◌, ℕ, ◌+◌, ◌≤◌, length, Some, None, MatchOption, IfSome, option_map};
 ghost use Rattle.std.specs.Int.{cast_unsigned, w16, w32};
 ghost use Rattle.mav_crc.specs.Register.{crc_of};
 ghost use Rattle.mav_crc.specs.Extra.{extra_byte};
-ghost use Rattle.mav_messages.specs.Fields.{layout_of, description_bytes};
-ghost use Rattle.mav_messages.specs.Payload.{number_at, bytes_at, values_in, filled};
+ghost use Rattle.mav_messages.specs.Fields.{layout_of, description_text};
+ghost use Rattle.mav_messages.specs.Payload.{offset_number, offset_bytes, values_in, filled};
 ghost use Rattle.mav_messages.specs.Descriptions.{described, heartbeat, param_request_read, param_request_list, param_value, param_set, mission_request, mission_request_list, mission_count, mission_clear_all, mission_ack, mission_request_int, mission_item_int, command_long, command_ack};
 ghost use Rattle.mav_messages.specs.declared.messages.Message.{Message};
-ghost use Rattle.mav_messages.specs.Messages.{values_of, description_of, FitsTypes, Says};
+ghost use Rattle.mav_messages.specs.Messages.{field_values, description_of, FitsTypes, SaysMessage};
 
+use crate::ids;
 use crate::layouts::*;
 use crate::messages::Message;
 use byteorder::{ByteOrder, LittleEndian};
@@ -19,48 +19,48 @@ use byteorder::{ByteOrder, LittleEndian};
 type Filled = [u8; 64];
 
 impl Row {
-    #[tactic(auto, unfolding(crate::specs::Payload::number_at))]
+    #[tactic(auto, unfolding(crate::specs::Payload::offset_number))]
     fn u8(&self, payload: &Filled) -> u8
         requires { self.now.offset + 1 ≤ 64 }
-        ensures { result ≡ number_at 1 self.now.offset payload.now }
+        ensures { result ≡ offset_number 1 self.now.offset payload.now }
     {
         payload[self.offset as usize]
     }
 
-    #[tactic(auto, unfolding(crate::specs::Payload::number_at))]
+    #[tactic(auto, unfolding(crate::specs::Payload::offset_number))]
     fn u16(&self, payload: &Filled) -> u16
         requires { self.now.offset + 2 ≤ 64 }
-        ensures { result ≡ number_at 2 self.now.offset payload.now }
+        ensures { result ≡ offset_number 2 self.now.offset payload.now }
     {
         LittleEndian::read_u16(&payload[self.offset as usize..])
     }
 
     fn i16(&self, payload: &Filled) -> i16
         requires { self.now.offset + 2 ≤ 64 }
-        ensures { cast_unsigned w16 result ≡ number_at 2 self.now.offset payload.now }
+        ensures { cast_unsigned w16 result ≡ offset_number 2 self.now.offset payload.now }
     {
         self.u16(payload).cast_signed()
     }
 
-    #[tactic(auto, unfolding(crate::specs::Payload::number_at))]
+    #[tactic(auto, unfolding(crate::specs::Payload::offset_number))]
     fn u32(&self, payload: &Filled) -> u32
         requires { self.now.offset + 4 ≤ 64 }
-        ensures { result ≡ number_at 4 self.now.offset payload.now }
+        ensures { result ≡ offset_number 4 self.now.offset payload.now }
     {
         LittleEndian::read_u32(&payload[self.offset as usize..])
     }
 
     fn i32(&self, payload: &Filled) -> i32
         requires { self.now.offset + 4 ≤ 64 }
-        ensures { cast_unsigned w32 result ≡ number_at 4 self.now.offset payload.now }
+        ensures { cast_unsigned w32 result ≡ offset_number 4 self.now.offset payload.now }
     {
         self.u32(payload).cast_signed()
     }
 
-    #[tactic(auto, unfolding(crate::specs::Payload::bytes_at))]
+    #[tactic(auto, unfolding(crate::specs::Payload::offset_bytes))]
     fn bytes(&self, payload: &Filled) -> [u8; 16]
         requires { self.now.offset + 16 ≤ 64 }
-        ensures { result ≡ bytes_at 16 self.now.offset payload.now }
+        ensures { result ≡ offset_bytes 16 self.now.offset payload.now }
     {
         let mut bytes = [0u8; 16];
         let at = self.offset as usize;
@@ -71,7 +71,7 @@ impl Row {
 
 fn heartbeat_of(payload: &Filled) -> Message
     ensures about { description_of result ≡ heartbeat }
-    ensures fields { values_of result ≡ values_in (layout_of heartbeat) payload.now }
+    ensures fields { field_values result ≡ values_in (layout_of heartbeat) payload.now }
     ensures fits { FitsTypes result }
 {
     let rows = &HEARTBEAT.rows;
@@ -87,7 +87,7 @@ fn heartbeat_of(payload: &Filled) -> Message
 
 fn param_request_read_of(payload: &Filled) -> Message
     ensures about { description_of result ≡ param_request_read }
-    ensures fields { values_of result ≡ values_in (layout_of param_request_read) payload.now }
+    ensures fields { field_values result ≡ values_in (layout_of param_request_read) payload.now }
     ensures fits { FitsTypes result }
 {
     let rows = &PARAM_REQUEST_READ.rows;
@@ -101,7 +101,7 @@ fn param_request_read_of(payload: &Filled) -> Message
 
 fn param_request_list_of(payload: &Filled) -> Message
     ensures about { description_of result ≡ param_request_list }
-    ensures fields { values_of result ≡ values_in (layout_of param_request_list) payload.now }
+    ensures fields { field_values result ≡ values_in (layout_of param_request_list) payload.now }
     ensures fits { FitsTypes result }
 {
     let rows = &PARAM_REQUEST_LIST.rows;
@@ -113,7 +113,7 @@ fn param_request_list_of(payload: &Filled) -> Message
 
 fn param_value_of(payload: &Filled) -> Message
     ensures about { description_of result ≡ param_value }
-    ensures fields { values_of result ≡ values_in (layout_of param_value) payload.now }
+    ensures fields { field_values result ≡ values_in (layout_of param_value) payload.now }
     ensures fits { FitsTypes result }
 {
     let rows = &PARAM_VALUE.rows;
@@ -128,7 +128,7 @@ fn param_value_of(payload: &Filled) -> Message
 
 fn param_set_of(payload: &Filled) -> Message
     ensures about { description_of result ≡ param_set }
-    ensures fields { values_of result ≡ values_in (layout_of param_set) payload.now }
+    ensures fields { field_values result ≡ values_in (layout_of param_set) payload.now }
     ensures fits { FitsTypes result }
 {
     let rows = &PARAM_SET.rows;
@@ -143,7 +143,7 @@ fn param_set_of(payload: &Filled) -> Message
 
 fn mission_request_of(payload: &Filled) -> Message
     ensures about { description_of result ≡ mission_request }
-    ensures fields { values_of result ≡ values_in (layout_of mission_request) payload.now }
+    ensures fields { field_values result ≡ values_in (layout_of mission_request) payload.now }
     ensures fits { FitsTypes result }
 {
     let rows = &MISSION_REQUEST.rows;
@@ -157,7 +157,7 @@ fn mission_request_of(payload: &Filled) -> Message
 
 fn mission_request_list_of(payload: &Filled) -> Message
     ensures about { description_of result ≡ mission_request_list }
-    ensures fields { values_of result ≡ values_in (layout_of mission_request_list) payload.now }
+    ensures fields { field_values result ≡ values_in (layout_of mission_request_list) payload.now }
     ensures fits { FitsTypes result }
 {
     let rows = &MISSION_REQUEST_LIST.rows;
@@ -170,7 +170,7 @@ fn mission_request_list_of(payload: &Filled) -> Message
 
 fn mission_count_of(payload: &Filled) -> Message
     ensures about { description_of result ≡ mission_count }
-    ensures fields { values_of result ≡ values_in (layout_of mission_count) payload.now }
+    ensures fields { field_values result ≡ values_in (layout_of mission_count) payload.now }
     ensures fits { FitsTypes result }
 {
     let rows = &MISSION_COUNT.rows;
@@ -184,7 +184,7 @@ fn mission_count_of(payload: &Filled) -> Message
 
 fn mission_clear_all_of(payload: &Filled) -> Message
     ensures about { description_of result ≡ mission_clear_all }
-    ensures fields { values_of result ≡ values_in (layout_of mission_clear_all) payload.now }
+    ensures fields { field_values result ≡ values_in (layout_of mission_clear_all) payload.now }
     ensures fits { FitsTypes result }
 {
     let rows = &MISSION_CLEAR_ALL.rows;
@@ -197,7 +197,7 @@ fn mission_clear_all_of(payload: &Filled) -> Message
 
 fn mission_ack_of(payload: &Filled) -> Message
     ensures about { description_of result ≡ mission_ack }
-    ensures fields { values_of result ≡ values_in (layout_of mission_ack) payload.now }
+    ensures fields { field_values result ≡ values_in (layout_of mission_ack) payload.now }
     ensures fits { FitsTypes result }
 {
     let rows = &MISSION_ACK.rows;
@@ -211,7 +211,7 @@ fn mission_ack_of(payload: &Filled) -> Message
 
 fn mission_request_int_of(payload: &Filled) -> Message
     ensures about { description_of result ≡ mission_request_int }
-    ensures fields { values_of result ≡ values_in (layout_of mission_request_int) payload.now }
+    ensures fields { field_values result ≡ values_in (layout_of mission_request_int) payload.now }
     ensures fits { FitsTypes result }
 {
     let rows = &MISSION_REQUEST_INT.rows;
@@ -225,7 +225,7 @@ fn mission_request_int_of(payload: &Filled) -> Message
 
 fn mission_item_int_of(payload: &Filled) -> Message
     ensures about { description_of result ≡ mission_item_int }
-    ensures fields { values_of result ≡ values_in (layout_of mission_item_int) payload.now }
+    ensures fields { field_values result ≡ values_in (layout_of mission_item_int) payload.now }
     ensures fits { FitsTypes result }
 {
     let rows = &MISSION_ITEM_INT.rows;
@@ -250,7 +250,7 @@ fn mission_item_int_of(payload: &Filled) -> Message
 
 fn command_long_of(payload: &Filled) -> Message
     ensures about { description_of result ≡ command_long }
-    ensures fields { values_of result ≡ values_in (layout_of command_long) payload.now }
+    ensures fields { field_values result ≡ values_in (layout_of command_long) payload.now }
     ensures fits { FitsTypes result }
 {
     let rows = &COMMAND_LONG.rows;
@@ -271,7 +271,7 @@ fn command_long_of(payload: &Filled) -> Message
 
 fn command_ack_of(payload: &Filled) -> Message
     ensures about { description_of result ≡ command_ack }
-    ensures fields { values_of result ≡ values_in (layout_of command_ack) payload.now }
+    ensures fields { field_values result ≡ values_in (layout_of command_ack) payload.now }
     ensures fits { FitsTypes result }
 {
     let rows = &COMMAND_ACK.rows;
@@ -285,6 +285,7 @@ fn command_ack_of(payload: &Filled) -> Message
     }
 }
 
+/// The bytes of a payload, with zeros after them.
 #[tactic(auto, using(crate::proofs::Zeros::fill_is), unfolding(crate::specs::Payload::filled))]
 fn fill(payload: &[u8]) -> Filled
     ensures { result ≡ filled payload.now }
@@ -296,35 +297,36 @@ fn fill(payload: &[u8]) -> Filled
 }
 
 fn listed_message(id: u32, payload: &[u8]) -> Option<Message>
-    ensures cases { MatchOption result (described id ≡ None) (Says id payload.now) }
+    ensures cases { MatchOption result (described id ≡ None) (SaysMessage id payload.now) }
     ensures fits { IfSome result FitsTypes }
 {
     let filled = &fill(payload);
     Some(match id {
-        0 => heartbeat_of(filled),
-        20 => param_request_read_of(filled),
-        21 => param_request_list_of(filled),
-        22 => param_value_of(filled),
-        23 => param_set_of(filled),
-        40 => mission_request_of(filled),
-        43 => mission_request_list_of(filled),
-        44 => mission_count_of(filled),
-        45 => mission_clear_all_of(filled),
-        47 => mission_ack_of(filled),
-        51 => mission_request_int_of(filled),
-        73 => mission_item_int_of(filled),
-        76 => command_long_of(filled),
-        77 => command_ack_of(filled),
+        ids::HEARTBEAT => heartbeat_of(filled),
+        ids::PARAM_REQUEST_READ => param_request_read_of(filled),
+        ids::PARAM_REQUEST_LIST => param_request_list_of(filled),
+        ids::PARAM_VALUE => param_value_of(filled),
+        ids::PARAM_SET => param_set_of(filled),
+        ids::MISSION_REQUEST => mission_request_of(filled),
+        ids::MISSION_REQUEST_LIST => mission_request_list_of(filled),
+        ids::MISSION_COUNT => mission_count_of(filled),
+        ids::MISSION_CLEAR_ALL => mission_clear_all_of(filled),
+        ids::MISSION_ACK => mission_ack_of(filled),
+        ids::MISSION_REQUEST_INT => mission_request_int_of(filled),
+        ids::MISSION_ITEM_INT => mission_item_int_of(filled),
+        ids::COMMAND_LONG => command_long_of(filled),
+        ids::COMMAND_ACK => command_ack_of(filled),
         _ => return None,
     })
 }
 
-/// The message of a payload under an id. A payload shorter than the layout is filled with zeros, and a longer one's rest
-/// is ignored, in both versions. None exactly where the id isn't listed.
+/// The message of a payload under an id. A payload shorter than the layout is filled with zeros,
+/// and a longer one's rest is ignored, in both versions. None exactly where the id isn't listed.
 pub fn decode(id: u32, payload: &[u8]) -> Option<Message>
-    ensures cases { MatchOption result (described id ≡ None) (Says id payload.now) }
+    ensures cases { MatchOption result (described id ≡ None) (SaysMessage id payload.now) }
     ensures fits { IfSome result FitsTypes }
-    ensures only { (message : Message) → FitsTypes message → Says id payload.now message → result ≡ Some message }
+    ensures only { (message : Message) → FitsTypes message → SaysMessage id payload.now message
+        → result ≡ Some message }
 {
     listed_message(id, payload)
 }
@@ -333,29 +335,30 @@ fn listed_extra(id: u32) -> Option<u8>
     ensures { result ≡ option_map (λ d. d.extra) (described id) }
 {
     Some(match id {
-        0 => HEARTBEAT.extra,
-        20 => PARAM_REQUEST_READ.extra,
-        21 => PARAM_REQUEST_LIST.extra,
-        22 => PARAM_VALUE.extra,
-        23 => PARAM_SET.extra,
-        40 => MISSION_REQUEST.extra,
-        43 => MISSION_REQUEST_LIST.extra,
-        44 => MISSION_COUNT.extra,
-        45 => MISSION_CLEAR_ALL.extra,
-        47 => MISSION_ACK.extra,
-        51 => MISSION_REQUEST_INT.extra,
-        73 => MISSION_ITEM_INT.extra,
-        76 => COMMAND_LONG.extra,
-        77 => COMMAND_ACK.extra,
+        ids::HEARTBEAT => HEARTBEAT.extra,
+        ids::PARAM_REQUEST_READ => PARAM_REQUEST_READ.extra,
+        ids::PARAM_REQUEST_LIST => PARAM_REQUEST_LIST.extra,
+        ids::PARAM_VALUE => PARAM_VALUE.extra,
+        ids::PARAM_SET => PARAM_SET.extra,
+        ids::MISSION_REQUEST => MISSION_REQUEST.extra,
+        ids::MISSION_REQUEST_LIST => MISSION_REQUEST_LIST.extra,
+        ids::MISSION_COUNT => MISSION_COUNT.extra,
+        ids::MISSION_CLEAR_ALL => MISSION_CLEAR_ALL.extra,
+        ids::MISSION_ACK => MISSION_ACK.extra,
+        ids::MISSION_REQUEST_INT => MISSION_REQUEST_INT.extra,
+        ids::MISSION_ITEM_INT => MISSION_ITEM_INT.extra,
+        ids::COMMAND_LONG => COMMAND_LONG.extra,
+        ids::COMMAND_ACK => COMMAND_ACK.extra,
         _ => return None,
     })
 }
 
-/// CRC_EXTRA, the byte by which a message's description counts in the CRC of its frames. None exactly where the id isn't
-/// listed.
+/// CRC_EXTRA, the byte by which a message's description counts in the CRC of its frames. None
+/// exactly where the id isn't listed.
 pub fn extra(id: u32) -> Option<u8>
     ensures listed { result ≡ option_map (λ d. d.extra) (described id) }
-    ensures computed { result ≡ option_map (λ d. extra_byte (crc_of 0xFFFF (description_bytes d))) (described id) }
+    ensures computed { result
+        ≡ option_map (λ d. extra_byte (crc_of 0xFFFF (description_text d))) (described id) }
 {
     listed_extra(id)
 }

@@ -1,162 +1,205 @@
-//! Payloads written.
-#![tactic(auto)]
+//! Payloads written: the fields of a message in wire order, the lowest byte of a number first.
 
-ghost use Rattle.std.specs.Prelude.{◌≡◌, ℕ, ◌+◌, ◌≤◌, ◌<◌, ◌++◌, Bool, not, ◌&&◌, [], if◌then◌else◌, length, map};
+ghost use Rattle.std.specs.Prelude.{◌≡◌, ℕ, ◌+◌, ◌≤◌, ◌<◌, ◌++◌, [], length};
+ghost use Rattle.std.specs.Int.{cast_unsigned, w16, w32};
 ghost use Rattle.mav_messages.specs.Fields.{layout_of};
-ghost use Rattle.mav_messages.specs.Payload.{spelling, value_bytes, Suit, Suits, IsTrimmed, IsPayload, total};
-ghost use Rattle.mav_messages.specs.Messages.{values_of, description_of, FitsTypes, Says, sent};
-ghost use Rattle.mav_messages.specs.View.{value_of};
+ghost use Rattle.mav_messages.specs.Payload.{Suit, IsTrimmed, IsPayload};
+ghost use Rattle.mav_messages.specs.Messages.{field_values, description_of, FitsTypes, SaysMessage, ArrivesAs};
+ghost use Rattle.mav_messages.specs.Steps.Writes.{PutsNumber, PutsExtension, PutsChars, IsSpelled};
+ghost use Rattle.mav_messages.specs.declared.messages.Message.{Message};
 
-use crate::layouts::*;
 use crate::messages::Message;
 use arrayvec::ArrayVec;
 use byteorder::{ByteOrder, LittleEndian};
 
-/// The value of a field on its way into a payload.
-#[derive(Clone, Copy, Drop)]
-pub enum FieldValue<'a> {
-    Number(u64),
-    Bytes(&'a [u8]),
-}
-
 type Payload = ArrayVec<u8, 64>;
 
-fn extend(payload: &mut Payload, bytes: &[u8])
-    requires { length payload.old.items + length bytes.now ≤ 64 }
-    ensures { payload.new.items ≡ payload.old.items ++ bytes.now }
+/// Puts bytes after those that a list has.
+pub fn append<const N: usize>(list: &mut ArrayVec<u8, N>, bytes: &[u8])
+    requires { length list.old.items + length bytes.now ≤ N }
+    ensures { list.new.items ≡ list.old.items ++ bytes.now }
 {
-    match payload.try_extend_from_slice(bytes) {
+    match list.try_extend_from_slice(bytes) {
         Ok(()) => {}
         Err(_) => unreachable!(),
     }
 }
 
-fn put_value(payload: &mut Payload, row: &Row, value: &FieldValue<'_>)
-    requires suits { Suits row.now (value_of value.now) }
-    requires room { length payload.old.items + length (value_bytes row.now (value_of value.now)) ≤ 64 }
-    ensures { payload.new.items ≡ payload.old.items ++ value_bytes row.now (value_of value.now) }
+fn put_u8(payload: &mut Payload, number: u8)
+    requires { length payload.old.items + 1 ≤ 64 }
+    ensures puts { PutsNumber 1 number payload.old.items payload.new.items }
+    ensures long { length payload.new.items ≤ length payload.old.items + 1 }
 {
-    match value {
-        FieldValue::Number(number) => {
-            let mut bytes = [0u8; 8];
-            LittleEndian::write_u64(&mut bytes, *number);
-            extend(payload, &bytes[..row.width as usize]);
-        }
-        FieldValue::Bytes(bytes) => extend(payload, bytes),
+    payload.push(number);
+}
+
+fn put_u16(payload: &mut Payload, number: u16)
+    requires { length payload.old.items + 2 ≤ 64 }
+    ensures puts { PutsNumber 2 number payload.old.items payload.new.items }
+    ensures long { length payload.new.items ≤ length payload.old.items + 2 }
+{
+    let mut bytes = [0u8; 2];
+    LittleEndian::write_u16(&mut bytes, number);
+    append(payload, &bytes);
+}
+
+fn put_i16(payload: &mut Payload, number: i16)
+    requires { length payload.old.items + 2 ≤ 64 }
+    ensures puts { PutsNumber 2 (cast_unsigned w16 number) payload.old.items payload.new.items }
+    ensures long { length payload.new.items ≤ length payload.old.items + 2 }
+{
+    put_u16(payload, number.cast_unsigned());
+}
+
+fn put_u32(payload: &mut Payload, number: u32)
+    requires { length payload.old.items + 4 ≤ 64 }
+    ensures puts { PutsNumber 4 number payload.old.items payload.new.items }
+    ensures long { length payload.new.items ≤ length payload.old.items + 4 }
+{
+    let mut bytes = [0u8; 4];
+    LittleEndian::write_u32(&mut bytes, number);
+    append(payload, &bytes);
+}
+
+fn put_i32(payload: &mut Payload, number: i32)
+    requires { length payload.old.items + 4 ≤ 64 }
+    ensures puts { PutsNumber 4 (cast_unsigned w32 number) payload.old.items payload.new.items }
+    ensures long { length payload.new.items ≤ length payload.old.items + 4 }
+{
+    put_u32(payload, number.cast_unsigned());
+}
+
+fn put_chars(payload: &mut Payload, chars: &[u8; 16])
+    requires { length payload.old.items + 16 ≤ 64 }
+    ensures puts { PutsChars 16 chars.now payload.old.items payload.new.items }
+    ensures long { length payload.new.items ≤ length payload.old.items + 16 }
+{
+    append(payload, chars);
+}
+
+/// A field that version 1 doesn't send.
+fn put_extension_u8(payload: &mut Payload, v2: bool, number: u8)
+    requires { length payload.old.items + 1 ≤ 64 }
+    ensures puts { PutsExtension v2 1 number payload.old.items payload.new.items }
+    ensures long { length payload.new.items ≤ length payload.old.items + 1 }
+{
+    if v2 {
+        put_u8(payload, number);
     }
 }
 
-fn put(payload: &mut Payload, row: &Row, value: &FieldValue<'_>, v2: bool)
-    requires suits { Suits row.now (value_of value.now) }
-    requires room { length payload.old.items + length (if not v2 && row.now.extension then [] else value_bytes row.now (value_of value.now)) ≤ 64 }
-    ensures { payload.new.items ≡ payload.old.items ++ (if not v2 && row.now.extension then [] else value_bytes row.now (value_of value.now)) }
+/// A signed field that version 1 doesn't send.
+fn put_extension_i32(payload: &mut Payload, v2: bool, number: i32)
+    requires { length payload.old.items + 4 ≤ 64 }
+    ensures puts { PutsExtension v2 4 (cast_unsigned w32 number)
+        payload.old.items payload.new.items }
+    ensures long { length payload.new.items ≤ length payload.old.items + 4 }
 {
-    if v2 || !row.extension {
-        put_value(payload, row, value);
+    if v2 {
+        put_i32(payload, number);
     }
 }
 
-#[tactic(auto, unfolding(crate::specs::Payload::spelling))]
-fn spell(rows: &[Row], values: &[FieldValue<'_>], v2: bool) -> Payload
-    requires suit { Suit rows.now (map value_of values.now) }
-    requires room { total rows.now ≤ 64 }
-    ensures spelled { result.items ≡ spelling v2 rows.now (map value_of values.now) }
-    ensures suit { Suit rows.now (map value_of values.now) }
-{
-    let mut payload = ArrayVec::new();
-    for (i, row) in rows.iter().enumerate() {
-        put(&mut payload, row, &values[i], v2);
-    }
-    payload
+/// Puts a field by its form.
+macro_rules! put_field {
+    (u8 $payload:ident $v2:ident $field:ident) => {
+        put_u8($payload, *$field)
+    };
+    (u16 $payload:ident $v2:ident $field:ident) => {
+        put_u16($payload, *$field)
+    };
+    (i16 $payload:ident $v2:ident $field:ident) => {
+        put_i16($payload, *$field)
+    };
+    (u32 $payload:ident $v2:ident $field:ident) => {
+        put_u32($payload, *$field)
+    };
+    (i32 $payload:ident $v2:ident $field:ident) => {
+        put_i32($payload, *$field)
+    };
+    (chars $payload:ident $v2:ident $field:ident) => {
+        put_chars($payload, $field)
+    };
+    (extension_u8 $payload:ident $v2:ident $field:ident) => {
+        put_extension_u8($payload, $v2, *$field)
+    };
+    (extension_i32 $payload:ident $v2:ident $field:ident) => {
+        put_extension_i32($payload, $v2, *$field)
+    };
 }
 
-/// A field's value, by its form.
-macro_rules! value {
-    (unsigned $field:ident) => {
-        FieldValue::Number(*$field as u64)
-    };
-    (signed $field:ident) => {
-        FieldValue::Number($field.cast_unsigned() as u64)
-    };
-    (bytes $field:ident) => {
-        FieldValue::Bytes($field)
-    };
-}
-
-/// The payload of a message, from a table that has for each variant its layout, and its fields in wire order, each with
-/// its form.
-macro_rules! spell_message {
-    ($message:ident, $v2:ident, { $($variant:ident $layout:ident { $($field:ident: $form:ident,)* })* }) => {
+/// Puts the fields of a message, from a table that has for each variant its fields in wire order,
+/// each with its form.
+macro_rules! put_message {
+    ($payload:ident, $message:ident, $v2:ident, {
+        $($variant:ident { $($field:ident: $form:ident,)* })*
+    }) => {
         match $message {
-            $(Message::$variant { $($field),* } => spell(&$layout.rows, &[$(value!($form $field)),*], $v2),)*
+            $(Message::$variant { $($field),* } => {
+                $(put_field!($form $payload $v2 $field);)*
+            })*
         }
     };
 }
 
-fn written(message: &Message, v2: bool) -> Payload
-    ensures spelled { result.items ≡ spelling v2 (layout_of (description_of message.now)) (values_of message.now) }
-    ensures suit { Suit (layout_of (description_of message.now)) (values_of message.now) }
+/// The fields of a message, in an empty payload.
+fn put_fields(payload: &mut Payload, message: &Message, v2: bool)
+    requires { length payload.old.items ≡ 0 }
+    ensures { IsSpelled v2 message.now payload.new.items }
 {
-    spell_message!(message, v2, {
-        Heartbeat HEARTBEAT {
-            custom_mode: unsigned, kind: unsigned, autopilot: unsigned, base_mode: unsigned,
-            system_status: unsigned, mavlink_version: unsigned,
+    put_message!(payload, message, v2, {
+        Heartbeat {
+            custom_mode: u32, kind: u8, autopilot: u8, base_mode: u8, system_status: u8,
+            mavlink_version: u8,
         }
-        ParamRequestRead PARAM_REQUEST_READ {
-            param_index: signed, target_system: unsigned, target_component: unsigned,
-            param_id: bytes,
+        ParamRequestRead {
+            param_index: i16, target_system: u8, target_component: u8, param_id: chars,
         }
-        ParamRequestList PARAM_REQUEST_LIST {
-            target_system: unsigned, target_component: unsigned,
+        ParamRequestList {
+            target_system: u8, target_component: u8,
         }
-        ParamValue PARAM_VALUE {
-            param_value: unsigned, param_count: unsigned, param_index: unsigned,
-            param_id: bytes, param_type: unsigned,
+        ParamValue {
+            param_value: u32, param_count: u16, param_index: u16, param_id: chars, param_type: u8,
         }
-        ParamSet PARAM_SET {
-            param_value: unsigned, target_system: unsigned, target_component: unsigned,
-            param_id: bytes, param_type: unsigned,
+        ParamSet {
+            param_value: u32, target_system: u8, target_component: u8, param_id: chars,
+            param_type: u8,
         }
-        MissionRequest MISSION_REQUEST {
-            seq: unsigned, target_system: unsigned, target_component: unsigned,
-            mission_type: unsigned,
+        MissionRequest {
+            seq: u16, target_system: u8, target_component: u8, mission_type: extension_u8,
         }
-        MissionRequestList MISSION_REQUEST_LIST {
-            target_system: unsigned, target_component: unsigned, mission_type: unsigned,
+        MissionRequestList {
+            target_system: u8, target_component: u8, mission_type: extension_u8,
         }
-        MissionCount MISSION_COUNT {
-            count: unsigned, target_system: unsigned, target_component: unsigned,
-            mission_type: unsigned,
+        MissionCount {
+            count: u16, target_system: u8, target_component: u8, mission_type: extension_u8,
         }
-        MissionClearAll MISSION_CLEAR_ALL {
-            target_system: unsigned, target_component: unsigned, mission_type: unsigned,
+        MissionClearAll {
+            target_system: u8, target_component: u8, mission_type: extension_u8,
         }
-        MissionAck MISSION_ACK {
-            target_system: unsigned, target_component: unsigned, kind: unsigned,
-            mission_type: unsigned,
+        MissionAck {
+            target_system: u8, target_component: u8, kind: u8, mission_type: extension_u8,
         }
-        MissionRequestInt MISSION_REQUEST_INT {
-            seq: unsigned, target_system: unsigned, target_component: unsigned,
-            mission_type: unsigned,
+        MissionRequestInt {
+            seq: u16, target_system: u8, target_component: u8, mission_type: extension_u8,
         }
-        MissionItemInt MISSION_ITEM_INT {
-            param1: unsigned, param2: unsigned, param3: unsigned, param4: unsigned, x: signed,
-            y: signed, z: unsigned, seq: unsigned, command: unsigned, target_system: unsigned,
-            target_component: unsigned, frame: unsigned, current: unsigned,
-            autocontinue: unsigned, mission_type: unsigned,
+        MissionItemInt {
+            param1: u32, param2: u32, param3: u32, param4: u32, x: i32, y: i32, z: u32, seq: u16,
+            command: u16, target_system: u8, target_component: u8, frame: u8, current: u8,
+            autocontinue: u8, mission_type: extension_u8,
         }
-        CommandLong COMMAND_LONG {
-            param1: unsigned, param2: unsigned, param3: unsigned, param4: unsigned,
-            param5: unsigned, param6: unsigned, param7: unsigned, command: unsigned,
-            target_system: unsigned, target_component: unsigned, confirmation: unsigned,
+        CommandLong {
+            param1: u32, param2: u32, param3: u32, param4: u32, param5: u32, param6: u32,
+            param7: u32, command: u16, target_system: u8, target_component: u8, confirmation: u8,
         }
-        CommandAck COMMAND_ACK {
-            command: unsigned, result: unsigned, progress: unsigned, result_param2: signed,
-            target_system: unsigned, target_component: unsigned,
+        CommandAck {
+            command: u16, result: u8, progress: extension_u8, result_param2: extension_i32,
+            target_system: extension_u8, target_component: extension_u8,
         }
     })
 }
 
+/// Takes the zeros from the end of a payload, but leaves a byte.
 fn trim(payload: &mut Payload)
     requires { 0 < length payload.old.items }
     ensures { IsTrimmed payload.old.items payload.new.items }
@@ -169,7 +212,7 @@ fn trim(payload: &mut Payload)
 }
 
 /// The signed fields of a message fit their types.
-fn known(message: &Message)
+fn fields_fit(message: &Message)
     ensures { FitsTypes message.now }
 {
     match message {
@@ -183,30 +226,61 @@ fn known(message: &Message)
         Message::CommandAck { result_param2, .. } => {
             let _param = *result_param2;
         }
-        _ => {}
+        Message::Heartbeat { .. }
+        | Message::ParamRequestList { .. }
+        | Message::ParamValue { .. }
+        | Message::ParamSet { .. }
+        | Message::MissionRequest { .. }
+        | Message::MissionRequestList { .. }
+        | Message::MissionCount { .. }
+        | Message::MissionClearAll { .. }
+        | Message::MissionAck { .. }
+        | Message::MissionRequestInt { .. }
+        | Message::CommandLong { .. } => {}
     }
 }
 
-fn payload_of(message: &Message, v2: bool) -> Payload
-    ensures payload { IsPayload v2 (layout_of (description_of message.now)) (values_of message.now) result.items }
-    ensures suit { Suit (layout_of (description_of message.now)) (values_of message.now) }
+/// The payload of a message, in an empty one.
+fn put_payload(payload: &mut Payload, message: &Message, v2: bool)
+    requires { length payload.old.items ≡ 0 }
+    ensures payload { IsPayload v2 (layout_of (description_of message.now))
+        (field_values message.now) payload.new.items }
+    ensures suit { Suit (layout_of (description_of message.now)) (field_values message.now) }
 {
-    let mut payload = written(message, v2);
+    put_fields(payload, message, v2);
     if v2 {
-        trim(&mut payload);
+        trim(payload);
     }
-    payload
 }
 
-/// The payload of a message as it is sent: in version 1 its whole base length without extensions, in version 2 without its
-/// trailing zeros but with at least one byte.
+/// The payload of a message as it is sent, in place of what the buffer held: in version 1 its whole
+/// base length without extensions, in version 2 without its trailing zeros but with at least one
+/// byte.
+pub fn encode_into(payload: &mut ArrayVec<u8, 64>, message: &Message, v2: bool)
+    ensures payload { IsPayload v2 (layout_of (description_of message.now))
+        (field_values message.now) payload.new.items }
+    ensures said { (arrived : Message) × ArrivesAs v2 message.now arrived
+        × SaysMessage (description_of message.now).id payload.new.items arrived }
+    ensures some { 0 < length payload.new.items }
+    ensures short { length payload.new.items ≤ 64 }
+    ensures fits { FitsTypes message.now }
+{
+    fields_fit(message);
+    payload.clear();
+    put_payload(payload, message, v2);
+}
+
+/// The payload of a message as it is sent, as `encode_into` writes it.
 pub fn encode(message: &Message, v2: bool) -> ArrayVec<u8, 64>
-    ensures payload { IsPayload v2 (layout_of (description_of message.now)) (values_of message.now) result.items }
-    ensures said { Says (description_of message.now).id result.items (sent v2 message.now) }
+    ensures payload { IsPayload v2 (layout_of (description_of message.now))
+        (field_values message.now) result.items }
+    ensures said { (arrived : Message) × ArrivesAs v2 message.now arrived
+        × SaysMessage (description_of message.now).id result.items arrived }
     ensures some { 0 < length result.items }
     ensures short { length result.items ≤ 64 }
-    ensures fits { FitsTypes (sent v2 message.now) }
+    ensures fits { FitsTypes message.now }
 {
-    known(message);
-    payload_of(message, v2)
+    let mut payload = ArrayVec::new();
+    encode_into(&mut payload, message, v2);
+    payload
 }

@@ -1,8 +1,9 @@
 //! Where each message has its fields.
 //!
-//! Source: MAVLink common message set. Fields stand in wire order, extensions last; which extensions there are is this
-//! project's profile.
-#![tactic(auto)]
+//! Source: MAVLink common message set. Fields stand in wire order, extensions last; which
+//! extensions there are is this project's profile.
+
+use crate::ids;
 
 /// The type of a field in MAVLink's definitions.
 #[derive(Clone, Copy, Debug, Drop)]
@@ -16,8 +17,9 @@ pub enum FieldKind {
     Float,
 }
 
-/// A field of a payload: its type, the offset and the width of its first element in bytes, and the number of its
-/// elements, which is 0 where it is no array. An extension is a field that version 1 doesn't send.
+/// A field of a payload: its type, the offset and the width of its first element in bytes, and the
+/// number of its elements, which is 0 where it is no array. An extension is a field that version 1
+/// doesn't send.
 #[derive(Clone, Copy, Debug, Drop)]
 pub struct Row {
     pub kind: FieldKind,
@@ -37,12 +39,19 @@ pub struct Layout<const N: usize> {
 
 macro_rules! row {
     ($kind:ident, $width:literal, $offset:literal, $array:literal, $extension:literal) => {
-        Row { kind: FieldKind::$kind, offset: $offset, width: $width, array: $array, extension: $extension }
+        Row {
+            kind: FieldKind::$kind,
+            offset: $offset,
+            width: $width,
+            array: $array,
+            extension: $extension,
+        }
     };
 }
 
+/// HEARTBEAT: the vehicle is there, and of which kind it is.
 pub const HEARTBEAT: Layout<6> = Layout {
-    id: 0,
+    id: ids::HEARTBEAT,
     extra: 50,
     rows: [
         row!(Uint32, 4, 0, 0, false),
@@ -54,8 +63,9 @@ pub const HEARTBEAT: Layout<6> = Layout {
     ],
 };
 
+/// PARAM_REQUEST_READ: asks for one parameter, by index or by name.
 pub const PARAM_REQUEST_READ: Layout<4> = Layout {
-    id: 20,
+    id: ids::PARAM_REQUEST_READ,
     extra: 214,
     rows: [
         row!(Int16, 2, 0, 0, false),
@@ -65,14 +75,16 @@ pub const PARAM_REQUEST_READ: Layout<4> = Layout {
     ],
 };
 
+/// PARAM_REQUEST_LIST: asks for all parameters.
 pub const PARAM_REQUEST_LIST: Layout<2> = Layout {
-    id: 21,
+    id: ids::PARAM_REQUEST_LIST,
     extra: 159,
     rows: [row!(Uint8, 1, 0, 0, false), row!(Uint8, 1, 1, 0, false)],
 };
 
+/// PARAM_VALUE: a parameter with its value.
 pub const PARAM_VALUE: Layout<5> = Layout {
-    id: 22,
+    id: ids::PARAM_VALUE,
     extra: 220,
     rows: [
         row!(Float, 4, 0, 0, false),
@@ -83,8 +95,9 @@ pub const PARAM_VALUE: Layout<5> = Layout {
     ],
 };
 
+/// PARAM_SET: sets a parameter by name.
 pub const PARAM_SET: Layout<5> = Layout {
-    id: 23,
+    id: ids::PARAM_SET,
     extra: 168,
     rows: [
         row!(Float, 4, 0, 0, false),
@@ -95,8 +108,9 @@ pub const PARAM_SET: Layout<5> = Layout {
     ],
 };
 
+/// MISSION_REQUEST: asks for an item of a list, in its old form.
 pub const MISSION_REQUEST: Layout<4> = Layout {
-    id: 40,
+    id: ids::MISSION_REQUEST,
     extra: 230,
     rows: [
         row!(Uint16, 2, 0, 0, false),
@@ -106,8 +120,9 @@ pub const MISSION_REQUEST: Layout<4> = Layout {
     ],
 };
 
+/// MISSION_REQUEST_LIST: asks how many items a list has.
 pub const MISSION_REQUEST_LIST: Layout<3> = Layout {
-    id: 43,
+    id: ids::MISSION_REQUEST_LIST,
     extra: 132,
     rows: [
         row!(Uint8, 1, 0, 0, false),
@@ -116,8 +131,9 @@ pub const MISSION_REQUEST_LIST: Layout<3> = Layout {
     ],
 };
 
+/// MISSION_COUNT: how many items a list has: begins an upload, or answers a request.
 pub const MISSION_COUNT: Layout<4> = Layout {
-    id: 44,
+    id: ids::MISSION_COUNT,
     extra: 221,
     rows: [
         row!(Uint16, 2, 0, 0, false),
@@ -127,8 +143,9 @@ pub const MISSION_COUNT: Layout<4> = Layout {
     ],
 };
 
+/// MISSION_CLEAR_ALL: empties a list.
 pub const MISSION_CLEAR_ALL: Layout<3> = Layout {
-    id: 45,
+    id: ids::MISSION_CLEAR_ALL,
     extra: 232,
     rows: [
         row!(Uint8, 1, 0, 0, false),
@@ -137,8 +154,9 @@ pub const MISSION_CLEAR_ALL: Layout<3> = Layout {
     ],
 };
 
+/// MISSION_ACK: ends an upload or a download.
 pub const MISSION_ACK: Layout<4> = Layout {
-    id: 47,
+    id: ids::MISSION_ACK,
     extra: 153,
     rows: [
         row!(Uint8, 1, 0, 0, false),
@@ -148,8 +166,9 @@ pub const MISSION_ACK: Layout<4> = Layout {
     ],
 };
 
+/// MISSION_REQUEST_INT: asks for an item of a list.
 pub const MISSION_REQUEST_INT: Layout<4> = Layout {
-    id: 51,
+    id: ids::MISSION_REQUEST_INT,
     extra: 196,
     rows: [
         row!(Uint16, 2, 0, 0, false),
@@ -159,8 +178,9 @@ pub const MISSION_REQUEST_INT: Layout<4> = Layout {
     ],
 };
 
+/// MISSION_ITEM_INT: an item of a list.
 pub const MISSION_ITEM_INT: Layout<15> = Layout {
-    id: 73,
+    id: ids::MISSION_ITEM_INT,
     extra: 38,
     rows: [
         row!(Float, 4, 0, 0, false),
@@ -181,8 +201,9 @@ pub const MISSION_ITEM_INT: Layout<15> = Layout {
     ],
 };
 
+/// COMMAND_LONG: a command with up to seven parameters.
 pub const COMMAND_LONG: Layout<11> = Layout {
-    id: 76,
+    id: ids::COMMAND_LONG,
     extra: 152,
     rows: [
         row!(Float, 4, 0, 0, false),
@@ -199,8 +220,9 @@ pub const COMMAND_LONG: Layout<11> = Layout {
     ],
 };
 
+/// COMMAND_ACK: what became of a command.
 pub const COMMAND_ACK: Layout<6> = Layout {
-    id: 77,
+    id: ids::COMMAND_ACK,
     extra: 143,
     rows: [
         row!(Uint16, 2, 0, 0, false),

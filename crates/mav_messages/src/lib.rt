@@ -1,15 +1,17 @@
-//! The messages of the parameter, mission and command protocols of MAVLink: their layouts, and their payloads in frames.
+//! The messages of the parameter, mission and command protocols of MAVLink: their layouts, and
+//! their payloads in frames.
 #![tactic(auto)]
 
 mod decoding;
 mod encoding;
+mod ids;
 mod laws;
 pub mod layouts;
 mod messages;
 
 pub use decoding::{decode, extra};
-pub use encoding::encode;
-pub use laws::{a_message_or_none, layouts_follow, one_message};
+pub use encoding::{append, encode, encode_into};
+pub use laws::{a_message_or_none, layouts_follow, one_arrival, one_message};
 pub use layouts::{FieldKind, Layout, Row};
 pub use messages::{Message, Replies, Reply, Sender, To};
 

@@ -1,5 +1,4 @@
 //! The messages, and who is answered.
-#![tactic(auto)]
 
 ghost use Rattle.std.specs.Prelude.{◌≡◌, ◌<◌, ◌^◌, Some};
 ghost use Rattle.mav_messages.specs.Descriptions.{described};
@@ -8,8 +7,8 @@ ghost use Rattle.mav_messages.specs.Messages.{description_of};
 use crate::layouts::*;
 use arrayvec::ArrayVec;
 
-/// A message of the MAVLink common message set, its fields in the order of its payload. A float is its bit pattern, a
-/// char a byte, and `kind` the field that MAVLink calls type.
+/// A message of the MAVLink common message set, its fields in the order of its payload. A float is
+/// its bit pattern, a char a byte, and `kind` the field that MAVLink calls type.
 #[derive(Clone, Copy, Debug, Drop)]
 pub enum Message {
     Heartbeat {
@@ -154,7 +153,8 @@ impl Default for Message {
     }
 }
 
-/// Who sent a message: the station that it came from, 0 to 7, and the system and component that its frame names.
+/// Who sent a message: the station that it came from, 0 to 7, and the system and component that its
+/// frame names.
 #[derive(Clone, Copy, Debug, Drop)]
 pub struct Sender {
     pub station: u8,
