@@ -1,5 +1,5 @@
 -- The rows after each prefix of the writes that set one.
-use Rattle.std.proofs.Common.{◌≡◌, ◌≢◌, ◌⊎◌, inl, inr, ℕ, ◌+◌, ◌-◌, ◌*◌, ◌/◌, ◌^◌, ◌<◌, ◌≤◌, true, cond, List, [], ◌∷◌, ◌++◌, length, get_or, take, drop, refl, sym, ◌∙◌, ap, subst, arith, Option, Some, None}
+use Rattle.std.proofs.Common.{◌≡◌, ◌≢◌, ◌⊎◌, inl, inr, ℕ, ◌+◌, ◌-◌, ◌*◌, ◌/◌, ◌%◌, ◌^◌, ◌<◌, ◌≤◌, true, cond, List, [], ◌∷◌, ◌++◌, length, get_or, take, drop, refl, sym, ◌∙◌, ap, subst, arith, Option, Some, None}
 use Rattle.std.specs.Prelude.{All, slice_get, IsTrue, ◌&&◌, nat_lt, nat_le}
 use Rattle.std.specs.Option.{option_map_or}
 use Rattle.std.specs.Str.{bytes_eq}
@@ -10,7 +10,8 @@ use Rattle.std.proofs.lemmas.Slice.Eq.{bytes_eq-Decides}
 use Rattle.param_tree.specs.declared.Kind.{Kind}
 use Rattle.param_tree.specs.declared.Kind.TheVariants.{I8, I16, I32, F32, Vec3}
 use Rattle.param_tree.specs.declared.Var.{Var}
-use Rattle.param_tree.specs.Rules.{IsTable, row_fits, parts_of, is_value_of, is_finite_pattern, is_whole_pattern}
+use Rattle.param_tree.specs.Rules.{IsTable, row_fits, parts_of, is_value_of, is_whole_pattern}
+use Rattle.word_bits.specs.Pattern.{exponent, is_finite}
 use Rattle.storage_lines.specs.declared.lines.LineWrite.{LineWrite}
 use Rattle.storage_lines.specs.declared.lines.TheConstants.{STORAGE_BYTES}
 use Rattle.storage_lines.specs.declared.areas.Area.{Area}
@@ -27,7 +28,7 @@ use Rattle.param_records.specs.Records.{Record, size_of, four_bytes, header, sen
 use Rattle.param_records.specs.Values.{value_from, value_of_number, value_in_records, params_of}
 use Rattle.param_records.specs.Changes.{piece, part_size, part_bytes, overwritten, fresh, fresh_bytes, appending, set_pieces, IsFull}
 use Rattle.storage_lines.specs.Bytes.{IsBytes}
-use Rattle.param_records.specs.Steps.{records_in_storage, HasMagic, place_of_row, IsKept, torn_value, IsInOneLine, ReadsBetween, SetsRow, SetsInSteps}
+use Rattle.param_records.specs.Steps.{records_in_storage, HasMagic, place_of_row, IsKept, torn_value, IsInOneLine, ReadsBetween, SetsInSteps}
 use Rattle.param_records.proofs.RecordLemmas.{with_value, records_are, end_is, all_right}
 use Rattle.param_records.proofs.PieceLemmas.{piece_prefix, param_rises, length-logical}
 use Rattle.param_records.proofs.AppendLemmas.{OldOrNew, append_done, no_more}
@@ -65,11 +66,8 @@ whole_low half d small h = elim (or_cases (nat_lt d half) (nat_le (0x1_0000_0000
   | inr a ↦ omega (arith, ltb-true d 0x1_0000_0000 (and_parts (nat_le (0x1_0000_0000 - half) d) (nat_lt d 0x1_0000_0000) a).1)
 ]
 
-finite_low : (d : ℕ) → is_finite_pattern d ≡ true → d < 2 ^ 32
-finite_low d h = elim (or_cases (nat_lt d 0x7F80_0000) (nat_le 0x8000_0000 d && nat_lt d 0xFF80_0000) h) [
-  | inl a ↦ omega (arith, ltb-true d 0x7F80_0000 a)
-  | inr a ↦ omega (arith, ltb-true d 0xFF80_0000 (and_parts (nat_le 0x8000_0000 d) (nat_lt d 0xFF80_0000) a).1)
-]
+finite_low : (d : ℕ) → is_finite d ≡ true → d < 2 ^ 32
+finite_low d h = ltb-true d (2 ^ 32) (and_parts (nat_lt d (2 ^ 32)) (nat_lt (exponent (d % 2 ^ 31)) 0xFF) h).0
 
 default_low : (kind : Kind) (d : ℕ) → is_value_of kind d ≡ true → d < 2 ^ 32
 default_low I8 d h = whole_low 128 d (omega arith) h

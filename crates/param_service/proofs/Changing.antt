@@ -19,7 +19,9 @@ use Rattle.param_records.specs.Values.{params_of, value_in_records}
 use Rattle.param_records.specs.Changes.{set_pieces, IsFull, is_full}
 use Rattle.param_records.specs.Patterns.{IsNumberOf, IsValueOf}
 use Rattle.param_records.specs.Steps.{HasMagic, records_in_storage, SetsRow}
-use Rattle.storage_lines.specs.Bytes.{IsBytes}
+use Rattle.storage_lines.specs.declared.lines.TheConstants.{LINES}
+use Rattle.storage_lines.specs.Bytes.{IsBytes, AreInside}
+use Rattle.std.proofs.lemmas.List.Elements.{All-nil}
 use Rattle.param_records.proofs.SetLemmas.{is_some}
 use Rattle.param_records.proofs.StepLemmas.{no_records}
 use Rattle.param_records.proofs.WalkLemmas.{logical_bytes}
@@ -34,21 +36,6 @@ succeeded u = Ok u
 pub from_some : (o : Option Var) (P : Var → Type 0) (row : Var) → o ≡ Some row → P row → IfSome o P
 from_some o P row e h = subst (λ (x : Option Var). IfSome x P) (sym e) h
 
-none_is : (o : Option ℕ) → is_none o ≡ true → o ≡ None
-none_is None h = refl
-none_is (Some n) h = cc
-
--- the test of whether there is no room, and the fact
-full_true : (records : List Record) (row : Var) (number : ℕ) → IsFull records row number → is_full records row number ≡ true
-full_true records row number f =
-    and_from _ _ (ap (λ (o : Option ℕ). is_none o) f.none) (and_from _ _ (not_from_false _ (ne_eqb number row.default f.other)) (lt-ltb _ _ f.beyond))
-
-full_is : (records : List Record) (row : Var) (number : ℕ) → is_full records row number ≡ true → IsFull records row number
-full_is records row number h =
-    let a = and_parts _ _ h in
-    let b = and_parts _ _ a.1 in
-    record { none = none_is _ a.0; other = eqb-false number row.default (not-true _ b.0); beyond = ltb-true _ _ b.1 }
-
 abbrev set_there : List ℕ → Var → ℕ → List LineWrite
 set_there bytes row number = writes_of bytes (set_pieces vehicle_rows (records_in_storage bytes) row number)
 
@@ -56,11 +43,11 @@ total_writes : (bytes : List ℕ) (row : Var) (number : ℕ) → is_total row �
 total_writes bytes row number h = ap (λ (b : Bool). cond b [] (set_there bytes row number)) (or_left (is_total row) (is_full (records_in_storage bytes) row number) h)
 
 full_writes : (bytes : List ℕ) (row : Var) (number : ℕ) → IsFull (records_in_storage bytes) row number → writes_for bytes row number ≡ []
-full_writes bytes row number h = ap (λ (b : Bool). cond b [] (set_there bytes row number)) (or_right (is_total row) (is_full (records_in_storage bytes) row number) (full_true (records_in_storage bytes) row number h))
+full_writes bytes row number h = ap (λ (b : Bool). cond b [] (set_there bytes row number)) (or_right (is_total row) (is_full (records_in_storage bytes) row number) h)
 
 room_writes : (bytes : List ℕ) (row : Var) (number : ℕ) → is_total row ≡ false → (IsFull (records_in_storage bytes) row number → ⊥) → writes_for bytes row number ≡ set_there bytes row number
 room_writes bytes row number h room =
-    let none : is_full (records_in_storage bytes) row number ≡ false = false_from_ne_true _ (λ e. room (full_is (records_in_storage bytes) row number e)) in
+    let none : is_full (records_in_storage bytes) row number ≡ false = false_from_ne_true _ room in
     ap (λ (b : Bool). cond b [] (set_there bytes row number)) (or_from (is_total row) (is_full (records_in_storage bytes) row number) h none)
 
 set_writes-at : (bytes : List ℕ) (index number : ℕ) (row : Var) → slice_get vehicle_rows index ≡ Some row → set_writes bytes index (Some number) ≡ writes_for bytes row number
@@ -74,10 +61,10 @@ not_set bytes index bits row None writes value is meant none w v =
 not_set bytes index bits row (Some n) writes value is meant none w v =
     record { number = Some n; meant = meant; written = w ∙ sym (set_writes-at bytes index n row is ∙ none n refl); shown = v ∙ ap (λ (l : List LineWrite). params_of (after bytes l) row) (sym w) }
 
-pub total_kept : (bytes : List ℕ) (index bits : ℕ) (row : Var) (writes : List LineWrite) (value : Value) → slice_get vehicle_rows index ≡ Some row → bits < 2 ^ 32 → is_total row ≡ true → writes ≡ [] → value ≡ params_of bytes row →
+pub total_kept : (bytes : List ℕ) (index bits : ℕ) (row : Var) (writes : List LineWrite) (value : Value) → slice_get vehicle_rows index ≡ Some row → is_total row ≡ true → writes ≡ [] → value ≡ params_of bytes row →
     IsSet bytes row index bits writes value
-total_kept bytes index bits row writes value is small total w v =
-    let number = number_for row bits small in
+total_kept bytes index bits row writes value is total w v =
+    let number = number_for row bits in
     not_set bytes index bits row number.0 writes value is number.1 (λ n e. total_writes bytes row n total) w v
 
 pub full_kept : (bytes : List ℕ) (index bits n : ℕ) (row : Var) (writes : List LineWrite) (value : Value) → slice_get vehicle_rows index ≡ Some row → IsNumberOf row.kind bits n → IsFull (records_in_storage bytes) row n → writes ≡ [] → value ≡ params_of bytes row →
@@ -158,6 +145,10 @@ old_value bytes row index bits writes t none =
     let all : take (length writes) writes ≡ writes = take_all (length writes) writes (omega arith) in
     let front : take 4 (logical_of Param (after bytes writes)) ≡ take 4 (logical_of Param bytes) = ap (λ (l : List LineWrite). take 4 (logical_of Param (after bytes l))) (sym all) ∙ front_kept bytes row index bits writes t (length writes) in
     ap (λ (rs : List Record). value_in_records rs row) (no_records (logical_of Param bytes) none ∙ sym (no_records (logical_of Param (after bytes writes)) (λ m. none (sym front ∙ m))))
+
+-- a batch that was empty has lines of the storage
+pub lines_inside : (old new : List LineWrite) → old ≡ [] → (AreInside old → AreInside new) → AreInside new
+lines_inside old new empty keeps = keeps (subst (λ (l : List LineWrite). AreInside l) (sym empty) (All-nil (λ (write : LineWrite). write.line < LINES)))
 
 -- from what `set` promises where it refuses
 abbrev pub failed : SetError → Result (Unit {0}) SetError

@@ -1,5 +1,4 @@
 pub mod Showing
 pub mod Asking
 pub mod Numbers
-pub mod Counting
 pub mod Changing

@@ -1,9 +1,9 @@
--- Whether a pattern is a number of a kind.
+-- Whether a pattern is a number of a kind: the pattern itself, or the quotient of its value, which is counted in 2 ^ -149, by 2 ^ 149.
 use Rattle.std.proofs.Common.{◌≡◌, ◌⊎◌, inl, inr, ℕ, ◌*◌, ◌/◌, ◌%◌, ◌<◌, ◌^◌, Bool, true, false, refl, sym, ◌∙◌, ap, subst, arith, Option, Some, None}
 use Rattle.std.specs.Prelude.{ℤ, pos, negsuc, ◌*ℤ◌, ◌≤ℤ◌, FitsSigned}
 use Rattle.std.specs.Int.{w32}
 use Rattle.std.proofs.lemmas.Int.{ints, by_lt_z}
-use Rattle.std.proofs.lemmas.Bool.{cases_lt, cases_order}
+use Rattle.std.proofs.lemmas.Bool.{cases_lt}
 use Rattle.word_bits.specs.Pattern.{exponent, magnitude, signed, is_negative, IsFinite}
 use Rattle.word_bits.proofs.Signs.{product_turned}
 use Rattle.param_tree.specs.declared.Kind.{Kind}
@@ -12,7 +12,6 @@ use Rattle.param_tree.specs.declared.Var.{Var}
 use Rattle.param_records.specs.Patterns.{IsInRange, IsWholeOf, IsNumberOf, number_of_whole}
 use Rattle.param_service.specs.Requests.{IsNumberFor}
 
--- a number with its sign is a multiple of 2 ^ 149 by one number at most, and by none where there is a rest
 no_multiple : (s : Bool) (m : ℕ) (z : ℤ) → 0 < m % 2 ^ 149 → signed s m ≡ z *ℤ pos (2 ^ 149) → ⊥
 no_multiple true m z h e = omega (arith, ints)
 no_multiple false m z h e = omega (arith, ints)
@@ -20,22 +19,28 @@ no_multiple false m z h e = omega (arith, ints)
 one_multiple : (z w : ℤ) → z *ℤ pos (2 ^ 149) ≡ w *ℤ pos (2 ^ 149) → z ≡ w
 one_multiple z w e = omega (arith, ints)
 
-multiple : (s : Bool) (m : ℕ) → ((z : ℤ) × (signed s m ≡ z *ℤ pos (2 ^ 149))) ⊎ ((z : ℤ) → signed s m ≡ z *ℤ pos (2 ^ 149) → ⊥)
-multiple s m = elim (cases_order (m % 2 ^ 149) 0) [
-  | inl none ↦ let e : m / 2 ^ 149 * 2 ^ 149 ≡ m = omega arith in inl (signed s (m / 2 ^ 149), sym (product_turned s (m / 2 ^ 149) (2 ^ 149) ∙ ap (signed s) e))
-  | inr x ↦ elim x [ inl less ↦ absurd (omega arith) | inr rest ↦ inr (λ z e. no_multiple s m z rest e) ]
-]
+-- a number with its sign is a multiple of 2 ^ 149, or isn't
+multiple_or_not : (s : Bool) (m : ℕ) → ((z : ℤ) × (signed s m ≡ z *ℤ pos (2 ^ 149))) ⊎ ((z : ℤ) → signed s m ≡ z *ℤ pos (2 ^ 149) → ⊥)
+multiple_or_not s m =
+    elim (cases_lt 0 (m % 2 ^ 149)) [
+      | inl rest ↦ inr (λ z e. no_multiple s m z rest e)
+      | inr none ↦ let e : m / 2 ^ 149 * 2 ^ 149 ≡ m = omega arith in inl (signed s (m / 2 ^ 149), sym (product_turned s (m / 2 ^ 149) (2 ^ 149) ∙ ap (signed s) e))
+    ]
 
-finite_or_not : (bits : ℕ) → bits < 2 ^ 32 → IsFinite bits ⊎ (IsFinite bits → ⊥)
-finite_or_not bits small = elim (cases_lt (exponent (bits % 2 ^ 31)) 255) [
-  | inl low ↦ inl (small, low)
-  | inr high ↦ inr (λ h. let low = h.1 in omega arith)
-]
+finite_or_not : (bits : ℕ) → IsFinite bits ⊎ (IsFinite bits → ⊥)
+finite_or_not bits =
+    elim (cases_lt bits (2 ^ 32)) [
+      | inr long ↦ inr (λ h. let small = h.0 in omega arith)
+      | inl small ↦ elim (cases_lt (exponent (bits % 2 ^ 31)) 255) [
+        | inl low ↦ inl (small, low)
+        | inr high ↦ inr (λ h. let low = h.1 in omega arith)
+      ]
+    ]
 
 between_or_not : (low high z : ℤ) → ((low ≤ℤ z) × (z ≤ℤ high)) ⊎ ((low ≤ℤ z) × (z ≤ℤ high) → ⊥)
 between_or_not low high z =
-    by_lt_z z low (λ below. inr (λ h. let a = h.0 in omega (arith, ints))) (λ a.
-    by_lt_z high z (λ above. inr (λ h. let b = h.1 in omega (arith, ints))) (λ b. inl (a, b)))
+    by_lt_z z low (λ below. inr (λ h. let a = h.0 in omega (arith, ints)))
+    (λ a. by_lt_z high z (λ above. inr (λ h. let b = h.1 in omega (arith, ints))) (λ b. inl (a, b)))
 
 range_or_not : (kind : Kind) (z : ℤ) → IsInRange kind z ⊎ (IsInRange kind z → ⊥)
 range_or_not I8 z = between_or_not (negsuc 127) (pos 127) z
@@ -55,27 +60,28 @@ fits_in_range Vec3 z h = absurd h
 abbrev HasNumber : (ℕ → Type 0) → Type 0
 HasNumber P = ((n : ℕ) × P n) ⊎ ((n : ℕ) → P n → ⊥)
 
-whole_or_not : (kind : Kind) (bits : ℕ) → bits < 2 ^ 32 → HasNumber (IsWholeOf kind bits)
-whole_or_not kind bits small = elim (multiple (is_negative bits) (magnitude (bits % 2 ^ 31))) [
-  | inr none ↦ inr (λ n h. none h.0 h.2.equal)
-  | inl some ↦ elim (range_or_not kind some.0) [
-    | inr out ↦ inr (λ n h. out (subst (IsInRange kind) (one_multiple h.0 some.0 (sym h.2.equal ∙ some.1)) h.1))
-    | inl inside ↦ elim (finite_or_not bits small) [
-      | inr infinite ↦ inr (λ n h. infinite h.2.finite)
-      | inl finite ↦ inl (number_of_whole some.0, (some.0, inside, record { finite = finite; fits = fits_in_range kind some.0 inside; equal = some.1 }, refl))
+whole_or_none : (kind : Kind) (bits : ℕ) → HasNumber (IsWholeOf kind bits)
+whole_or_none kind bits =
+    elim (multiple_or_not (is_negative bits) (magnitude (bits % 2 ^ 31))) [
+      | inr none ↦ inr (λ n h. none h.0 h.2.equal)
+      | inl some ↦ elim (range_or_not kind some.0) [
+        | inr out ↦ inr (λ n h. out (subst (IsInRange kind) (one_multiple h.0 some.0 (sym h.2.equal ∙ some.1)) h.1))
+        | inl inside ↦ elim (finite_or_not bits) [
+          | inr infinite ↦ inr (λ n h. infinite h.2.finite)
+          | inl finite ↦ inl (number_of_whole some.0, (some.0, inside, record { finite = finite; fits = fits_in_range kind some.0 inside; equal = some.1 }, refl))
+        ]
+      ]
     ]
-  ]
-]
 
-float_or_not : (bits : ℕ) → bits < 2 ^ 32 → HasNumber (λ n. IsFinite bits × (n ≡ bits))
-float_or_not bits small = elim (finite_or_not bits small) [ inl finite ↦ inl (bits, (finite, refl)) | inr infinite ↦ inr (λ n h. infinite h.0) ]
+float_or_none : (bits : ℕ) → HasNumber (λ n. IsFinite bits × (n ≡ bits))
+float_or_none bits = elim (finite_or_not bits) [ inl finite ↦ inl (bits, (finite, refl)) | inr infinite ↦ inr (λ n h. infinite h.0) ]
 
-number_or_not : (kind : Kind) (bits : ℕ) → bits < 2 ^ 32 → HasNumber (IsNumberOf kind bits)
-number_or_not I8 bits small = whole_or_not I8 bits small
-number_or_not I16 bits small = whole_or_not I16 bits small
-number_or_not I32 bits small = whole_or_not I32 bits small
-number_or_not F32 bits small = float_or_not bits small
-number_or_not Vec3 bits small = float_or_not bits small
+pub number_or_none : (kind : Kind) (bits : ℕ) → HasNumber (IsNumberOf kind bits)
+number_or_none I8 bits = whole_or_none I8 bits
+number_or_none I16 bits = whole_or_none I16 bits
+number_or_none I32 bits = whole_or_none I32 bits
+number_or_none F32 bits = float_or_none bits
+number_or_none Vec3 bits = float_or_none bits
 
-pub number_for : (row : Var) (bits : ℕ) → bits < 2 ^ 32 → (number : Option ℕ) × IsNumberFor row bits number
-number_for row bits small = elim (number_or_not row.kind bits small) [ inl some ↦ (Some some.0, some.1) | inr none ↦ (None, none) ]
+pub number_for : (row : Var) (bits : ℕ) → (number : Option ℕ) × IsNumberFor row bits number
+number_for row bits = elim (number_or_none row.kind bits) [ inl some ↦ (Some some.0, some.1) | inr none ↦ (None, none) ]

@@ -13,7 +13,8 @@ use Rattle.mav_messages.specs.declared.messages.Reply.{Reply}
 use Rattle.param_service.specs.Requests.{parameters}
 use Rattle.param_service.specs.Service.{Shown}
 
--- the binary32 pattern of a value: the nearest to a whole number, and never minus zero; a float's is itself
+-- the binary32 pattern of a value: the nearest to a whole number, and never minus zero; a float's
+-- is itself
 abbrev pub IsPatternOf : Value → ℕ → Type 0
 IsPatternOf (Whole z) bits = IsNearest bits z 1 × (bits ≢ 2 ^ 31)
 IsPatternOf (Bits pattern) bits = bits ≡ pattern
@@ -28,7 +29,9 @@ type_of Vec3 = 9
 
 -- the PARAM_VALUE of a row with this value
 abbrev pub ShowsValue : ℕ → Value → Message → Type 0
-ShowsValue index value message = IfSome (slice_get vehicle_rows index) (λ row. (bits : ℕ) × IsPatternOf value bits × (message ≡ ParamValue bits parameters index row.name (type_of row.kind)))
+ShowsValue index value message = IfSome (slice_get vehicle_rows index) (λ row.
+    (bits : ℕ) × IsPatternOf value bits
+    × (message ≡ ParamValue bits parameters index row.name (type_of row.kind)))
 
 -- a reply to the same with the row's PARAM_VALUE
 abbrev pub IsReplyOf : Shown → Reply → Type 0

@@ -12,8 +12,8 @@ use Rattle.mav_messages.specs.declared.messages.Message.TheVariants.{ParamReques
 abbrev pub parameters : ℕ
 parameters = 240
 
--- To show a row; to show all, one after the other; or to set a row to a number, where the value that was sent is one of
--- the row's kind.
+-- To show a row; to show all, one after the other; or to set a row to a number, where the value
+-- that was sent is one of the row's kind.
 pub data Request : Type 0 where
   Show : (index : ℕ) → Request
   ShowAll : Request
@@ -38,15 +38,22 @@ abbrev pub IsNumberFor : Var → ℕ → Option ℕ → Type 0
 IsNumberFor row bits None = (n : ℕ) → IsNumberOf row.kind bits n → ⊥
 IsNumberFor row bits (Some n) = IsNumberOf row.kind bits n
 
--- the row of the table is to be set to the value with this pattern; where no row was named nothing is asked
+-- the row of the table is to be set to the value with this pattern; where no row was named nothing
+-- is asked
 abbrev pub IsSetting : Option ℕ → ℕ → Option Request → Type 0
 IsSetting None bits asked = asked ≡ None
-IsSetting (Some index) bits asked = (number : Option ℕ) × IfSome (slice_get vehicle_rows index) (λ row. IsNumberFor row bits number) × (asked ≡ Some (Set index number))
+IsSetting (Some index) bits asked = (number : Option ℕ)
+    × IfSome (slice_get vehicle_rows index) (λ row. IsNumberFor row bits number)
+    × (asked ≡ Some (Set index number))
 
--- What the message asks for. PARAM_REQUEST_READ names a row by its index or, with the index -1, by its name. PARAM_SET
--- names it by its name; its type isn't looked at. A message with another target and any other message ask for nothing.
+-- What the message asks for. PARAM_REQUEST_READ names a row by its index or, with the index -1, by
+-- its name. PARAM_SET names it by its name; its type isn't looked at. A message with another target
+-- and any other message ask for nothing.
 abbrev pub Asks : Message → Option Request → Type 0
-Asks (ParamRequestRead index system component name) asked = asked ≡ (if is_for system component then option_map Show (row_of index name) else None)
-Asks (ParamRequestList system component) asked = asked ≡ (if is_for system component then Some ShowAll else None)
-Asks (ParamSet bits system component name kind) asked = IsSetting (if is_for system component then row_named name else None) bits asked
+Asks (ParamRequestRead index system component name) asked =
+    asked ≡ (if is_for system component then option_map Show (row_of index name) else None)
+Asks (ParamRequestList system component) asked =
+    asked ≡ (if is_for system component then Some ShowAll else None)
+Asks (ParamSet bits system component name kind) asked =
+    IsSetting (if is_for system component then row_named name else None) bits asked
 Asks _ asked = asked ≡ None

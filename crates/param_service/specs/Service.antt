@@ -1,17 +1,16 @@
--- The parameter protocol: what a request does to the lists that are being sent, which lines it writes, and what it shows.
-use Rattle.std.specs.Prelude.{ℕ, ◌+◌, ◌-◌, min, Bool, List, [], ◌∷◌, length, replicate, Option, Some, None, not, ◌==◌, ◌&&◌, ◌||◌, nat_lt, if◌then◌else◌, codes, slice_get, slice_set, slice_index}
+-- The parameter protocol: what a request does to the lists that are being sent, which lines it
+-- writes, and what it shows.
+use Rattle.std.specs.Prelude.{ℕ, ◌+◌, ◌-◌, min, Bool, List, [], ◌∷◌, replicate, Option, Some, None, ◌||◌, if◌then◌else◌, codes, slice_get, slice_set, slice_index}
 use Rattle.std.specs.List.{flat_map, range_with_len}
-use Rattle.std.specs.Option.{option_map_or, is_none}
+use Rattle.std.specs.Option.{option_map_or}
 use Rattle.param_tree.specs.declared.Var.{Var}
 use Rattle.param_tree.specs.Rules.{has_name}
 use Rattle.param_tree.specs.Rows.{vehicle_rows}
 use Rattle.storage_lines.specs.declared.lines.LineWrite.{LineWrite}
 use Rattle.storage_lines.specs.Lines.{after}
 use Rattle.storage_lines.specs.Pieces.{writes_of}
-use Rattle.param_records.specs.declared.records.TheConstants.{PARAM_BYTES}
 use Rattle.param_records.specs.declared.values.Value.{Value}
-use Rattle.param_records.specs.Records.{Record, size_of, spelling, place_from}
-use Rattle.param_records.specs.Changes.{set_pieces}
+use Rattle.param_records.specs.Changes.{set_pieces, is_full}
 use Rattle.param_records.specs.Steps.{records_in_storage}
 use Rattle.param_records.specs.Values.{params_of}
 use Rattle.mav_messages.specs.declared.messages.To.{To}
@@ -24,8 +23,8 @@ pub record Shown : Type 0 where
   pub index : ℕ
   pub value : Value
 
--- What was done: the next row of each station's list, which is 240 where none is being sent; the lines that are written,
--- in order; the values that are shown, in order.
+-- What was done: the next row of each station's list, which is 240 where none is being sent; the
+-- lines that are written, in order; the values that are shown, in order.
 pub record Did : Type 0 where
   pub next_rows : List ℕ
   pub writes : List LineWrite
@@ -37,35 +36,38 @@ no_lists = replicate 8 parameters
 
 -- the row's value in these storage bytes
 abbrev pub show : To → List ℕ → ℕ → List Shown
-show to bytes index = option_map_or (λ row. record { to = to; index = index; value = params_of bytes row } ∷ []) (slice_get vehicle_rows index) []
+show to bytes index = option_map_or
+    (λ row. record { to = to; index = index; value = params_of bytes row } ∷ [])
+    (slice_get vehicle_rows index) []
 
 -- how many mission commands and rally points there are isn't for a station to set
 abbrev pub is_total : Var → Bool
 is_total row = has_name (codes "MIS_TOTAL") row || has_name (codes "RALLY_TOTAL") row
 
--- a record must be appended for the row, and doesn't fit with the sentinel behind it: each takes four bytes beside the value
-abbrev pub is_full : List Record → Var → ℕ → Bool
-is_full records row number =
-    is_none (place_from 4 row.key row.element row.kind records)
-    && (not (number == row.default) && nat_lt PARAM_BYTES (4 + length (spelling records) + 8 + size_of row.kind))
-
 -- the lines that set the row, or none where it isn't to be set or can't be
 abbrev pub writes_for : List ℕ → Var → ℕ → List LineWrite
-writes_for bytes row number = if is_total row || is_full (records_in_storage bytes) row number then []
+writes_for bytes row number =
+    if is_total row || is_full (records_in_storage bytes) row number then []
     else writes_of bytes (set_pieces vehicle_rows (records_in_storage bytes) row number)
 
 abbrev pub set_writes : List ℕ → ℕ → Option ℕ → List LineWrite
 set_writes bytes index None = []
-set_writes bytes index (Some number) = option_map_or (λ row. writes_for bytes row number) (slice_get vehicle_rows index) []
+set_writes bytes index (Some number) =
+    option_map_or (λ row. writes_for bytes row number) (slice_get vehicle_rows index) []
 
--- What a request of a station does over these storage bytes. Who asks for a row is shown it. Who asks for all is sent a
--- list from the first row on. A row that is to be set is shown to all stations that were heard, with the value that it
--- has then.
+-- What a request of a station does over these storage bytes. Who asks for a row is shown it. Who
+-- asks for all is sent a list from the first row on. A row that is to be set is shown to all
+-- stations that were heard, with the value that it has then.
 abbrev pub answered : List ℕ → List ℕ → ℕ → Request → Did
-answered bytes next_rows station (Show index) = record { next_rows = next_rows; writes = []; shown = show (Station station) bytes index }
-answered bytes next_rows station ShowAll = record { next_rows = slice_set next_rows station 0; writes = []; shown = [] }
-answered bytes next_rows station (Set index number) =
-    record { next_rows = next_rows; writes = set_writes bytes index number; shown = show All (after bytes (set_writes bytes index number)) index }
+answered bytes next_rows station (Show index) =
+    record { next_rows = next_rows; writes = []; shown = show (Station station) bytes index }
+answered bytes next_rows station ShowAll =
+    record { next_rows = slice_set next_rows station 0; writes = []; shown = [] }
+answered bytes next_rows station (Set index number) = record {
+  next_rows = next_rows;
+  writes = set_writes bytes index number;
+  shown = show All (after bytes (set_writes bytes index number)) index;
+}
 
 -- the same of a message that may ask for nothing
 abbrev pub did : List ℕ → List ℕ → ℕ → Option Request → Did
@@ -74,7 +76,8 @@ did bytes next_rows station (Some request) = answered bytes next_rows station re
 
 -- the next eight rows of the station's list, or those that are left
 abbrev pub streamed_rows : List ℕ → ℕ → List ℕ
-streamed_rows next_rows station = range_with_len (slice_index next_rows station) (min 8 (parameters - slice_index next_rows station))
+streamed_rows next_rows station = range_with_len (slice_index next_rows station)
+    (min 8 (parameters - slice_index next_rows station))
 
 abbrev pub streamed : List ℕ → List ℕ → ℕ → Did
 streamed bytes next_rows station = record {

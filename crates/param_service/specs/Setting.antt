@@ -8,8 +8,10 @@ use Rattle.param_records.specs.Values.{params_of}
 use Rattle.param_service.specs.Requests.{IsNumberFor}
 use Rattle.param_service.specs.Service.{set_writes}
 
--- the row at the index was to be set to a pattern's number: with these writes, behind which it has this value
-pub record IsSet (bytes : List ℕ) (row : Var) (index bits : ℕ) (writes : List LineWrite) (value : Value) : Type 0 where
+-- the row at the index was to be set to a pattern's number: with these writes, after which it has
+-- this value
+pub record IsSet (bytes : List ℕ) (row : Var) (index bits : ℕ) (writes : List LineWrite)
+    (value : Value) : Type 0 where
   pub number : Option ℕ
   pub meant : IsNumberFor row bits number
   pub written : writes ≡ set_writes bytes index number

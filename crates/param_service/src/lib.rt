@@ -1,37 +1,43 @@
-//! The parameter protocol of MAVLink over stored records: reading, listing and setting the 240 parameters.
+//! The parameter protocol of MAVLink over stored records: reading, listing and setting the 240
+//! parameters.
 #![tactic(auto)]
 
-ghost use Rattle.std.specs.Prelude.{◌≡◌, ◌<◌, ◌≤◌, [], All, length, take, ℕ, List, Option, option_map};
+ghost use Rattle.std.specs.Prelude.{◌≡◌, ◌<◌, ◌≤◌, ◌↔◌, [], All, IsTrue, false, length, take, slice_index, ℕ, List, Option, option_map};
 ghost use Rattle.storage_lines.specs.declared.lines.TheConstants.{STORAGE_BYTES, LINES};
 ghost use Rattle.storage_lines.specs.Lines.{after};
 ghost use Rattle.param_tree.specs.Rows.{vehicle_rows};
 ghost use Rattle.param_records.specs.Steps.{HasMagic};
-ghost use Rattle.param_service.specs.Requests.{Request, Show, Asks, IsSetting, row_of, row_named};
+ghost use Rattle.param_service.specs.Requests.{Request, Show, Asks, IsSetting, parameters, row_of, row_named};
 ghost use Rattle.param_service.specs.Service.{no_lists, did, streamed};
 ghost use Rattle.param_service.specs.Replies.{AreRepliesOf};
 
 mod laws;
-mod names;
+mod replies;
+mod requests;
 mod setting;
-mod values;
 
 pub use laws::{a_number_or_none, asks_one_thing, one_number};
 use mav_messages::{Message, Replies, Sender, To};
-use names::{PARAMETERS, is_vehicle, row_named, row_of};
+use param_records::SET_LINES;
 use param_tree::{Table, vehicle_table};
+use replies::{reply, row_value};
+use requests::{PARAMETERS, is_vehicle, row_named, row_of};
 use setting::set_row;
 use std::marker::Model;
 use storage_lines::Batch;
-use values::{reply, row_value};
+
+/// The stations that a vehicle tells apart.
+const STATIONS: usize = 8;
 
 /// How many values of a list are sent at once.
 const STRETCH: u16 = 8;
 
-/// The lists that are being sent: for each of the eight stations the next row, or 240 where none is.
+/// The lists that are being sent: for each of the eight stations the next row, or 240 where none
+/// is.
 #[derive(Drop)]
 pub struct ParamState {
     table: Table<240>,
-    next_rows: [u16; 8],
+    next_rows: [u16; STATIONS],
 }
 
 impl Model for ParamState {
@@ -52,8 +58,19 @@ impl ParamState {
     {
         ParamState {
             table: vehicle_table(),
-            next_rows: [PARAMETERS; 8],
+            next_rows: [PARAMETERS; STATIONS],
         }
+    }
+
+    /// Whether a list is being sent to a station: where none is, `stream` does nothing.
+    pub fn streams(&self, station: u8) -> bool
+        requires { station < STATIONS }
+        ensures left { IsTrue result ↔ (slice_index self.now station < parameters) }
+        ensures idle { result ≡ false → (bytes : List ℕ)
+            → streamed bytes self.now station
+            ≡ record { next_rows = self.now; writes = []; shown = [] } }
+    {
+        self.next_rows[station as usize] < PARAMETERS
     }
 }
 
@@ -69,7 +86,9 @@ fn answer_read(
     requires rows { table.now ≡ vehicle_rows }
     requires size { length current.now ≡ STORAGE_BYTES }
     requires replies { replies.old.items ≡ [] }
-    ensures { (next_rows : List ℕ) → AreRepliesOf (did current.now next_rows station (option_map Show (row_of index name.now))).shown replies.new.items }
+    ensures { (next_rows : List ℕ) → AreRepliesOf
+        (did current.now next_rows station (option_map Show (row_of index name.now))).shown
+        replies.new.items }
 {
     if let Some(row) = row_of(table, index, name) {
         let value = row_value(table, current, row);
@@ -96,8 +115,9 @@ fn answer_set(
         × (batch.new.items ≡ (did current.now next_rows station asked).writes)
         × AreRepliesOf (did current.now next_rows station asked).shown replies.new.items) }
     ensures inside { All (λ write. write.line < LINES) batch.new.items }
-    ensures few { length batch.new.items ≤ 8 }
-    ensures magic { HasMagic current.now → (j : ℕ) → HasMagic (after current.now (take j batch.new.items)) }
+    ensures few { length batch.new.items ≤ SET_LINES }
+    ensures magic { HasMagic current.now
+        → (j : ℕ) → HasMagic (after current.now (take j batch.new.items)) }
 {
     if let Some(row) = row_named(table, name) {
         let value = set_row(table, current, row, bits, batch);
@@ -105,8 +125,9 @@ fn answer_set(
     }
 }
 
-/// Answers a message of a station over the current storage bytes: PARAM_REQUEST_READ, PARAM_REQUEST_LIST and PARAM_SET of
-/// MAVLink's parameter protocol. Any other message has no answer.
+/// Answers a message of a station over the current storage bytes: PARAM_REQUEST_READ,
+/// PARAM_REQUEST_LIST and PARAM_SET of MAVLink's parameter protocol. Any other message has no
+/// answer.
 pub fn answer(
     state: &mut ParamState,
     current: &[u8],
@@ -116,7 +137,7 @@ pub fn answer(
     replies: &mut Replies,
 )
     requires size { length current.now ≡ STORAGE_BYTES }
-    requires station { from.station < 8 }
+    requires station { from.station < STATIONS }
     requires batch { batch.old.items ≡ [] }
     requires replies { replies.old.items ≡ [] }
     ensures answered { (asked : Option Request) × Asks message.now asked
@@ -124,8 +145,9 @@ pub fn answer(
         × (batch.new.items ≡ (did current.now state.old from.station asked).writes)
         × AreRepliesOf (did current.now state.old from.station asked).shown replies.new.items }
     ensures inside { All (λ write. write.line < LINES) batch.new.items }
-    ensures few { length batch.new.items ≤ 8 }
-    ensures magic { HasMagic current.now → (j : ℕ) → HasMagic (after current.now (take j batch.new.items)) }
+    ensures few { length batch.new.items ≤ SET_LINES }
+    ensures magic { HasMagic current.now
+        → (j : ℕ) → HasMagic (after current.now (take j batch.new.items)) }
 {
     match message {
         Message::ParamRequestRead {
@@ -180,7 +202,7 @@ pub fn answer(
 /// The next eight values of the list that is being sent to a station, or those that are left.
 pub fn stream(state: &mut ParamState, current: &[u8], station: u8, replies: &mut Replies)
     requires size { length current.now ≡ STORAGE_BYTES }
-    requires station { station < 8 }
+    requires station { station < STATIONS }
     requires replies { replies.old.items ≡ [] }
     ensures next { state.new ≡ (streamed current.now state.old station).next_rows }
     ensures shown { AreRepliesOf (streamed current.now state.old station).shown replies.new.items }

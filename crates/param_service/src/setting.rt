@@ -1,5 +1,6 @@
-//! Setting a row as a station asks for it.
-ghost use Rattle.std.specs.Prelude.{◌≡◌, ◌<◌, ◌≤◌, ◌↔◌, [], ℕ, All, length, take, slice_get, IfSome, IsTrue};
+//! Setting a row as a station asks for it: to a value of its kind, and never how many commands or
+//! points there are.
+ghost use Rattle.std.specs.Prelude.{◌≡◌, ◌<◌, ◌≤◌, [], ℕ, All, length, take, slice_get, IfSome};
 ghost use Rattle.storage_lines.specs.declared.lines.TheConstants.{STORAGE_BYTES, LINES};
 ghost use Rattle.storage_lines.specs.Lines.{after};
 ghost use Rattle.param_tree.specs.Rows.{vehicle_rows};
@@ -10,29 +11,18 @@ ghost use Rattle.param_service.specs.Requests.{parameters};
 ghost use Rattle.param_service.specs.Service.{is_total};
 ghost use Rattle.param_service.specs.Setting.{IsSet};
 
-use crate::names::name_in;
-use crate::values::row_value;
-use param_records::{Value, set};
+use crate::replies::row_value;
+use param_records::{SET_LINES, Value, has_magic, set};
 use param_tree::{Kind, Table, Var};
-use storage_lines::{Area, Batch, read};
+use storage_lines::Batch;
 use word_bits::whole_of;
 
 /// Whether the row counts mission commands or rally points, which no station sets.
 fn is_total(row: &Var) -> bool
     ensures { result ≡ is_total row.now }
 {
-    let name = name_in(&row.name);
+    let name = row.name();
     name == b"MIS_TOTAL".as_slice() || name == b"RALLY_TOTAL".as_slice()
-}
-
-/// Whether the parameter storage begins with the magic, `50 41 06 00`.
-fn has_magic(current: &[u8]) -> bool
-    requires { length current.now ≡ STORAGE_BYTES }
-    ensures { IsTrue result ↔ HasMagic current.now }
-{
-    let mut front = [0; 4];
-    read(Area::Param, 0, current, &mut front);
-    front == [80, 65, 6, 0]
 }
 
 /// The value that a pattern is for a kind.
@@ -49,7 +39,8 @@ fn value_of(kind: Kind, bits: u32) -> Value
     }
 }
 
-/// Sets a row to the value of a pattern where it may be set and can be, and gives the value that it then has.
+/// Sets a row to the value of a pattern where it may be set and can be, and gives the value that it
+/// then has.
 pub fn set_row(
     table: &Table<240>,
     current: &[u8],
@@ -61,10 +52,12 @@ pub fn set_row(
     requires size { length current.now ≡ STORAGE_BYTES }
     requires row { index < parameters }
     requires batch { batch.old.items ≡ [] }
-    ensures value { IfSome (slice_get vehicle_rows index) (λ row. IsSet current.now row index bits batch.new.items result) }
+    ensures value { IfSome (slice_get vehicle_rows index)
+        (λ row. IsSet current.now row index bits batch.new.items result) }
     ensures inside { All (λ write. write.line < LINES) batch.new.items }
-    ensures few { length batch.new.items ≤ 8 }
-    ensures magic { HasMagic current.now → (j : ℕ) → HasMagic (after current.now (take j batch.new.items)) }
+    ensures few { length batch.new.items ≤ SET_LINES }
+    ensures magic { HasMagic current.now
+        → (j : ℕ) → HasMagic (after current.now (take j batch.new.items)) }
 {
     let row = table.row(index);
     if is_total(&row) {

@@ -13,9 +13,9 @@ use Rattle.std.specs.Str.{bytes_eq}
 use Rattle.std.proofs.lemmas.Slice.Eq.{bytes_eq-Decides}
 use Rattle.param_tree.specs.Rules.{IsTable, SamePlace, name16, name_of, row_fits, is_part, is_three_floats}
 
--- the name is bytes that are not zero, then only zeros
+-- the name is sixteen bytes, first some that are not zero, then only zeros
 abbrev pub is_named : Var → Bool
-is_named v = bytes_eq v.name (name16 (name_of v))
+is_named v = (length v.name == 16) && bytes_eq v.name (name16 (name_of v))
 
 -- no number of the list is x
 abbrev pub absent : ℕ → List ℕ → Bool
@@ -67,7 +67,10 @@ AllPairs-by_number f R tells rows h = λ i j d p q.
     tells (get_or rows i d) (get_or rows j d) (λ e. apart (get_or-map f rows i d 0 p' ∙ e ∙ sym (get_or-map f rows j d 0 q)))
 
 named_right : (v : Var) → is_named v ≡ true → v.name ≡ name16 (name_of v)
-named_right v h = (bytes_eq-Decides v.name (name16 (name_of v))).0 h
+named_right v h = (bytes_eq-Decides v.name (name16 (name_of v))).0 (and_parts (length v.name == 16) (bytes_eq v.name (name16 (name_of v))) h).1
+
+sixteen_right : (v : Var) → is_named v ≡ true → length v.name ≡ 16
+sixteen_right v h = (Decides-eqb (length v.name) 16).0 (and_parts (length v.name == 16) (bytes_eq v.name (name16 (name_of v))) h).0
 
 parts_below-Any : (rows : List Var) (v : Var) → parts_pass rows v ≡ true → IsTrue (is_three_floats v.kind) → (p : ℕ) → p < 3 → Any (λ w. IsTrue (is_part v p w)) rows
 parts_below-Any rows v h k =
@@ -87,6 +90,7 @@ IsTable-from_test rows h =
     record {
       few = ltb-true (length rows) 65536 first.0;
       named = λ k d less. named_right (get_or rows k d) (AllPass-from_list_all is_named rows rest.0 k d less);
+      sixteen = λ k d less. sixteen_right (get_or rows k d) (AllPass-from_list_all is_named rows rest.0 k d less);
       names_differ = AllPairs-by_number name_number (λ v w. v.name ≢ w.name) (λ v w apart e. apart (ap (number_from 0) e)) rows differ.0;
       places_differ = AllPairs-by_number place_number (λ v w. ¬ SamePlace v w) (λ v w apart e. apart (omega (arith, e.0, e.1, e.2))) rows differ.1;
       fitting = AllPass-from_list_all row_fits rows last.0;

@@ -5,7 +5,8 @@ use Rattle.param_tree.specs.declared.Kind.{Kind}
 use Rattle.param_tree.specs.declared.Kind.TheVariants.{I8, I16, I32, F32, Vec3}
 use Rattle.param_tree.specs.Rules.{name16}
 
--- an index below the first level: 63 stands for 0, since 0 says that the path ends before this level
+-- an index below the first level: 63 stands for 0, since 0 says that the path ends before this
+-- level
 abbrev pub below : ℕ → ℕ
 below zero = 63
 below (suc i) = suc i

@@ -1,9 +1,10 @@
-//! The table of the vehicle's parameters: 240 rows in a fixed order, each with its name, its place in parameter storage and its default.
+//! The table of the vehicle's parameters: 240 rows in a fixed order, each with its name, its place
+//! in parameter storage and its default.
 #![tactic(auto)]
 
-ghost use Rattle.std.specs.Prelude.{◌≡◌, ℕ, ◌<◌, ◌≤◌, ◌↔◌, All, IfSome, IsNone, IsTrue, length, position, slice_get, ◌==◌, Some};
-ghost use Rattle.std.specs.List.{position_or_len};
-ghost use Rattle.param_tree.specs.Rules.{IsTable, has_name, row_fits};
+ghost use Rattle.std.specs.Prelude.{◌≡◌, ℕ, ◌<◌, ◌↔◌, All, IfSome, IfNone, IsNone, IsTrue, length, position, slice_get, ◌==◌, Some};
+ghost use Rattle.std.specs.List.{before_first};
+ghost use Rattle.param_tree.specs.Rules.{IsTable, IsName, has_name, name16, row_fits};
 ghost use Rattle.param_tree.specs.Rows.{vehicle_rows};
 
 mod rows;
@@ -32,8 +33,8 @@ pub struct Var {
     pub name: [u8; 16],
     /// The key of the value's group, below 512.
     pub key: u16,
-    /// The value's path inside its group, below 2^18: `i1 + 64 * i2 + 4096 * i3`, where an index 0 below the first level is written as 63,
-    /// and a level that the path doesn't have as 0.
+    /// The value's path inside its group, below 2^18: `i1 + 64 * i2 + 4096 * i3`, where an index 0
+    /// below the first level is written as 63, and a level that the path doesn't have as 0.
     pub element: u32,
     pub kind: Kind,
     /// Which of three floats, 0 to 2; 0 for every other kind.
@@ -42,8 +43,8 @@ pub struct Var {
     pub default: u32,
 }
 
-/// A table of `N` rows. Names differ, and so do the places of rows in storage; each row's numbers are in their ranges; and where one part of
-/// three floats has a row, all three have.
+/// A table of `N` rows. Names differ, and so do the places of rows in storage; each row's numbers
+/// are in their ranges; and where one part of three floats has a row, all three have.
 #[derive(Drop)]
 pub struct Table<const N: usize> {
     rows: [Var; N],
@@ -61,7 +62,8 @@ impl<const N: usize> Model for Table<N> {
     ghost invariant = { λ t. IsTable t.rows };
 }
 
-/// The vehicle's table. The names are ArduPilot's; keys, paths, kinds and defaults are this project's own.
+/// The vehicle's table. The names are ArduPilot's; keys, paths, kinds and defaults are this
+/// project's own.
 pub fn vehicle_table() -> Table<240>
     ensures rows { result ≡ vehicle_rows }
 {
@@ -70,38 +72,57 @@ pub fn vehicle_table() -> Table<240>
     }
 }
 
-/// Where the zeros behind a name begin.
-fn name_end(name: &[u8]) -> usize
-    ensures zero { result ≡ position_or_len (λ b. b == 0) name.now }
-    ensures within { result ≤ length name.now }
+/// A name in its sixteen bytes, without the zeros after it.
+pub fn name_in(bytes: &[u8; 16]) -> &[u8]
+    ensures { result.now ≡ before_first (λ b. b == 0) bytes.now }
 {
-    for (i, b) in name.iter().enumerate() {
+    for (i, b) in bytes.iter().enumerate() {
         if *b == 0 {
-            return i;
+            return &bytes[..i];
         }
     }
-    name.len()
+    bytes
 }
 
-/// Whether the row has the name.
-fn is_named(row: &Var, name: &[u8]) -> bool
-    ensures { result ≡ has_name name.now row.now }
+impl Var {
+    ghost use Rattle.param_tree.specs.Rules.{name_of};
+
+    /// The row's name, without the zeros after it.
+    pub fn name(&self) -> &[u8]
+        ensures { result.now ≡ name_of self.now }
+    {
+        name_in(&self.name)
+    }
+}
+
+/// A name filled with zeros to sixteen bytes, or None where no row can have it: it is longer, or
+/// has a zero.
+fn sixteen_bytes(name: &[u8]) -> Option<[u8; 16]>
+    ensures some { IfSome result (λ bytes. (bytes ≡ name16 name.now) × IsName name.now) }
+    ensures none { IfNone result (¬ IsName name.now) }
 {
-    let end = name_end(&row.name);
-    &row.name[..end] == name
+    if name.len() > 16 || name.contains(&0) {
+        return None;
+    }
+    let mut bytes = [0; 16];
+    bytes[..name.len()].copy_from_slice(name);
+    Some(bytes)
 }
 
 impl<const N: usize> Table<N> {
     ghost use Rattle.param_tree.specs.declared.Var.{Var};
 
-    /// The index of the one row of that name. The name has no zeros behind it.
+    /// The index of the one row of that name, which is given without zeros after it.
     pub fn find(&self, name: &[u8]) -> Option<u16>
         ensures found { result ≡ position (has_name name.now) self.now }
         ensures none { IsNone result ↔ All (λ v. ¬ IsTrue (has_name name.now v)) self.now }
-        ensures only { IfSome result (λ i. (j : ℕ) (v : Var) → slice_get self.now j ≡ Some v → IsTrue (has_name name.now v) → j ≡ i) }
+        ensures only { IfSome result (λ i. (j : ℕ) (v : Var) → slice_get self.now j ≡ Some v
+            → IsTrue (has_name name.now v) → j ≡ i) }
     {
-        for (i, row) in self.rows.iter().enumerate() {
-            if is_named(row, name) {
+        let rows = &self.rows;
+        let wanted = sixteen_bytes(name)?;
+        for (i, row) in rows.iter().enumerate() {
+            if row.name == wanted {
                 return Some(i as u16);
             }
         }
@@ -133,7 +154,8 @@ mod tests {
     use std::process::Abort;
     use std::test::Fail;
 
-    /// Tests that the names of a family have the indices from `first` on, and gives the index behind them.
+    /// Tests that the names of a family have the indices from `first` on, and gives the index after
+    /// them.
     fn family(
         rt: &impl Abort,
         alloc: Global,

@@ -5,7 +5,8 @@ ghost use Rattle.param_tree.specs.Rows.{vehicle_rows, basic_rows, sensor_rows, f
 
 use crate::{Kind, Var};
 
-/// A row: its name in 16 bytes, key, group element, kind and default. A row of three floats names its part: `Vec3[1]`.
+/// A row: its name in 16 bytes, key, group element, kind and default. A row of three floats names
+/// its part: `Vec3[1]`.
 macro_rules! row {
     ($name:literal, $key:literal, $element:literal, $kind:ident[$part:literal], $default:literal) => {
         Var {

@@ -1,6 +1,7 @@
 -- The divisor moved up by binary places.
-use Rattle.std.proofs.Common.{ℕ, ◌≡◌, ◌+◌, ◌-◌, ◌*◌, ◌/◌, ◌%◌, ◌^◌, ◌<◌, ◌≤◌, ap, ◌∙◌, arith}
-use Rattle.std.proofs.lemmas.Nat.{shl_whole, shl_below, pow_pos, le-div}
+use Rattle.std.proofs.Common.{ℕ, suc, ◌≡◌, ◌+◌, ◌-◌, ◌*◌, ◌/◌, ◌%◌, ◌^◌, ◌<◌, ◌≤◌, ap, ◌∙◌, arith}
+use Rattle.std.proofs.lemmas.Nat.{shl_whole, shl_below, pow_pos, le-div, pow-add, leading_top}
+use Rattle.std.specs.Int.Count.{count_leading_zeros}
 use Rattle.std.proofs.lemmas.Bool.{cases_lt}
 use Rattle.std.proofs.Common.{inl, inr}
 use Rattle.std.proofs.lemmas.Grind.{pow_more}
@@ -34,3 +35,14 @@ one_lower n d k u small large pos near e upos h =
     let f : d * 2 ^ (k - 1) ≡ d * 2 ^ 0 = ap (λ j. d * 2 ^ j) z in
     omega (arith, more, f) in
     (elim (cases_lt 0 (k - 1)) [ inl x ↦ x | inr x ↦ absurd (at_one (omega arith)) ], more)
+
+-- no digit lies above the first one, which the leading zeros tell
+pub first_place : (n z : ℕ) → 0 < n → n < 2 ^ 32 → z ≡ count_leading_zeros 32 n → (0 < 39 - z) × (39 - z < 40) × (z ≤ 39) × (n * 2 ^ 31 < 2 ^ 24 * (1 * 2 ^ (39 - z)))
+first_place n z pos low e =
+    let top = leading_top 32 n pos low in
+    let j = top.0 in
+    let sum = top.1 in
+    let below = top.3 in
+    let place : 39 - z ≡ 7 + suc j = omega arith in
+    let power : 2 ^ (39 - z) ≡ 2 ^ 7 * 2 ^ suc j = ap (λ (k : ℕ). 2 ^ k) place ∙ pow-add 2 7 (suc j) in
+    (omega arith, omega arith, omega arith, omega arith)

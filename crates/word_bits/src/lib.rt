@@ -1,7 +1,8 @@
 //! Whole numbers and centimetres in the patterns of binary32 (IEEE 754), with no floating point.
 //!
-//! MAVLink carries parameters and altitudes as binary32. A pattern is its 32 bits as a `u32`: a sign, eight bits of exponent and 23
-//! bits of fraction. Rounding is to the nearest pattern, ties to the one whose lowest bit is 0.
+//! MAVLink carries parameters and altitudes as binary32. A pattern is its 32 bits as a `u32`: a
+//! sign, eight bits of exponent and 23 bits of fraction. Rounding is to the nearest pattern, ties
+//! to the one whose lowest bit is 0.
 #![tactic(auto)]
 
 ghost use Rattle.std.specs.Prelude.{◌≡◌, ◌≢◌, ℕ, ℤ, ◌+◌, ◌*◌, ◌^◌, ◌<◌, ◌≤◌, ◌↔◌, IsTrue, IfSome, IfNone, Some, unsigned_abs};
@@ -22,11 +23,12 @@ const FEWEST_CENTIMETRES: i32 = -8_388_608;
 
 const MOST_CENTIMETRES: i32 = 8_388_607;
 
-/// Whether the pattern is that of a number, and not of an infinity or a NaN: its exponent bits aren't all ones.
+/// Whether the pattern is that of a number, and not of an infinity or a NaN: its exponent bits
+/// aren't all ones.
 pub fn is_finite(bits: u32) -> bool
     ensures finite { IsTrue result ↔ IsFinite bits }
 {
-    (bits & !SIGN) >> 23 != 255
+    (bits & !SIGN) >> 23 != 0xFF
 }
 
 /// The divisor, `place` binary places up.
@@ -39,6 +41,21 @@ fn unit_at(divisor: u32, place: u32) -> u64
     (divisor as u64) << place
 }
 
+/// A binary place above which `number / divisor` has no digit, 31 places up: for a divisor of 1 the
+/// first digit's own.
+fn highest_place(number: u32, divisor: u32) -> u32
+    requires number { (0 < number) × (number ≤ 2 ^ 31) }
+    requires divisor { 0 < divisor }
+    ensures bounds { (0 < result) × (result < 40) }
+    ensures above { number * 2 ^ 31 < 2 ^ 24 * (divisor * 2 ^ result) }
+{
+    if divisor == 1 {
+        39 - number.leading_zeros()
+    } else {
+        39
+    }
+}
+
 /// The pattern nearest to `number / divisor`, ties to even.
 fn nearest_magnitude(number: u32, divisor: u32) -> u32
     requires number { (0 < number) × (number ≤ 2 ^ 31) }
@@ -47,7 +64,7 @@ fn nearest_magnitude(number: u32, divisor: u32) -> u32
     ensures finite { (0 < result) × (result < 255 * 2 ^ 23) }
 {
     let scaled = (number as u64) * 0x8000_0000;
-    let mut place = 39;
+    let mut place = highest_place(number, divisor);
     while scaled / unit_at(divisor, place) < LEADING_ONE as u64 {
         place -= 1;
     }
@@ -89,7 +106,8 @@ pub fn bits_of(number: i32) -> u32
     nearest_pattern(number, 1)
 }
 
-/// The pattern nearest to the metres of `k` centimetres, for `k` of 24 bits: from -8,388,608 to 8,388,607.
+/// The pattern nearest to the metres of `k` centimetres, for `k` of 24 bits: from -8,388,608 to
+/// 8,388,607.
 pub fn bits_of_centimetres(k: i32) -> u32
     requires { IsCentimetres k }
     ensures nearest { IsNearest result k 100 }
@@ -130,7 +148,8 @@ fn whole_magnitude(magnitude_bits: u32) -> Option<u32>
     }
 }
 
-/// The whole number whose pattern this is, if there is one in the range of an `i32`. Minus zero is 0.
+/// The whole number whose pattern this is, if there is one in the range of an `i32`. Minus zero is
+/// 0.
 pub fn whole_of(bits: u32) -> Option<i32>
     ensures number { IfSome result (λ n. IsWhole bits n) }
     ensures none { IfNone result ((n : ℤ) → ¬ IsWhole bits n) }
@@ -147,7 +166,8 @@ pub fn whole_of(bits: u32) -> Option<i32>
     }
 }
 
-/// A hundred times the value of a pattern without its sign, to the nearest whole number; None where that is far above 2^23.
+/// A hundred times the value of a pattern without its sign, to the nearest whole number; None where
+/// that is far above 2^23.
 fn hundredfold(magnitude_bits: u32) -> Option<u32>
     requires { magnitude_bits < 2 ^ 31 }
     ensures bound { IfSome result (λ c. c < 2 ^ 31) }
@@ -178,8 +198,9 @@ fn with_sign(negative: bool, count: u32) -> i32
     }
 }
 
-/// The count of centimetres, from -8,388,608 to 8,388,607, to whose metres this pattern is nearest. Minus zero is 0. There is none for a
-/// pattern between two such: an altitude is never rounded to a centimetre.
+/// The count of centimetres, from -8,388,608 to 8,388,607, to whose metres this pattern is nearest.
+/// Minus zero is 0. There is none for a pattern between two such: an altitude is never rounded to a
+/// centimetre.
 pub fn centimetres_of(bits: u32) -> Option<i32>
     ensures count { IfSome result (λ k. IsCentimetres k × IsNearest bits k 100) }
     ensures none { IfNone result ((k : ℤ) → IsCentimetres k → ¬ IsNearest bits k 100) }

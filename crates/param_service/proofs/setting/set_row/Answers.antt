@@ -11,8 +11,7 @@ use Rattle.storage_lines.specs.Bytes.{IsBytes}
 use Rattle.param_records.specs.Changes.{set_pieces}
 use Rattle.param_records.proofs.WalkLemmas.{logical_bytes}
 use Rattle.param_service.specs.Setting.{IsSet}
-use Rattle.param_service.proofs.Changing.{Taken, taken_by, taken_set, old_value, magic_kept, from_some, total_kept, refused_by, value_there}
-use Rattle.param_service.proofs.Counting.{few_set, writes_inside}
+use Rattle.param_service.proofs.Changing.{Taken, taken_by, taken_set, old_value, magic_kept, lines_inside, from_some, total_kept, refused_by, value_there}
 use Rattle.param_service.proofs.setting.set_row.Goals as goal
 
 pub returns-then-is_total-clause-value : goal.returns-then-is_total-clause-value
@@ -20,10 +19,9 @@ returns-then-is_total-clause-value c =
     let bytes = c.args.current.now in
     let row = c.row-row.result in
     let is : slice_get vehicle_rows c.args.index ≡ Some row = subst (λ (l : List Var). slice_get l c.args.index ≡ Some row) c.requires.rows c.row-row.ensures.row in
-    let small : c.args.bits < 2 ^ 32 = omega (arith, c.ranges.bits.fits) in
     let value = value_there (slice_get vehicle_rows c.args.index) row bytes c.row_value.result is c.row_value.ensures in
     from_some (slice_get vehicle_rows c.args.index) (λ r. IsSet bytes r c.args.index c.args.bits c.args.batch.now.items c.row_value.result) row is
-    (total_kept bytes c.args.index c.args.bits row c.args.batch.now.items c.row_value.result is small (sym c.is_total.ensures ∙ c.if-is_total.true) c.requires.batch value)
+    (total_kept bytes c.args.index c.args.bits row c.args.batch.now.items c.row_value.result is (sym c.is_total.ensures ∙ c.if-is_total.true) c.requires.batch value)
 
 pub returns-in-Ok-clause-value : goal.returns-in-Ok-clause-value
 returns-in-Ok-clause-value c =
@@ -38,25 +36,10 @@ returns-in-Ok-clause-value c =
     (taken_set bytes row c.args.index c.args.bits writes c.value_of.result is t (sym c.is_total.ensures ∙ c.if-is_total.false) value)
 
 pub returns-in-Ok-clause-inside : goal.returns-in-Ok-clause-inside
-returns-in-Ok-clause-inside c =
-    let bytes = c.args.current.now in
-    let writes = c.set.new.batch.items in
-    let row = c.row-row.result in
-    let is : slice_get vehicle_rows c.args.index ≡ Some row = subst (λ (l : List Var). slice_get l c.args.index ≡ Some row) c.requires.rows c.row-row.ensures.row in
-    let small : IsBytes bytes = λ i. omega (arith, c.type_inv.current i) in
-    let t : Taken bytes row c.args.index c.args.bits writes = taken_by c.args.table.now bytes c.args.batch.now.items row c.args.index c.args.bits writes c.in-Ok.field-0 c.requires.rows c.requires.batch small c.row-row.ensures.row c.in-Ok.ensures.ok c.in-Ok.ensures.full c.in-Ok.ensures.steps c.in-Ok.ensures.value in
-    subst (λ (l : List LineWrite). All (λ (write : LineWrite). write.line < LINES) l) (sym t.written) (writes_inside bytes (set_pieces vehicle_rows (records_in_storage bytes) row t.number))
+returns-in-Ok-clause-inside c = lines_inside c.args.batch.now.items c.set.new.batch.items c.requires.batch c.in-Ok.ensures.inside
 
 pub returns-in-Ok-clause-few : goal.returns-in-Ok-clause-few
-returns-in-Ok-clause-few c =
-    let bytes = c.args.current.now in
-    let writes = c.set.new.batch.items in
-    let row = c.row-row.result in
-    let is : slice_get vehicle_rows c.args.index ≡ Some row = subst (λ (l : List Var). slice_get l c.args.index ≡ Some row) c.requires.rows c.row-row.ensures.row in
-    let small : IsBytes bytes = λ i. omega (arith, c.type_inv.current i) in
-    let t : Taken bytes row c.args.index c.args.bits writes = taken_by c.args.table.now bytes c.args.batch.now.items row c.args.index c.args.bits writes c.in-Ok.field-0 c.requires.rows c.requires.batch small c.row-row.ensures.row c.in-Ok.ensures.ok c.in-Ok.ensures.full c.in-Ok.ensures.steps c.in-Ok.ensures.value in
-    let low = logical_bytes bytes small in
-    omega (arith, ap (λ (l : List LineWrite). length l) t.written, few_set vehicle_rows bytes row t.number c.requires.size low c.row-row.ensures.fits t.room)
+returns-in-Ok-clause-few c = omega (arith, c.in-Ok.ensures.few, ap (λ (l : List LineWrite). length l) c.requires.batch)
 
 pub returns-in-Ok-clause-magic : goal.returns-in-Ok-clause-magic
 returns-in-Ok-clause-magic c =
@@ -82,25 +65,10 @@ returns-in-Ok-2-clause-value c =
     (taken_set bytes row c.args.index c.args.bits writes c.row_value-in-Ok-2.result is t (sym c.is_total.ensures ∙ c.if-is_total.false) value)
 
 pub returns-in-Ok-2-clause-inside : goal.returns-in-Ok-2-clause-inside
-returns-in-Ok-2-clause-inside c =
-    let bytes = c.args.current.now in
-    let writes = c.set.new.batch.items in
-    let row = c.row-row.result in
-    let is : slice_get vehicle_rows c.args.index ≡ Some row = subst (λ (l : List Var). slice_get l c.args.index ≡ Some row) c.requires.rows c.row-row.ensures.row in
-    let small : IsBytes bytes = λ i. omega (arith, c.type_inv.current i) in
-    let t : Taken bytes row c.args.index c.args.bits writes = taken_by c.args.table.now bytes c.args.batch.now.items row c.args.index c.args.bits writes c.in-Ok-2.field-0 c.requires.rows c.requires.batch small c.row-row.ensures.row c.in-Ok-2.ensures.ok c.in-Ok-2.ensures.full c.in-Ok-2.ensures.steps c.in-Ok-2.ensures.value in
-    subst (λ (l : List LineWrite). All (λ (write : LineWrite). write.line < LINES) l) (sym t.written) (writes_inside bytes (set_pieces vehicle_rows (records_in_storage bytes) row t.number))
+returns-in-Ok-2-clause-inside c = lines_inside c.args.batch.now.items c.set.new.batch.items c.requires.batch c.in-Ok-2.ensures.inside
 
 pub returns-in-Ok-2-clause-few : goal.returns-in-Ok-2-clause-few
-returns-in-Ok-2-clause-few c =
-    let bytes = c.args.current.now in
-    let writes = c.set.new.batch.items in
-    let row = c.row-row.result in
-    let is : slice_get vehicle_rows c.args.index ≡ Some row = subst (λ (l : List Var). slice_get l c.args.index ≡ Some row) c.requires.rows c.row-row.ensures.row in
-    let small : IsBytes bytes = λ i. omega (arith, c.type_inv.current i) in
-    let t : Taken bytes row c.args.index c.args.bits writes = taken_by c.args.table.now bytes c.args.batch.now.items row c.args.index c.args.bits writes c.in-Ok-2.field-0 c.requires.rows c.requires.batch small c.row-row.ensures.row c.in-Ok-2.ensures.ok c.in-Ok-2.ensures.full c.in-Ok-2.ensures.steps c.in-Ok-2.ensures.value in
-    let low = logical_bytes bytes small in
-    omega (arith, ap (λ (l : List LineWrite). length l) t.written, few_set vehicle_rows bytes row t.number c.requires.size low c.row-row.ensures.fits t.room)
+returns-in-Ok-2-clause-few c = omega (arith, c.in-Ok-2.ensures.few, ap (λ (l : List LineWrite). length l) c.requires.batch)
 
 pub returns-in-Err-clause-value : goal.returns-in-Err-clause-value
 returns-in-Err-clause-value c =

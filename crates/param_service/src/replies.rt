@@ -1,4 +1,4 @@
-//! The values of rows, and the messages that show them.
+//! The value of a row, and the PARAM_VALUE that shows it to a station or to all.
 ghost use Rattle.std.specs.Prelude.{◌≡◌, ◌<◌, length, slice_get, Some};
 ghost use Rattle.storage_lines.specs.declared.lines.TheConstants.{STORAGE_BYTES};
 ghost use Rattle.param_tree.specs.Rows.{vehicle_rows};
@@ -7,7 +7,7 @@ ghost use Rattle.param_records.specs.Values.{params_of};
 ghost use Rattle.param_service.specs.Requests.{parameters};
 ghost use Rattle.param_service.specs.Replies.{IsPatternOf, IsReplyOf, type_of};
 
-use crate::names::PARAMETERS;
+use crate::requests::PARAMETERS;
 use mav_messages::{Message, Reply, To};
 use param_records::{Value, value};
 use param_tree::{Kind, Table};
@@ -18,7 +18,8 @@ pub fn row_value(table: &Table<240>, current: &[u8], row: u16) -> Value
     requires rows { table.now ≡ vehicle_rows }
     requires size { length current.now ≡ STORAGE_BYTES }
     requires row { row < parameters }
-    ensures { (r : Var) × (slice_get vehicle_rows row ≡ Some r) × (result ≡ params_of current.now r) }
+    ensures { (r : Var) × (slice_get vehicle_rows row ≡ Some r)
+        × (result ≡ params_of current.now r) }
 {
     value(current, table, row)
 }

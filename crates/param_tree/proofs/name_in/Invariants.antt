@@ -1,5 +1,5 @@
 use Rattle.std.proofs.Common.{◌≡◌, ℕ, ◌<◌, get_or, false, ◌==◌}
-use Rattle.param_service.proofs.names.name_in.Given as goal
+use Rattle.param_tree.proofs.name_in.Given as goal
 
 abbrev pub invariant-loop-i : goal.invariant-loop-i
 invariant-loop-i l = (k : ℕ) → k < l.i → (get_or l.bytes k 0 == 0) ≡ false

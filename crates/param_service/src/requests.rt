@@ -1,10 +1,10 @@
-//! Which messages are for the vehicle, and which rows they name.
-ghost use Rattle.std.specs.Prelude.{◌≡◌, ◌<◌, ◌==◌, IfSome};
-ghost use Rattle.std.specs.List.{before_first};
+//! Which messages are for the vehicle, and which rows they name: by an index, or by a name that may
+//! lack its zeros.
+ghost use Rattle.std.specs.Prelude.{◌≡◌, ◌<◌, IfSome};
 ghost use Rattle.param_tree.specs.Rows.{vehicle_rows};
 ghost use Rattle.param_service.specs.Requests.{is_for, parameters, row_named, row_of};
 
-use param_tree::Table;
+use param_tree::{Table, name_in};
 
 /// How many parameters the vehicle has.
 pub const PARAMETERS: u16 = 240;
@@ -20,18 +20,6 @@ pub fn is_vehicle(system: u8, component: u8) -> bool
     ensures { result ≡ is_for system component }
 {
     system <= VEHICLE && component <= VEHICLE
-}
-
-/// A name without the zeros behind it.
-pub fn name_in(bytes: &[u8; 16]) -> &[u8]
-    ensures { result.now ≡ before_first (λ b. b == 0) bytes.now }
-{
-    for (i, b) in bytes.iter().enumerate() {
-        if *b == 0 {
-            return &bytes[..i];
-        }
-    }
-    bytes
 }
 
 /// The row with a name.

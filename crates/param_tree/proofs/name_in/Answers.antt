@@ -2,7 +2,7 @@ use Rattle.std.proofs.Common.{rules, arith, sym, ap, eq-eqb, ◌==◌, ℕ, take
 use Rattle.std.specs.List.{position_or_len}
 use Rattle.std.proofs.lemmas.List.{take_all}
 use Rattle.std.proofs.lemmas.List.Sums.{position_or_len_is}
-use Rattle.param_service.proofs.names.name_in.Goals as goal
+use Rattle.param_tree.proofs.name_in.Goals as goal
 
 pub returns-then-b-eq0 : goal.returns-then-b-eq0
 returns-then-b-eq0 c = ap (λ (n : ℕ). take n c.args.bytes.now) (sym (position_or_len_is (λ b. b == 0) c.args.bytes.now c.loop-i.i 0 (omega arith) c.loop-i.invariant (λ _. eq-eqb _ 0 (search rules))))

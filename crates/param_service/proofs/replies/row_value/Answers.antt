@@ -4,7 +4,7 @@ use Rattle.param_tree.specs.declared.Var.{Var}
 use Rattle.param_records.specs.Values.{params_of}
 use Rattle.param_records.proofs.SetLemmas.{is_some}
 use Rattle.param_service.proofs.Showing.{there}
-use Rattle.param_service.proofs.values.row_value.Goals as goal
+use Rattle.param_service.proofs.replies.row_value.Goals as goal
 
 pub returns : goal.returns
 returns c =
