@@ -5,7 +5,11 @@
 
 Its last line counts what passed and what failed. Each wait is bounded, and nothing but 127.0.0.1 is spoken to.
 """
+import fcntl
 import os
+import re
+import shlex
+import signal
 import socket
 import subprocess
 import sys
@@ -13,232 +17,99 @@ import tempfile
 import time
 import unittest
 
-sys.path.insert(0, os.path.join(os.path.dirname(os.path.abspath(__file__)), "..", "tools"))
+TOP = os.path.join(os.path.dirname(os.path.abspath(__file__)), "..")
+sys.path.insert(0, os.path.join(TOP, "tools"))
+sys.path.insert(0, os.path.join(TOP, "tests"))
+sys.dont_write_bytecode = True
+import disk_states  # noqa: E402
+import image  # noqa: E402
 import mavlink  # noqa: E402
+import server  # noqa: E402
+import statuses  # noqa: E402
+from server import ask, hear  # noqa: E402
 
 PROGRAM = ""
-END = b"END\n"
 # PARAM_REQUEST_READ of index 0, and the answer of a fresh image, byte for byte
 REQUEST = bytes.fromhex("FE1400FFBE1400000101" + "00" * 16 + "E7F2")
 ANSWER = bytes.fromhex("FE19000101160000F042F0000000464F524D41545F56455253494F4E0000045599")
-
-
-def free_port():
-    with socket.socket(socket.AF_INET, socket.SOCK_DGRAM) as spare:
-        spare.bind(("127.0.0.1", 0))
-        return spare.getsockname()[1]
+ROWS = 240
 
 
 class AsAUser(unittest.TestCase):
     def setUp(self):
-        self.folder = tempfile.TemporaryDirectory()
-        self.image = os.path.join(self.folder.name, "vehicle.img")
-        self.running = []
-
-    def tearDown(self):
-        for server in self.running:
-            if server.poll() is None:
-                server.kill()
-            server.communicate()
-        self.folder.cleanup()
+        folder = tempfile.TemporaryDirectory()
+        self.addCleanup(folder.cleanup)
+        self.folder = folder.name
+        self.image = os.path.join(self.folder, "vehicle.img")
 
     def run_program(self, *words):
         done = subprocess.run([PROGRAM, *words], capture_output=True, timeout=30, check=False)
         self.assertEqual(done.stderr, b"")
         return done.returncode, done.stdout
 
-    def serve(self, *words):
-        """Starts to serve the image, and returns the server with its port."""
-        port = free_port()
-        server = subprocess.Popen([PROGRAM, "serve", self.image, "--port", str(port), *words],
-                                  stdout=subprocess.PIPE, stderr=subprocess.PIPE)
-        self.running.append(server)
-        return server, port
+    def served(self, *words, **options):
+        """A server of this test's image, as `with self.served() as vehicle`."""
+        return server.served(PROGRAM, self.image, *words, **options)
 
-    def station(self, port):
-        station = socket.socket(socket.AF_INET, socket.SOCK_DGRAM)
-        self.addCleanup(station.close)
-        station.connect(("127.0.0.1", port))
-        return station
+    def ended(self, vehicle):
+        """Ends the server well, and gives what it printed."""
+        status, printed, said = vehicle.end()
+        self.assertEqual((status, said), (0, b""))
+        return printed
 
-    def hear(self, station, seconds=5):
-        """The next frame but HEARTBEAT, which comes at each idle second."""
-        station.settimeout(seconds)
-        while True:
-            datagram = station.recv(2048)
-            found = mavlink.read_frame(datagram)
-            self.assertIsNotNone(found)
-            if found["message"] != mavlink.HEARTBEAT:
-                return datagram
+    def tool(self, vehicle, *words):
+        """What tools/station.py prints of this server."""
+        station = os.path.join(TOP, "tools", "station.py")
+        return subprocess.run([sys.executable, station, *words, "--port", str(vehicle.port)],
+                              capture_output=True, text=True, timeout=60, check=False)
 
-    def ask(self, station, request):
-        """Sends a request until an answer comes: the server may still be opening its socket."""
-        for _ in range(60):
-            try:
-                station.send(request)
-                return self.hear(station, 0.5)
-            except TimeoutError:
-                continue
-            except ConnectionRefusedError:
-                time.sleep(0.1)
-        return self.fail("no answer")
+    def values_of(self, station, request):
+        """The value that answers a request."""
+        return mavlink.read_value(ask(station, request))
 
-    def end(self, server, station):
-        station.send(END)
-        printed, complaint = server.communicate(timeout=30)
-        self.assertEqual(complaint, b"")
-        return server.returncode, printed
+    # images and words
 
     def test_format_makes_an_image_that_is_served(self):
         self.assertEqual(self.run_program("format", self.image), (0, b""))
         self.assertEqual(os.path.getsize(self.image), 278_528)
-        server, port = self.serve()
-        station = self.station(port)
-        self.assertEqual(self.ask(station, REQUEST), ANSWER)
-        status, printed = self.end(server, station)
-        self.assertEqual(status, 0)
-        self.assertRegex(printed, rb"^served \d+ events [1-9]\d* frames\n$")
+        with self.served() as vehicle:
+            self.assertEqual(ask(vehicle.station(), REQUEST), ANSWER)
+            self.assertRegex(self.ended(vehicle), rb"^served \d+ events [1-9]\d* frames\n$")
 
-    def test_each_sector_size_has_its_image(self):
+    def test_each_sector_size_has_its_blank_image(self):
         for sector, length in ((16_384, 49_152), (32_768, 81_920), (65_536, 147_456), (131_072, 278_528)):
             self.assertEqual(self.run_program("format", self.image, "--sector", str(sector)), (0, b""))
-            with open(self.image, "rb") as image:
-                content = image.read()
-            blank = b"\xff" * (sector - 4)
-            self.assertEqual(content, b"\xfe\x5b\x68\x51" + blank + b"\xff\x5b\x68\x51" + blank + b"\xff" * 16_384)
-            self.assertEqual(len(content), length)
-
-    def test_two_stations_have_sequences_of_their_own(self):
-        self.run_program("format", self.image, "--sector", "16384")
-        server, port = self.serve()
-        first, second = self.station(port), self.station(port)
-        self.ask(first, mavlink.request_read(1))
-        sequences = []
-        first.send(mavlink.request_read(239) + mavlink.request_read(0) + mavlink.request_read(1))
-        first.settimeout(5)
-        while len(sequences) < 3:
-            sequences.append(mavlink.read_frame(first.recv(2048))["sequence"])
-        self.assertEqual(sequences, [sequences[0] + n for n in range(3)])
-        other = mavlink.read_value(self.ask(second, mavlink.request_read(1)))
-        self.assertEqual((other["name"], other["value"], other["type"], other["sequence"]), ("RTL_ALT", 1500.0, "int32", 0))
-        self.assertEqual(self.end(server, second)[0], 0)
-
-    def test_noise_has_no_answer(self):
-        self.run_program("format", self.image, "--sector", "16384")
-        server, port = self.serve()
-        station = self.station(port)
-        self.ask(station, REQUEST)
-        wrong = bytearray(REQUEST)
-        wrong[-1] ^= 1
-        for noise in (b"", b"\xfe", bytes(wrong), REQUEST[:-1], b"\0" * 2048):
-            station.send(noise)
-        # the next answer is that of the next request
-        self.assertEqual(mavlink.read_value(self.ask(station, mavlink.request_read(3)))["name"], "FS_THR_ENABLE")
-        self.assertEqual(self.end(server, station)[0], 0)
-
-    def test_a_value_is_set_read_and_kept(self):
-        self.run_program("format", self.image, "--sector", "16384")
-        server, port = self.serve()
-        station = self.station(port)
-        shown = mavlink.read_value(self.ask(station, mavlink.set_value("INS_GYRO_FILTER", 42.0)))
-        self.assertEqual((shown["name"], shown["value"], shown["type"]), ("INS_GYRO_FILTER", 42.0, "int16"))
-        # a value that the kind doesn't hold leaves the old one
-        shown = mavlink.read_value(self.ask(station, mavlink.set_value("FS_THR_ENABLE", 128.0)))
-        self.assertEqual((shown["name"], shown["value"]), ("FS_THR_ENABLE", 1.0))
-        self.assertEqual(self.end(server, station)[0], 0)
-        server, port = self.serve()
-        station = self.station(port)
-        shown = mavlink.read_value(self.ask(station, mavlink.request_read(-1, name="INS_GYRO_FILTER")))
-        self.assertEqual(shown["value"], 42.0)
-        self.assertEqual(self.end(server, station)[0], 0)
-
-    def test_a_value_survives_the_kill_of_the_server(self):
-        self.run_program("format", self.image, "--sector", "16384")
-        server, port = self.serve()
-        station = self.station(port)
-        self.ask(station, mavlink.set_value("FENCE_RADIUS", 123.5))
-        # what was set is in the image once a later frame came
-        self.ask(station, mavlink.request_read(0))
-        server.kill()
-        server.wait(timeout=30)
-        server, port = self.serve()
-        station = self.station(port)
-        shown = mavlink.read_value(self.ask(station, mavlink.request_read(-1, name="FENCE_RADIUS")))
-        self.assertEqual((shown["value"], shown["type"]), (123.5, "float"))
-        self.assertEqual(self.end(server, station)[0], 0)
-
-    def test_all_values_are_listed_once_and_in_order(self):
-        self.run_program("format", self.image, "--sector", "16384")
-        server, port = self.serve()
-        station = self.station(port)
-        listed = [self.ask(station, mavlink.request_list(version=2))]
-        while len(listed) < 240:
-            if len(listed) % 8 == 0:
-                station.send(mavlink.heartbeat(version=2))
-            listed.append(self.hear(station))
-        values = [mavlink.read_value(datagram) for datagram in listed]
-        self.assertEqual([value["index"] for value in values], list(range(240)))
-        self.assertEqual({value["version"] for value in values}, {2})
-        self.assertEqual(values[143]["name"], "SERVO16_FUNCTION")
-        self.assertEqual(self.end(server, station)[0], 0)
-
-    def test_what_is_set_is_shown_to_every_station_in_its_version(self):
-        self.run_program("format", self.image, "--sector", "16384")
-        server, port = self.serve()
-        first, second = self.station(port), self.station(port)
-        self.ask(first, mavlink.request_read(0, version=1))
-        self.ask(second, mavlink.request_read(0, version=2))
-        shown = mavlink.read_value(self.ask(first, mavlink.set_value("RTL_ALT", 1600.0)))
-        self.assertEqual((shown["value"], shown["version"]), (1600.0, 1))
-        shown = mavlink.read_value(self.hear(second))
-        self.assertEqual((shown["name"], shown["value"], shown["version"]), ("RTL_ALT", 1600.0, 2))
-        self.assertEqual(self.end(server, second)[0], 0)
-
-    def test_frames_are_cut_from_datagrams_of_one_byte(self):
-        self.run_program("format", self.image, "--sector", "16384")
-        server, port = self.serve()
-        station = self.station(port)
-        self.ask(station, REQUEST)
-        for byte in b"\0" + mavlink.request_read(239, version=2):
-            station.send(bytes([byte]))
-        self.assertEqual(mavlink.read_value(self.hear(station))["name"], "RC16_OPTION")
-        self.assertEqual(self.end(server, station)[0], 0)
-
-    def test_an_idle_station_is_told_that_the_vehicle_is_there(self):
-        self.run_program("format", self.image, "--sector", "16384")
-        server, port = self.serve()
-        station = self.station(port)
-        self.ask(station, REQUEST)
-        station.settimeout(10)
-        told = mavlink.read_frame(station.recv(2048))
-        self.assertEqual(told["message"], mavlink.HEARTBEAT)
-        self.assertEqual(told["payload"], bytes([0, 0, 0, 0, 2, 3, 1, 3, 3]))
-        self.assertEqual(self.end(server, station)[0], 0)
+            with open(self.image, "rb") as file:
+                content = file.read()
+            self.assertEqual(content, image.blank(sector))
+            self.assertEqual((content[:4], len(content)), (b"\xfe\x5b\x68\x51", length))
 
     def test_an_image_is_shown_and_left_as_it_was(self):
         self.run_program("format", self.image, "--sector", "16384")
-        self.assertEqual(self.run_program("report", self.image), (0, b"image 16384\nguard 0\ns0 inuse entries 0 torn 0 free 16380\n"
-                                                                     b"s1 available entries 0 torn 0 free 16380\nstate alone\n"))
-        server, port = self.serve()
-        station = self.station(port)
-        self.ask(station, mavlink.set_value("RTL_ALT", 1700.0))
-        self.end(server, station)
-        with open(self.image, "rb") as image:
-            before = image.read()
+        reported = (b"image 16384\nguard 0\ns0 inuse entries 0 torn 0 free 16380\n"
+                    b"s1 available entries 0 torn 0 free 16380\nstate alone\n")
+        self.assertEqual(self.run_program("report", self.image), (0, reported))
+        with self.served() as vehicle:
+            ask(vehicle.station(), mavlink.set_value("RTL_ALT", 1700.0))
+            self.ended(vehicle)
+        with open(self.image, "rb") as file:
+            before = file.read()
         status, dumped = self.run_program("dump", self.image)
         lines = dumped.decode("ascii").split("\n")
         self.assertEqual(status, 0)
-        self.assertEqual(lines[:3], ["image 16384 guard 0 alone", "param FORMAT_VERSION i16 120", "param RTL_ALT i32 1700"])
-        self.assertEqual(len(lines), 1 + 240 + 1 + 1)
-        self.assertRegex(lines[241], r"^sha256 [0-9a-f]{64}$")
-        with open(self.image, "rb") as image:
-            self.assertEqual(image.read(), before)
+        self.assertEqual(lines[:3], ["image 16384 guard 0 alone", "param FORMAT_VERSION i16 120",
+                                     "param RTL_ALT i32 1700"])
+        self.assertEqual(len(lines), 1 + ROWS + 1 + 1)
+        # an independent reader of the format finds the same storage bytes
+        self.assertEqual(lines[241], f"sha256 {image.digest(image.storage_of(before))}")
+        with open(self.image, "rb") as file:
+            self.assertEqual(file.read(), before)
 
     def test_a_foreign_word_is_named(self):
         self.run_program("format", self.image, "--sector", "16384")
-        with open(self.image, "r+b") as image:
-            image.seek(4)
-            image.write(b"\x0e\0")
+        with open(self.image, "r+b") as file:
+            file.seek(4)
+            file.write(b"\x0e\0")
         self.assertEqual(self.run_program("dump", self.image), (3, b"error 3 foreign s0 2 000E\n"))
         status, printed = self.run_program("report", self.image)
         self.assertEqual(status, 0)
@@ -246,29 +117,225 @@ class AsAUser(unittest.TestCase):
         self.assertIn(b"state foreign\n", printed)
 
     def test_turns_are_counted(self):
-        self.run_program("format", self.image, "--sector", "16384")
-        server, _ = self.serve("--turns", "1")
-        printed, _ = server.communicate(timeout=30)
-        self.assertEqual((server.returncode, printed), (8, b"error 8 turns 1\n"))
+        with self.served("--turns", "1") as vehicle:
+            printed, _ = vehicle.process.communicate(timeout=30)
+            self.assertEqual((vehicle.process.returncode, printed), (8, b"error 8 turns 1\n"))
 
     def test_refusals_tell_their_cause(self):
         self.assertEqual(self.run_program(), (1, b"error 1 words\n"))
         self.assertEqual(self.run_program("serve", self.image, "--turns", "0"), (1, b"error 1 words\n"))
         self.assertEqual(self.run_program("serve", self.image), (13, b"error 13 attach\n"))
-        with open(self.image, "wb") as image:
-            image.write(b"\xff" * 49_151)
+        self.assertIn("isn't there", statuses.meaning(["serve", self.image], 13))
+        with open(self.image, "wb") as file:
+            file.write(b"\xff" * 49_151)
         self.assertEqual(self.run_program("serve", self.image), (13, b"error 13 attach\n"))
-        with open(self.image, "wb") as image:
-            image.write(b"\xff" * 49_152)
-        self.assertEqual(self.run_program("serve", self.image, "--port", str(free_port())),
+        self.assertIn("49,151 bytes", statuses.meaning(["serve", self.image], 13))
+        with open(self.image, "wb") as file:
+            file.write(b"\xff" * 49_152)
+        self.assertEqual(self.run_program("serve", self.image, "--port", str(server.free_port())),
                          (3, b"error 3 foreign s0 0 FFFF\n"))
 
     def test_a_port_that_is_taken_fails_the_attach(self):
         self.run_program("format", self.image, "--sector", "16384")
         with socket.socket(socket.AF_INET, socket.SOCK_DGRAM) as other:
             other.bind(("127.0.0.1", 0))
-            taken = str(other.getsockname()[1])
-            self.assertEqual(self.run_program("serve", self.image, "--port", taken), (13, b"error 13 attach\n"))
+            words = ["serve", self.image, "--port", str(other.getsockname()[1])]
+            self.assertEqual(self.run_program(*words), (13, b"error 13 attach\n"))
+            self.assertIn("is taken", statuses.meaning(words, 13))
+
+    def test_an_image_that_is_served_is_kept_from_others(self):
+        with self.served() as vehicle:
+            station = vehicle.ready()
+            words = ["serve", self.image, "--port", str(server.free_port())]
+            self.assertEqual(self.run_program(*words), (13, b"error 13 attach\n"))
+            self.assertIn("another server", statuses.meaning(words, 13))
+            self.assertEqual(self.run_program("format", self.image), (13, b"error 13 attach\n"))
+            self.assertEqual(self.run_program("report", self.image)[0], 0)
+            self.assertEqual(self.values_of(station, mavlink.request_read(1))["value"], 1500.0)
+            self.ended(vehicle)
+        with open(self.image, "rb") as file:
+            fcntl.flock(file, fcntl.LOCK_EX | fcntl.LOCK_NB)
+
+    # stations
+
+    def test_two_stations_have_sequences_of_their_own(self):
+        with self.served() as vehicle:
+            first, second = vehicle.ready(), vehicle.station()
+            first.send(mavlink.request_read(239) + mavlink.request_read(0) + mavlink.request_read(1))
+            sequences = [mavlink.read_frame(hear(first))["sequence"] for _ in range(3)]
+            self.assertEqual(sequences, [sequences[0] + n for n in range(3)])
+            other = self.values_of(second, mavlink.request_read(1))
+            self.assertEqual((other["name"], other["value"], other["type"], other["sequence"]),
+                             ("RTL_ALT", 1500.0, "int32", 0))
+            self.ended(vehicle)
+
+    def test_noise_has_no_answer(self):
+        with self.served() as vehicle:
+            station = vehicle.ready()
+            wrong = bytearray(REQUEST)
+            wrong[-1] ^= 1
+            for noise in (b"", b"\xfe", bytes(wrong), REQUEST[:-1], b"\0" * 2048):
+                station.send(noise)
+            # the next answer is that of the next request
+            self.assertEqual(self.values_of(station, mavlink.request_read(3))["name"], "FS_THR_ENABLE")
+            self.ended(vehicle)
+
+    def test_frames_are_cut_from_datagrams_of_one_byte(self):
+        with self.served() as vehicle:
+            station = vehicle.ready()
+            for byte in b"\0" + mavlink.request_read(239, version=2):
+                station.send(bytes([byte]))
+            self.assertEqual(mavlink.read_value(hear(station))["name"], "RC16_OPTION")
+            self.ended(vehicle)
+
+    def test_an_idle_station_is_told_that_the_vehicle_is_there(self):
+        with self.served() as vehicle:
+            station = vehicle.ready()
+            station.settimeout(10)
+            told = mavlink.read_frame(station.recv(2048))
+            self.assertEqual(told["message"], mavlink.HEARTBEAT)
+            self.assertEqual(told["payload"], bytes([0, 0, 0, 0, 2, 3, 1, 3, 3]))
+            self.ended(vehicle)
+
+    def test_what_is_set_is_shown_to_every_station_in_its_version(self):
+        with self.served() as vehicle:
+            first, second = vehicle.station(), vehicle.station()
+            ask(first, mavlink.request_read(0, version=1))
+            ask(second, mavlink.request_read(0, version=2))
+            shown = self.values_of(first, mavlink.set_value("RTL_ALT", 1600.0))
+            self.assertEqual((shown["value"], shown["version"]), (1600.0, 1))
+            shown = mavlink.read_value(hear(second))
+            self.assertEqual((shown["name"], shown["value"], shown["version"]), ("RTL_ALT", 1600.0, 2))
+            self.ended(vehicle)
+
+    def test_a_ninth_station_is_not_heard_and_makes_no_idle_turns(self):
+        with self.served() as vehicle:
+            stations = [vehicle.ready() for _ in range(8)]
+            ninth = vehicle.station()
+            stations[0].settimeout(0.01)
+            heard, end = 0, time.monotonic() + 1
+            while time.monotonic() < end:
+                ninth.send(mavlink.request_read(0))
+                try:
+                    heard += bool(stations[0].recv(2048))
+                except TimeoutError:
+                    pass
+            # some hundred datagrams came from the ninth, and a second has one idle turn or two
+            self.assertLess(heard, 10)
+            ninth.settimeout(0.2)
+            with self.assertRaises(TimeoutError):
+                ninth.recv(2048)
+            self.assertEqual(self.values_of(stations[7], mavlink.request_read(1))["name"], "RTL_ALT")
+            # the end comes from any address
+            self.ended(vehicle)
+
+    def list_of(self, station, ticks):
+        """All values that a list shows, and the seconds that it took. With ticks a heartbeat goes out each second."""
+        started = time.monotonic()
+        values, spoke = [mavlink.read_value(ask(station, mavlink.request_list(version=2)))], started
+        while len(values) < ROWS:
+            if ticks and time.monotonic() - spoke >= 1:
+                spoke = time.monotonic()
+                station.send(mavlink.heartbeat(version=2))
+            values.append(mavlink.read_value(hear(station)))
+        return values, time.monotonic() - started
+
+    def test_all_values_are_listed_once_and_in_order(self):
+        with self.served() as vehicle:
+            for ticks in (False, True):
+                values, seconds = self.list_of(vehicle.station(), ticks)
+                self.assertEqual([value["index"] for value in values], list(range(ROWS)))
+                self.assertEqual({value["version"] for value in values}, {2})
+                self.assertEqual(values[143]["name"], "SERVO16_FUNCTION")
+                print(f"a list to a station {'with a heartbeat a second' if ticks else 'that stays silent'}: "
+                      f"{seconds:.2f} seconds")
+                # one stretch of eight at each idle second would take 29
+                self.assertLess(seconds, 10)
+            self.ended(vehicle)
+
+    # what is kept
+
+    def test_a_value_is_set_read_and_kept(self):
+        with self.served() as vehicle:
+            station = vehicle.ready()
+            shown = self.values_of(station, mavlink.set_value("INS_GYRO_FILTER", 42.0))
+            self.assertEqual((shown["name"], shown["value"], shown["type"]), ("INS_GYRO_FILTER", 42.0, "int16"))
+            # a value that the kind doesn't hold leaves the old one
+            shown = self.values_of(station, mavlink.set_value("FS_THR_ENABLE", 128.0))
+            self.assertEqual((shown["name"], shown["value"]), ("FS_THR_ENABLE", 1.0))
+            self.ended(vehicle)
+        with self.served() as vehicle:
+            shown = self.values_of(vehicle.station(), mavlink.request_read(-1, name="INS_GYRO_FILTER"))
+            self.assertEqual(shown["value"], 42.0)
+            self.ended(vehicle)
+
+    def test_a_value_survives_the_end_of_the_server_from_outside(self):
+        for number, radius in ((signal.SIGKILL, 123.5), (signal.SIGTERM, 99.5), (signal.SIGINT, 88.25)):
+            with self.served() as vehicle:
+                station = vehicle.ready()
+                ask(station, mavlink.set_value("FENCE_RADIUS", radius))
+                # what was set is in the image once a later frame came
+                ask(station, mavlink.request_read(0))
+                vehicle.process.send_signal(number)
+                vehicle.process.wait(timeout=30)
+            with self.served() as vehicle:
+                shown = self.values_of(vehicle.station(), mavlink.request_read(-1, name="FENCE_RADIUS"))
+                self.assertEqual((shown["value"], shown["type"]), (radius, "float"))
+                self.ended(vehicle)
+
+    def test_each_state_of_the_disk_stands_for_bytes_between_two_frames(self):
+        why = disk_states.why_not(self.folder)
+        if why:
+            self.skipTest(why)
+        for text in disk_states.check(PROGRAM, self.folder):
+            print(text)
+
+    # the tools and the documents
+
+    def test_parameter_files_are_saved_and_loaded(self):
+        with self.served() as vehicle:
+            vehicle.ready()
+            for name, line in (("kept.parm", "FENCE_RADIUS     123.1\n"), ("kept.param", "FENCE_RADIUS,123.1\n")):
+                file = os.path.join(self.folder, name)
+                self.assertEqual(self.tool(vehicle, "parameters", "set", "FENCE_RADIUS", "123.1").returncode, 0)
+                self.assertEqual(self.tool(vehicle, "parameters", "save", file).stdout, f"{ROWS} values saved\n")
+                with open(file, encoding="ascii") as lines:
+                    self.assertIn(line, list(lines))
+                self.tool(vehicle, "parameters", "set", "FENCE_RADIUS", "5")
+                self.tool(vehicle, "parameters", "set", "RTL_ALT", "1200")
+                loaded = self.tool(vehicle, "parameters", "load", file)
+                self.assertEqual((loaded.returncode, loaded.stdout),
+                                 (0, f"2 values set, {ROWS - 2} were so already, 0 not taken\n"))
+            with open(file, "w", encoding="ascii") as lines:
+                lines.write("# a comment\nNO_SUCH_NAME 1\nFS_THR_ENABLE 128\n\nRTL_ALT,1600\n")
+            loaded = self.tool(vehicle, "parameters", "load", file)
+            self.assertEqual((loaded.returncode, loaded.stdout), (1, "1 values set, 0 were so already, 2 not taken\n"))
+            self.assertEqual(self.tool(vehicle, "end").returncode, 0)
+            self.assertEqual(vehicle.process.wait(timeout=30), 0)
+        self.assertEqual(self.tool(vehicle, "parameters", "read", "0").stderr,
+                         f"no answer from 127.0.0.1:{vehicle.port}\n")
+
+    def test_the_readme_shows_what_the_program_prints(self):
+        with open(os.path.join(TOP, "README.md"), encoding="utf-8") as text:
+            shown = re.findall(r"^    \$ ((?:tools/station\.py|\./zuddrin) .*)\n((?:    (?!\$ ).*\n)*)", text.read(), re.M)
+        if not any(command.startswith("tools/station.py") for command, _ in shown):
+            self.skipTest("README.md shows no session")
+        with self.served(sector=131_072) as vehicle:
+            vehicle.ready()
+            for command, output in shown:
+                real = {"./zuddrin": PROGRAM, "vehicle.img": self.image}
+                words = [real.get(word, word) for word in shlex.split(command)]
+                if words[0] == "tools/station.py":
+                    words = [sys.executable, os.path.join(TOP, words[0]), *words[1:]]
+                    cut = words.index("|") if "|" in words else len(words)
+                    words[cut:cut] = ["--port", str(vehicle.port)]
+                script = " ".join(word if word == "|" else shlex.quote(word) for word in words)
+                done = subprocess.run(["sh", "-c", script], capture_output=True, text=True, timeout=60, check=False)
+                with self.subTest(command):
+                    wanted = "".join(r"(?:.*\n)*" if line.strip() == ".." else re.escape(line[4:]) + r"\n"
+                                     for line in output.splitlines())
+                    self.assertRegex(done.stdout, f"^{wanted}$")
+            self.ended(vehicle)
 
 
 if __name__ == "__main__":

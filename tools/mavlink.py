@@ -73,10 +73,9 @@ def read_frame(datagram):
     }
 
 
-def read_value(datagram):
-    """The fields of a frame with PARAM_VALUE, or None where it is no such frame."""
-    found = read_frame(datagram)
-    if found is None or found["message"] != PARAM_VALUE:
+def value_of(found):
+    """The fields of a frame that was read, where it is PARAM_VALUE, or None."""
+    if found["message"] != PARAM_VALUE:
         return None
     value, count, index, name, kind = struct.unpack("<fHH16sB", found["payload"])
     return {
@@ -88,3 +87,9 @@ def read_value(datagram):
         "sequence": found["sequence"],
         "version": found["version"],
     }
+
+
+def read_value(datagram):
+    """The fields of a datagram with PARAM_VALUE, or None where it is no such frame."""
+    found = read_frame(datagram)
+    return found and value_of(found)
