@@ -1,14 +1,16 @@
 -- What is left to copy of a state.
-use Rattle.std.proofs.Common.{◌≡◌, ℕ, ◌*◌, ◌+◌, ◌<◌, ◌≤◌, Bool, true, false, Option, Some, None, List, length, refl, sym, ◌∙◌, ap, arith}
+use Rattle.std.proofs.Common.{◌≡◌, inl, inr, ℕ, ◌*◌, ◌+◌, ◌<◌, ◌≤◌, Bool, true, false, Option, Some, None, List, length, refl, sym, ◌∙◌, ap, arith}
 use Rattle.std.specs.Prelude.{if◌then◌else◌}
 use Rattle.std.specs.Option.{option_and_then, option_map_or}
 use Rattle.sector_log.specs.declared.log.Log.{Log}
 use Rattle.sector_log.specs.Storage.{storage_bytes}
-use Rattle.sector_switch.specs.declared.kept.Kept.{Kept}
-use Rattle.sector_switch.specs.Images.{Bytes}
-use Rattle.sector_switch.specs.Room.{is_left, left_to_copy}
-use Rattle.sector_switch.specs.Fits.{torn_chunk, state_chunk, left_chunks, left_in, taken_of}
-use Rattle.sector_switch.proofs.Rooms.{torn_falls}
+use Rattle.sector_image.specs.declared.kept.Kept.{Kept}
+use Rattle.sector_image.specs.Images.{Bytes, IsFirstLeft}
+use Rattle.sector_image.specs.Room.{is_left, left_to_copy}
+use Rattle.sector_image.specs.Fits.{torn_chunk, state_chunk, left_chunks}
+use Rattle.sector_switch.specs.States.{left_in, taken_of}
+use Rattle.std.proofs.lemmas.Bool.{cases_lt, both_ways}
+use Rattle.sector_image.proofs.Rooms.{torn_falls}
 
 plain_chunk : (kept : Kept) → kept.completable ≡ false → state_chunk kept ≡ None
 plain_chunk kept plain = ap (λ (b : Bool). option_and_then (torn_chunk b) kept.other) plain ∙ none kept.other
@@ -39,3 +41,13 @@ taken_is kept log images is = ap (λ (o : Option Log). option_map_or (λ (l : Lo
 
 pub left_of_plain : (kept : Kept) (images : Bytes) → kept.completable ≡ false → left_chunks kept images ≡ left_to_copy images.whole images.upper None
 left_of_plain kept images plain = ap (λ (f : Option ℕ). left_to_copy images.whole images.upper f) (plain_chunk kept plain)
+
+-- there is one first chunk that isn't covered
+pub one_first : (images : Bytes) (a b : ℕ) → IsFirstLeft images a → IsFirstLeft images b → a ≡ b
+one_first images a b first other = elim (cases_lt a b) [
+  | inl below ↦ absurd (both_ways (is_left images.whole images.upper None a) (other.first a below) first.left)
+  | inr from ↦ elim (cases_lt b a) [
+    | inl below ↦ absurd (both_ways (is_left images.whole images.upper None b) (first.first b below) other.left)
+    | inr above ↦ omega (arith, from, above)
+  ]
+]

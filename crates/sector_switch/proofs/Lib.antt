@@ -1,16 +1,7 @@
-pub mod Counts
-pub mod ChunkLemmas
-pub mod Rooms
-pub mod Values
-pub mod Pushed
-pub mod Regions
-pub mod LawsBelow
-pub mod ImageLaws
-pub mod Standing
+pub mod Marks
 pub mod SpilledLemmas
 pub mod SpilledCalls
 pub mod Left
 pub mod OneLogLemmas
 pub mod OneLogCalls
-pub mod SurveyLemmas
 pub mod RecoveryLemmas

@@ -14,18 +14,22 @@ use Rattle.sector_log.specs.declared.log.Log.{Log}
 use Rattle.sector_log.specs.Storage.{storage_bytes}
 use Rattle.flash_traits.specs.Values.{put}
 use Rattle.sector_log.specs.Appends.{AppendMayLeave, Appends, appended}
-use Rattle.sector_switch.specs.declared.kept.Kept.{Kept}
-use Rattle.sector_switch.specs.declared.kept.Shape.TheVariants as shape
-use Rattle.sector_switch.specs.Images.{Bytes, both_bytes}
-use Rattle.sector_switch.specs.Stands.{first_of, second_of, Stands}
-use Rattle.sector_switch.specs.Losses.{RaisesGuard, KeepsBytes, Puts, MayPut}
-use Rattle.sector_switch.specs.Fits.{OneLogRules, OneLogWords, TwoLogRules, TwoLogWords, FitsAlone, FitsMarked, FitsSpilled, FitsCopied, FitsVoided, FitsErased, IsErased, marked_from, spilled_from, new_log, with_home, voided_from, alone_from}
-use Rattle.sector_switch.proofs.Rooms.{all_copied}
-use Rattle.sector_switch.proofs.Regions.{first_sector, second_sector, guard_kept, next_first, next_home, not_guard, not_same, big, half_of, length_second}
-use Rattle.sector_switch.proofs.Standing.{keeps, raises_none, raises_one}
-use Rattle.sector_switch.proofs.SpilledLemmas.{stands_now}
+use Rattle.sector_image.specs.declared.kept.Kept.{Kept}
+use Rattle.sector_image.specs.declared.kept.Shape.TheVariants as shape
+use Rattle.sector_image.specs.Images.{Bytes, both_bytes}
+use Rattle.sector_image.specs.Stands.{Stands}
+use Rattle.guard_row.specs.Home.{first_of, second_of}
+use Rattle.sector_image.specs.Losses.{RaisesGuard, KeepsBytes, Puts, MayPut}
+use Rattle.sector_image.specs.Fits.{OneLogRules, OneLogWords, TwoLogRules, TwoLogWords, FitsAlone, FitsMarked, FitsSpilled, FitsVoided}
+use Rattle.sector_switch.specs.States.{FitsCopied, FitsErased, IsErased, marked_from, spilled_from, new_log, with_home, voided_from, alone_from}
+use Rattle.sector_image.proofs.Rooms.{all_copied}
+use Rattle.sector_image.proofs.Regions.{guard_kept, not_guard, not_same, big, half_of, length_second}
+use Rattle.guard_row.proofs.HomeLemmas.{first_sector, second_sector, next_first, next_home}
+use Rattle.sector_image.proofs.Standing.{keeps, raises_none, raises_one}
+use Rattle.sector_image.proofs.Standing.{stands_now}
 use Rattle.sector_switch.proofs.SpilledCalls.{rules_of, told_of}
-use Rattle.sector_switch.proofs.OneLogLemmas.{stands_alone, stands_marked, stands_void, marks, opens, opened_rules, voids, void_with, OnlyIn, only_in, only_guard, pair_only, made, alone_again, home_rules, words_then, may_then, puts_then}
+use Rattle.sector_image.proofs.Standing.{stands_alone, stands_marked, stands_void}
+use Rattle.sector_switch.proofs.OneLogLemmas.{marks, opens, opened_rules, voids, void_with, OnlyIn, only_in, only_guard, pair_only, made, alone_again, home_rules, words_then, may_then, puts_then}
 
 guard_same : (w v : Words) (r : Region) (xs : List ℕ) (count : ℕ) → v ≡ with_halfwords w r xs → r ≡ first_of count ⊎ r ≡ second_of count → v.guard ≡ w.guard
 guard_same w v r xs count is which = elim which [
@@ -268,15 +272,13 @@ module _ {B : Type 0} (g : Ghosts B) (reads : (b : B) (o : Outcome) → g.now b 
     home_changes_ok changes = first_words g reads (MayPut first bytes) (Puts first bytes) changes (λ t v may. may_home t v may)
         (λ t v did. puts_then (g.sector_bytes a) kept images fits.0 first n bytes lines inside small (g.words a) (fits.1 t) v did)
 
-    pub home_fits : {lost : Words → Words → Type 0} (next : Log) (whole upper : List ℕ) → kept.home.end + 1 + length bytes / 2 ≤ g.sector_bytes a / 2 → Changes g a b lost (Appends kept.home first bytes)
-        → next ≡ appended kept.home (length bytes / 8) → whole ≡ put (8 * first) bytes images.whole → upper ≡ put (8 * first) bytes images.upper → FitsAlone g b (with_home kept next) (both_bytes whole upper)
-    home_fits next whole upper room changes log_is whole_is upper_is =
+    pub home_fits : {lost : Words → Words → Type 0} (next : Log) (now : Bytes) → kept.home.end + 1 + length bytes / 2 ≤ g.sector_bytes a / 2 → Changes g a b lost (Appends kept.home first bytes)
+        → next ≡ appended kept.home (length bytes / 8) → now ≡ both_bytes (put (8 * first) bytes images.whole) (put (8 * first) bytes images.upper) → FitsAlone g b (with_home kept next) now
+    home_fits next now room changes log_is now_is =
         let then = appended kept.home (length bytes / 8) in
-        let images_is : both_bytes whole upper ≡ both_bytes (put (8 * first) bytes images.whole) (put (8 * first) bytes images.upper) =
-        ap (λ (l : List ℕ). both_bytes l upper) whole_is ∙ ap (both_bytes (put (8 * first) bytes images.whole)) upper_is in
         let fitted : FitsAlone g b (with_home kept then) (both_bytes (put (8 * first) bytes images.whole) (put (8 * first) bytes images.upper)) = (
           subst (λ (k : ℕ). OneLogRules shape.Alone k (with_home kept then) (both_bytes (put (8 * first) bytes images.whole) (put (8 * first) bytes images.upper))) (sym changes.geometry)
               (home_rules (g.sector_bytes a) kept images fits.0 first n bytes lines inside small room),
           λ t. words_then (g.sector_bytes a) kept images fits.0 first n bytes lines inside small (g.words a) (fits.1 (changes.told t)) (g.words b) (changes.content t),
         ) in
-        subst (λ (l : Log). FitsAlone g b (with_home kept l) (both_bytes whole upper)) (sym log_is) (subst (λ (i : Bytes). FitsAlone g b (with_home kept then) i) (sym images_is) fitted)
+        subst (λ (l : Log). FitsAlone g b (with_home kept l) now) (sym log_is) (subst (λ (i : Bytes). FitsAlone g b (with_home kept then) i) (sym now_is) fitted)

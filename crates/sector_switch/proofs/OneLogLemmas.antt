@@ -21,31 +21,22 @@ use Rattle.sector_log.specs.Log.{IsLogOf}
 use Rattle.sector_log.specs.Appends.{AppendMayLeave, Appends, appended, entry_of}
 use Rattle.sector_log.proofs.ValueLemmas.{value_applied}
 use Rattle.flash_traits.proofs.ValueLemmas.{length_put}
-use Rattle.sector_switch.specs.declared.kept.Kept.{Kept}
-use Rattle.sector_switch.specs.declared.kept.Shape.TheVariants as shape
-use Rattle.sector_switch.specs.Images.{Bytes, both_bytes}
-use Rattle.sector_switch.specs.Stands.{first_of, second_of, Both, One, IsBoth, Stands}
-use Rattle.sector_switch.specs.Losses.{Puts, MayPut}
-use Rattle.sector_switch.specs.Fits.{OneLogRules, OneLogWords, TwoLogRules, TwoLogWords, marked_from, spilled_from, new_log, with_home, voided_from, alone_from}
-use Rattle.sector_switch.proofs.ChunkLemmas.{bytes_of_halfwords}
-use Rattle.sector_switch.proofs.Rooms.{left_most}
+use Rattle.sector_image.specs.declared.kept.Kept.{Kept}
+use Rattle.sector_image.specs.declared.kept.Shape.TheVariants as shape
+use Rattle.sector_image.specs.Images.{Bytes, both_bytes}
+use Rattle.sector_image.specs.Stands.{Both, One, IsBoth, Stands}
+use Rattle.guard_row.specs.Home.{first_of, second_of}
+use Rattle.sector_image.specs.Losses.{Puts, MayPut}
+use Rattle.sector_image.specs.Fits.{OneLogRules, OneLogWords, TwoLogRules, TwoLogWords}
+use Rattle.sector_switch.specs.States.{marked_from, spilled_from, new_log, with_home, voided_from, alone_from}
+use Rattle.sector_image.proofs.ChunkLemmas.{bytes_of_halfwords}
+use Rattle.sector_image.proofs.Rooms.{left_most}
 use Rattle.sector_log.proofs.Pushes.{all_init}
-use Rattle.sector_switch.proofs.Pushed.{torn_values, valid_values, appended_log}
-use Rattle.sector_switch.proofs.Regions.{first_sector, second_sector, guard_kept, first_kept, second_kept, next_first, next_home, row_of_guard, big, half_of, length_second}
-use Rattle.sector_switch.proofs.Standing.{mark_step, header_made, reads_spilled, may_put, puts}
-
--- the bytes that the words stand for
-pub stands_both : (m : _) (n : _) (kept : Kept) (entries : List Entry) (whole : List ℕ) (w : Words) → IsBoth w kept.guard m n entries [] → IsValue entries whole → Stands w whole
-stands_both m n kept entries whole w reads value = (Both kept.guard m n entries [], reads, subst (λ (es : List Entry). IsValue es whole) (sym (append-nil entries)) value)
-
-pub stands_alone : (kept : Kept) (images : Bytes) (w : Words) → OneLogWords shape.Alone kept images w → Stands w images.whole
-stands_alone kept images w told = stands_both InUse Available kept told.entries images.whole w told.reads told.whole
-
-pub stands_marked : (kept : Kept) (images : Bytes) (w : Words) → OneLogWords shape.Marked kept images w → Stands w images.whole
-stands_marked kept images w told = stands_both Full Available kept told.entries images.whole w told.reads told.whole
-
-pub stands_void : (kept : Kept) (images : Bytes) (w : Words) → OneLogWords shape.Voided kept images w → Stands w images.whole
-stands_void kept images w told = (One kept.guard told.entries, told.reads, told.whole)
+use Rattle.sector_image.proofs.Pushed.{torn_values, valid_values, appended_log}
+use Rattle.sector_image.proofs.Regions.{guard_kept, first_kept, second_kept, row_of_guard, big, half_of, length_second}
+use Rattle.guard_row.proofs.HomeLemmas.{first_sector, second_sector, next_first, next_home}
+use Rattle.sector_image.proofs.Standing.{reads_spilled, may_put, puts, stands_both, stands_alone}
+use Rattle.sector_switch.proofs.Marks.{mark_step, header_made}
 
 -- home is marked full
 pub marks : (kept : Kept) (images : Bytes) (w : Words) → OneLogWords shape.Alone kept images w → OneLogWords shape.Marked (marked_from kept) images (programmed w (first_of kept.guard) 0 23548)

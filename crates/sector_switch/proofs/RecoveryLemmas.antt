@@ -1,24 +1,36 @@
 -- What a survey finds, and what the recovery behind it makes of the image.
-use Rattle.std.proofs.Common.{◌≡◌, ℕ, true, [], refl, sym, subst}
-use Rattle.std.specs.Prelude.{Result, Ok, Err, IfErr}
+use Rattle.std.proofs.Common.{◌≡◌, ℕ, ◌+◌, ◌*◌, ◌≤◌, true, Option, None, List, [], ◌++◌, refl, sym, ◌∙◌, ap, subst, arith}
+use Rattle.std.specs.Prelude.{Result, Ok, Err, IfOk, IfErr}
+use Rattle.std.proofs.lemmas.List.{append-nil}
+use Rattle.std.proofs.lemmas.List.Elements.{All-nil}
+use Rattle.guard_row.specs.Home.{first_of}
+use Rattle.sector_log.specs.declared.log.Log.{Log}
+use Rattle.sector_log.specs.Entries.{Entry, IsEntry}
+use Rattle.sector_log.specs.Bytes.{IsValue}
+use Rattle.sector_log.specs.Log.{IsLogOf}
+use Rattle.sector_log.proofs.ValueLemmas.{value_applied}
+use Rattle.sector_image.specs.Room.{left_to_copy, finishing}
+use Rattle.sector_image.proofs.Pushed.{finishing_is}
+use Rattle.sector_switch.proofs.Left.{chunk_of_state, taken_is}
 use Rattle.flash_traits.specs.Words.{Words, Same}
 use Rattle.flash_traits.specs.Losses.{Outcome}
 use Rattle.flash_traits.specs.declared.board.Board.{Ghosts}
 use Rattle.flash_traits.specs.Calls.{Changes}
 use Rattle.flash_traits.specs.declared.board.Mark.TheVariants.{Available, InUse, Full}
 use Rattle.flash_traits.proofs.Moments.{first_words, chained_words}
-use Rattle.sector_switch.specs.declared.kept.Kept.{Kept}
-use Rattle.sector_switch.specs.declared.kept.Shape.{Shape}
-use Rattle.sector_switch.specs.declared.kept.Shape.TheVariants.{Alone, Marked, Spilled, Voided}
+use Rattle.sector_image.specs.declared.kept.Kept.{Kept}
+use Rattle.sector_image.specs.declared.kept.Shape.{Shape}
+use Rattle.sector_image.specs.declared.kept.Shape.TheVariants.{Alone, Marked, Spilled, Voided}
 use Rattle.sector_switch.specs.declared.recovery.RecoverError.{RecoverError}
 use Rattle.sector_switch.specs.declared.recovery.RecoverError.TheVariants as errors
-use Rattle.sector_switch.specs.Images.{Bytes}
-use Rattle.sector_switch.specs.Stands.{Reading, Both, One, Reads, count_in, count_after, is_alone, is_due}
-use Rattle.sector_switch.specs.Losses.{KeepsBytes}
-use Rattle.sector_switch.specs.Fits.{FitsShape, guard_after, is_full}
+use Rattle.sector_image.specs.Images.{Bytes}
+use Rattle.sector_image.specs.Stands.{Reading, Both, One, Reads, count_in, count_after, is_alone, is_due}
+use Rattle.sector_image.specs.Losses.{KeepsBytes}
+use Rattle.sector_image.specs.Fits.{FitsShape, torn_chunk, left_chunks}
+use Rattle.sector_switch.specs.States.{guard_after, is_full, taken_of, FilledFromZeros, HomeAfter}
 use Rattle.sector_switch.specs.Refusals.{OnWorn}
-use Rattle.sector_switch.proofs.ImageLaws.{one_reading}
-use Rattle.sector_switch.proofs.Standing.{keeps_all}
+use Rattle.sector_image.proofs.ImageLaws.{one_reading}
+use Rattle.sector_image.proofs.Standing.{keeps_all, copied_is}
 
 -- what the words tell where a state of this name fits
 pub record Found (w : Words) (name : Shape) (kept : Kept) : Type 0 where
@@ -61,3 +73,36 @@ worn_through (Ok x) P Q more is = tt
 worn_through (Err (errors.Fault kind)) P Q more is = tt
 worn_through (Err (errors.Foreign region offset word)) P Q more is = tt
 worn_through (Err (errors.Worn count)) P Q more is = more count is
+
+-- what home has at the end, by what a survey found
+home_after : {B : Type 0} (g : Ghosts B) (b : B) (name : Shape) (kept : Kept) (images : Bytes) (alone : Kept) → FitsShape name g b kept images → g.tells b
+    → (name ≡ Alone → alone.home ≡ kept.home) → (name ≡ Marked → FilledFromZeros images.whole alone.home) → (name ≡ Spilled → 2 * alone.home.end ≤ taken_of kept images) → (name ≡ Voided → alone.home ≡ kept.home)
+    → (reading : Reading) × Reads (g.words b) reading × HomeAfter reading alone.home
+home_after g b Alone kept images alone fits t a m s v = let w = fits.1 t in
+    (Both kept.guard InUse Available w.entries [], w.reads, subst (λ (l : Log). IsLogOf l (first_of kept.guard) InUse w.entries) (sym (a refl)) w.log)
+home_after g b Marked kept images alone fits t a m s v = let w = fits.1 t in let f = m refl in
+    let value : IsValue (w.entries ++ []) images.whole = subst (λ (es : List Entry). IsValue es images.whole) (sym (append-nil w.entries)) w.whole in
+    let above : IsValue [] f.zeros = value_applied [] f.zeros (All-nil IsEntry) f.size f.each in
+    (Both kept.guard Full Available w.entries [], w.reads, omega (arith, f.most, copied_is w.entries [] images.whole f.zeros value above))
+home_after g b Spilled kept images alone fits t a m s v =
+    let w = fits.2 t in
+    let log = fits.0 in
+    let chunk : finishing images.whole w.other ≡ torn_chunk kept.completable log = finishing_is images.whole w.other log kept.completable w.other_log.torn w.completable in
+    let left : left_chunks kept images ≡ left_to_copy images.whole images.upper (finishing images.whole w.other) =
+    ap (λ (f : Option ℕ). left_to_copy images.whole images.upper f) (chunk_of_state kept log fits.1.other ∙ sym chunk) in (
+      Both kept.guard Full InUse w.home w.other,
+      w.reads,
+      omega (arith, s refl, taken_is kept log images fits.1.other, left, w.other_log.end, copied_is w.home w.other images.whole images.upper w.whole w.upper),
+    )
+home_after g b Voided kept images alone fits t a m s v = let w = fits.1 t in
+    (One kept.guard w.entries, w.reads, subst (λ (l : Log). IsLogOf l (first_of kept.guard) InUse w.entries) (sym (v refl)) w.log)
+
+-- the same of an answer
+pub copied_from : {B : Type 0} (g : Ghosts B) (b c : B) (w : Words) (name : Shape) (kept : Kept) (images : Bytes) (r : Result Kept RecoverError) → FitsShape name g b kept images → (g.tells c → g.tells b) → (g.tells b → g.words b ≡ w)
+    → (name ≡ Alone → IfOk r (λ alone. alone.home ≡ kept.home)) → (name ≡ Marked → IfOk r (λ alone. FilledFromZeros images.whole alone.home)) → (name ≡ Spilled → IfOk r (λ alone. 2 * alone.home.end ≤ taken_of kept images))
+    → (name ≡ Voided → IfOk r (λ alone. alone.home ≡ kept.home)) → IfOk r (λ alone. g.tells c → (reading : Reading) → Reads w reading → HomeAfter reading alone.home)
+copied_from g b c w name kept images (Err e) fits earlier same a m s v = tt
+copied_from g b c w name kept images (Ok alone) fits earlier same a m s v = λ t reading reads.
+    let before = earlier t in
+    let there = home_after g b name kept images alone fits before a m s v in
+    subst (λ (other : Reading). HomeAfter other alone.home) (one_reading w there.0 reading (subst (λ (u : Words). Reads u there.0) (same before) there.1) reads) there.2

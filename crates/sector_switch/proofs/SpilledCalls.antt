@@ -9,13 +9,14 @@ use Rattle.flash_traits.proofs.Moments.{first_words, started_words, chained_word
 use Rattle.sector_log.specs.declared.log.Log.{Log}
 use Rattle.flash_traits.specs.Values.{put}
 use Rattle.sector_log.specs.Appends.{AppendMayLeave, Appends, appended, FinishMayLeave, Finishes, finished}
-use Rattle.sector_switch.specs.declared.kept.Kept.{Kept}
-use Rattle.sector_switch.specs.Images.{Bytes, both_bytes}
-use Rattle.sector_switch.specs.Room.{chunk_at, is_left, left_to_copy}
-use Rattle.sector_switch.specs.Losses.{KeepsBytes, Puts, MayPut}
-use Rattle.sector_switch.specs.Fits.{TwoLogRules, TwoLogWords, FitsSpilled, torn_chunk, with_other}
-use Rattle.sector_switch.proofs.Standing.{keeps_all, keeps_then, keeps_more}
-use Rattle.sector_switch.proofs.ChunkLemmas.{length_chunk}
+use Rattle.sector_image.specs.declared.kept.Kept.{Kept}
+use Rattle.sector_image.specs.Images.{Bytes, both_bytes}
+use Rattle.sector_image.specs.Room.{chunk_at, is_left, left_to_copy}
+use Rattle.sector_image.specs.Losses.{KeepsBytes, Puts, MayPut}
+use Rattle.sector_image.specs.Fits.{TwoLogRules, TwoLogWords, FitsSpilled, torn_chunk}
+use Rattle.sector_switch.specs.States.{with_other}
+use Rattle.sector_image.proofs.Standing.{keeps_all, keeps_then, keeps_more}
+use Rattle.sector_image.proofs.ChunkLemmas.{length_chunk}
 use Rattle.sector_switch.proofs.SpilledLemmas.{lost_copy, done_copy, lost_finish, done_finish, lost_put, done_put, puts_now, rules_copy, rules_finish, rules_put, copy_fits}
 
 -- what a call does is one of the things that a loss in it may leave
@@ -26,11 +27,6 @@ appends_may log line bytes u v did = λ entries end sector. let at = did entries
 pub finishes_may : (log : Log) (bytes : List ℕ) (u v : Words) → Finishes log bytes u v → FinishMayLeave log bytes u v
 finishes_may log bytes u v did = λ mark entries line lines content torn can. let at = did mark entries line lines content torn can in
     record { halfwords = at.halfwords; here = inr at.here; same_length = at.same_length; whole = at.whole }
-
--- a call that ends with an error
-pub at_err : {B T E : Type 0} (g : Ghosts B) {a b : B} (r : Result T E) {lost : Words → Words → Type 0} (done : Words → Words → Type 0) → IsErr r → Changes g a b lost lost → Changes g a b lost (ByResult r done lost)
-at_err g (Ok v) done err changes = absurd (cc)
-at_err g (Err e) done err changes = changes
 
 same_log : (kept : Kept) (a b : Log) → kept.other ≡ Some a → kept.other ≡ Some b → a ≡ b
 same_log kept a b p q = let same : Some a ≡ Some b = sym p ∙ q in cc
@@ -66,7 +62,7 @@ module _ {B : Type 0} (g : Ghosts B) (reads : (b : B) (o : Outcome) → g.now b 
     shaped t = shape a t rules.home.attached
 
     -- a chunk is copied
-    module _ (small : (k : ℕ) → get_or images.whole k 0 < 256) (c : ℕ) (lt : c < 240) (left : is_left images.whole images.upper None c ≡ true) (plain : kept.completable ≡ false)
+    module _ (c : ℕ) (small : (k : ℕ) → get_or (chunk_at images.whole c) k 0 < 256) (lt : c < 240) (left : is_left images.whole images.upper None c ≡ true) (plain : kept.completable ≡ false)
         (bytes : List ℕ) (chunk : bytes ≡ chunk_at images.whole c) where
       may_copy : g.tells a → (v : Words) → AppendMayLeave log (8 * c) bytes (g.words a) v → KeepsBytes 0 (g.words a) v
       may_copy t v may = lost_copy (g.sector_bytes a) kept log images rules (g.words a) (shaped t) (told t) c lt left plain small v
@@ -78,18 +74,18 @@ module _ {B : Type 0} (g : Ghosts B) (reads : (b : B) (o : Outcome) → g.now b 
       pub copy_room : log.end + 1 + length bytes / 2 ≤ g.sector_bytes a / 2
       copy_room = omega (arith, copy_fits (g.sector_bytes a) kept log images rules c lt left plain, ap length chunk, length_chunk images.whole c (omega (arith, rules.home.whole_size)))
 
-      pub copy_fits_then : {lost : Words → Words → Type 0} (next : Log) (upper : List ℕ) → Changes g a b lost (Appends log (8 * c) bytes) → next ≡ appended log (length bytes / 8)
-          → upper ≡ put (64 * c) (chunk_at images.whole c) images.upper → FitsSpilled g b (with_other kept next) (both_bytes images.whole upper)
-      copy_fits_then next upper changes log_is upper_is =
+      pub copy_fits_then : {lost : Words → Words → Type 0} (next : Log) (now : Bytes) → Changes g a b lost (Appends log (8 * c) bytes) → next ≡ appended log (length bytes / 8)
+          → now ≡ both_bytes images.whole (put (64 * c) (chunk_at images.whole c) images.upper) → FitsSpilled g b (with_other kept next) now
+      copy_fits_then next now changes log_is now_is =
           let eight : length bytes / 8 ≡ 8 = ap (λ (l : List ℕ). length l / 8) chunk ∙ ap (λ (n : ℕ). n / 8) (length_chunk images.whole c (omega (arith, rules.home.whole_size))) in
-          fits_with g a b kept next (appended log 8) (both_bytes images.whole (put (64 * c) (chunk_at images.whole c) images.upper)) (both_bytes images.whole upper)
-          changes.geometry (log_is ∙ ap (appended log) eight) (ap (both_bytes images.whole) upper_is)
+          fits_with g a b kept next (appended log 8) (both_bytes images.whole (put (64 * c) (chunk_at images.whole c) images.upper)) now
+          changes.geometry (log_is ∙ ap (appended log) eight) now_is
           (rules_copy (g.sector_bytes a) kept log images rules c lt left plain)
           (λ t. done_copy (g.sector_bytes a) kept log images rules (g.words a) (shaped (changes.told t)) (told (changes.told t)) c lt left plain small (g.words b)
           (subst (λ (l : List ℕ). Appends log (8 * c) l (g.words a) (g.words b)) chunk (changes.content t)))
 
     -- the completable torn last entry is completed
-    module _ (small : (k : ℕ) → get_or images.whole k 0 < 256) (c : ℕ) (lt : c < 240) (torn : torn_chunk kept.completable log ≡ Some c) (counted : 1 ≤ log.gaps) (bytes : List ℕ) (chunk : bytes ≡ chunk_at images.whole c) where
+    module _ (c : ℕ) (small : (k : ℕ) → get_or (chunk_at images.whole c) k 0 < 256) (lt : c < 240) (torn : torn_chunk kept.completable log ≡ Some c) (counted : 1 ≤ log.gaps) (bytes : List ℕ) (chunk : bytes ≡ chunk_at images.whole c) where
       may_finish : g.tells a → (v : Words) → FinishMayLeave log bytes (g.words a) v → KeepsBytes 0 (g.words a) v
       may_finish t v may = lost_finish (g.sector_bytes a) kept log images rules (g.words a) (shaped t) (told t) c lt torn small v
           (subst (λ (l : List ℕ). FinishMayLeave log l (g.words a) v) chunk may)
@@ -97,11 +93,11 @@ module _ {B : Type 0} (g : Ghosts B) (reads : (b : B) (o : Outcome) → g.now b 
       pub finish_changes : {done : Words → Words → Type 0} → ((u v : Words) → done u v → FinishMayLeave log bytes u v) → Changes g a b (FinishMayLeave log bytes) done → Changes g a b (KeepsBytes 0) (KeepsBytes 0)
       finish_changes does changes = first_words g reads (KeepsBytes 0) (KeepsBytes 0) changes (λ t v may. may_finish t v may) (λ t v did. may_finish t v (does (g.words a) v did))
 
-      pub finish_fits_then : {lost : Words → Words → Type 0} (next : Log) (upper : List ℕ) → Changes g a b lost (Finishes log bytes) → next ≡ finished log
-          → upper ≡ put (64 * c) (chunk_at images.whole c) images.upper → FitsSpilled g b (with_other kept next) (both_bytes images.whole upper)
-      finish_fits_then next upper changes log_is upper_is =
-          fits_with g a b kept next (finished log) (both_bytes images.whole (put (64 * c) (chunk_at images.whole c) images.upper)) (both_bytes images.whole upper)
-          changes.geometry log_is (ap (both_bytes images.whole) upper_is)
+      pub finish_fits_then : {lost : Words → Words → Type 0} (next : Log) (now : Bytes) → Changes g a b lost (Finishes log bytes) → next ≡ finished log
+          → now ≡ both_bytes images.whole (put (64 * c) (chunk_at images.whole c) images.upper) → FitsSpilled g b (with_other kept next) now
+      finish_fits_then next now changes log_is now_is =
+          fits_with g a b kept next (finished log) (both_bytes images.whole (put (64 * c) (chunk_at images.whole c) images.upper)) now
+          changes.geometry log_is now_is
           (rules_finish (g.sector_bytes a) kept log images rules c lt torn counted)
           (λ t. done_finish (g.sector_bytes a) kept log images rules (g.words a) (shaped (changes.told t)) (told (changes.told t)) c lt torn small (g.words b)
           (subst (λ (l : List ℕ). Finishes log l (g.words a) (g.words b)) chunk (changes.content t)))
@@ -119,25 +115,10 @@ module _ {B : Type 0} (g : Ghosts B) (reads : (b : B) (o : Outcome) → g.now b 
       put_changes_ok changes = first_words g reads (MayPut first bytes) (Puts first bytes) changes (λ t v may. may_put_now t v may)
           (λ t v did. puts_now (g.sector_bytes a) kept log images rules (g.words a) (shaped t) (told t) first n bytes lines inside small room v did)
 
-      pub put_fits : {lost : Words → Words → Type 0} (next : Log) (whole upper : List ℕ) → Changes g a b lost (Appends log first bytes) → next ≡ appended log (length bytes / 8)
-          → whole ≡ put (8 * first) bytes images.whole → upper ≡ put (8 * first) bytes images.upper → FitsSpilled g b (with_other kept next) (both_bytes whole upper)
-      put_fits next whole upper changes log_is whole_is upper_is =
-          fits_with g a b kept next (appended log (length bytes / 8)) (both_bytes (put (8 * first) bytes images.whole) (put (8 * first) bytes images.upper)) (both_bytes whole upper)
-          changes.geometry log_is (ap (λ (l : List ℕ). both_bytes l upper) whole_is ∙ ap (both_bytes (put (8 * first) bytes images.whole)) upper_is)
+      pub put_fits : {lost : Words → Words → Type 0} (next : Log) (now : Bytes) → Changes g a b lost (Appends log first bytes) → next ≡ appended log (length bytes / 8)
+          → now ≡ both_bytes (put (8 * first) bytes images.whole) (put (8 * first) bytes images.upper) → FitsSpilled g b (with_other kept next) now
+      put_fits next now changes log_is now_is =
+          fits_with g a b kept next (appended log (length bytes / 8)) (both_bytes (put (8 * first) bytes images.whole) (put (8 * first) bytes images.upper)) now
+          changes.geometry log_is now_is
           (rules_put (g.sector_bytes a) kept log images rules first n bytes lines inside room)
           (λ t. done_put (g.sector_bytes a) kept log images rules (g.words a) (shaped (changes.told t)) (told (changes.told t)) first n bytes lines inside small room (g.words b) (changes.content t))
-
--- no call at all
-pub still_keeps : {B : Type 0} (g : Ghosts B) (reads : (b : B) (o : Outcome) → g.now b o → g.tells b × (o.words ≡ g.words b)) (a : B) (most : ℕ) → Changes g a a (KeepsBytes most) (KeepsBytes most)
-still_keeps g reads a most = started_words g reads a (KeepsBytes most) (KeepsBytes most) (λ t. keeps_all most (g.words a))
-
--- one call after another
-pub then_keeps : {B : Type 0} (g : Ghosts B) (reads : (b : B) (o : Outcome) → g.now b o → g.tells b × (o.words ≡ g.words b)) {a b c : B} (m n : ℕ)
-    → Changes g a b (KeepsBytes m) (KeepsBytes m) → Changes g b c (KeepsBytes n) (KeepsBytes n) → Changes g a c (KeepsBytes (m + n)) (KeepsBytes (m + n))
-then_keeps g reads {a} {b} {c} m n first second = chained_words g reads (KeepsBytes (m + n)) (KeepsBytes (m + n)) first second
-    (λ t o is. keeps_more m (m + n) (g.words a) o (omega arith) is)
-    (λ t u o was is. keeps_then m n (g.words a) u o was is) (λ t u o was is. keeps_then m n (g.words a) u o was is)
-
-pub more_keeps : {B : Type 0} (g : Ghosts B) (reads : (b : B) (o : Outcome) → g.now b o → g.tells b × (o.words ≡ g.words b)) {a b : B} (m n : ℕ) → m ≤ n
-    → Changes g a b (KeepsBytes m) (KeepsBytes m) → Changes g a b (KeepsBytes n) (KeepsBytes n)
-more_keeps g reads {a} m n le changes = first_words g reads (KeepsBytes n) (KeepsBytes n) changes (λ t o is. keeps_more m n (g.words a) o le is) (λ t o is. keeps_more m n (g.words a) o le is)

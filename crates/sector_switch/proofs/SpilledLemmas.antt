@@ -17,19 +17,22 @@ use Rattle.flash_traits.specs.Values.{put}
 use Rattle.sector_log.specs.Log.{end_of, last_of, IsLogOf}
 use Rattle.sector_log.specs.Appends.{entry_of, IsOneOfThree, IsTornLast, AppendMayLeave, Appends, appended, FinishMayLeave, Finishes, finished, IsLogIn}
 use Rattle.flash_traits.proofs.ValueLemmas.{length_put}
-use Rattle.sector_switch.specs.declared.kept.Kept.{Kept}
-use Rattle.sector_switch.specs.Images.{Bytes, both_bytes}
-use Rattle.sector_switch.specs.Room.{chunk_at, is_left, left_to_copy, finishing, chunk_to_finish}
-use Rattle.sector_switch.specs.Stands.{second_of, Both, IsBoth, Stands}
-use Rattle.sector_switch.specs.Losses.{KeepsBytes, Puts, MayPut}
-use Rattle.sector_switch.specs.Fits.{TwoLogRules, TwoLogWords, torn_chunk, left_in, with_other}
-use Rattle.sector_switch.proofs.ChunkLemmas.{length_chunk, chunk_small, put_chunk_same, bytes_of_halfwords}
-use Rattle.sector_switch.proofs.Rooms.{copied_falls, torn_falls, finished_le, other_torn, both_le, both_none}
+use Rattle.sector_image.specs.declared.kept.Kept.{Kept}
+use Rattle.sector_image.specs.Images.{Bytes, both_bytes}
+use Rattle.sector_image.specs.Room.{chunk_at, is_left, left_to_copy, finishing, chunk_to_finish}
+use Rattle.sector_image.specs.Stands.{Both, IsBoth, Stands}
+use Rattle.guard_row.specs.Home.{second_of}
+use Rattle.sector_image.specs.Losses.{KeepsBytes, Puts, MayPut}
+use Rattle.sector_image.specs.Fits.{TwoLogRules, TwoLogWords, torn_chunk}
+use Rattle.sector_switch.specs.States.{left_in, with_other}
+use Rattle.sector_image.proofs.ChunkLemmas.{length_chunk, put_chunk_same, bytes_of_halfwords}
+use Rattle.sector_image.proofs.Rooms.{copied_falls, torn_falls, finished_le, other_torn, both_le, both_none}
 use Rattle.sector_switch.proofs.Left.{left_plain, left_torn}
 use Rattle.sector_log.proofs.Pushes.{end_push, all_init}
-use Rattle.sector_switch.proofs.Pushed.{torn_values, valid_values, without_torn, finishing_valid, finishing_torn, to_finish, last_split, finishing_is, appended_log, finished_log}
-use Rattle.sector_switch.proofs.Regions.{second_sector, guard_kept, first_kept, half_of, length_second}
-use Rattle.sector_switch.proofs.Standing.{keeps, raises_none, may_put, puts, reads_spilled}
+use Rattle.sector_image.proofs.Pushed.{torn_values, valid_values, without_torn, finishing_valid, finishing_torn, to_finish, last_split, finishing_is, appended_log, finished_log}
+use Rattle.sector_image.proofs.Regions.{guard_kept, first_kept, half_of, length_second}
+use Rattle.guard_row.proofs.HomeLemmas.{second_sector}
+use Rattle.sector_image.proofs.Standing.{keeps, raises_none, may_put, puts, reads_spilled, stands_now}
 
 -- the completable torn last entry
 torn_last : (whole : List ℕ) (es : List Entry) (c : ℕ) → finishing whole es ≡ Some c
@@ -47,15 +50,12 @@ torn_last whole es c is = cases (last_of es) refl
         (split.0, e.content, split.1 ∙ ap (λ (d : Entry). split.0 ++ d ∷ []) this, facts.3)
 
 -- a chunk's bytes as an entry of eight lines
-chunk_put : (whole xs : List ℕ) (c : ℕ) → 64 * c + 64 ≤ length whole → ((k : ℕ) → get_or whole k 0 < 256)
+chunk_put : (whole xs : List ℕ) (c : ℕ) → 64 * c + 64 ≤ length whole → ((k : ℕ) → get_or (chunk_at whole c) k 0 < 256)
     → put (8 * (8 * c)) (bytes_of (halfwords_of (chunk_at whole c))) xs ≡ put (64 * c) (chunk_at whole c) xs
 chunk_put whole xs c fits small =
     let size = length_chunk whole c fits in
-    let bytes : bytes_of (halfwords_of (chunk_at whole c)) ≡ chunk_at whole c = bytes_of_halfwords 32 (chunk_at whole c) (omega arith) (λ k. chunk_small whole c k small) in
+    let bytes : bytes_of (halfwords_of (chunk_at whole c)) ≡ chunk_at whole c = bytes_of_halfwords 32 (chunk_at whole c) (omega arith) small in
     ap (λ (l : List ℕ). put (8 * (8 * c)) l xs) bytes ∙ ap (λ (n : ℕ). put n (chunk_at whole c) xs) (omega arith)
-
-pub stands_now : (kept : Kept) (log : Log) (images : Bytes) (w : Words) → TwoLogWords kept log images w → Stands w images.whole
-stands_now kept log images w told = (Both kept.guard Full InUse told.home told.other, told.reads, told.whole)
 
 module _ (size : ℕ) (kept : Kept) (log : Log) (images : Bytes) (rules : TwoLogRules size kept log images) (w : Words) (shaped : HasShape size w) (told : TwoLogWords kept log images w) where
   abbrev r : Region
@@ -126,7 +126,7 @@ module _ (size : ℕ) (kept : Kept) (log : Log) (images : Bytes) (rules : TwoLog
   size_here hw same = same ∙ ap (λ (q : Region). length (halfwords_in w q)) rules.region
 
   -- a chunk is copied
-  module _ (c : ℕ) (lt : c < 240) (left : is_left whole upper None c ≡ true) (plain : kept.completable ≡ false) (small : (k : ℕ) → get_or whole k 0 < 256) where
+  module _ (c : ℕ) (lt : c < 240) (left : is_left whole upper None c ≡ true) (plain : kept.completable ≡ false) (small : (k : ℕ) → get_or (chunk_at whole c) k 0 < 256) where
     abbrev content : List ℕ
     content = halfwords_of (chunk_at whole c)
 
@@ -185,7 +185,7 @@ module _ (size : ℕ) (kept : Kept) (log : Log) (images : Bytes) (rules : TwoLog
         subst (λ (u : Words). TwoLogWords (with_other kept (appended log 8)) (appended log 8) (both_bytes whole upper_then) u) (sym (row_here v at.halfwords at.whole)) (valid_entry at.halfwords (size_here at.halfwords at.same_length) here)
 
   -- the completable torn last entry is completed
-  module _ (c : ℕ) (lt : c < 240) (chunk : torn_chunk kept.completable log ≡ Some c) (small : (k : ℕ) → get_or whole k 0 < 256) where
+  module _ (c : ℕ) (lt : c < 240) (chunk : torn_chunk kept.completable log ≡ Some c) (small : (k : ℕ) → get_or (chunk_at whole c) k 0 < 256) where
     abbrev wanted : List ℕ
     wanted = halfwords_of (chunk_at whole c)
 

@@ -1,10 +1,2 @@
-pub mod Images
-pub mod Room
-pub mod Stands
-pub mod FirstBad
-pub mod Losses
-pub mod Fits
-pub mod Heads
-pub mod Surveys
+pub mod States
 pub mod Refusals
-pub mod Laws

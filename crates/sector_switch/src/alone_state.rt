@@ -7,9 +7,10 @@ ghost use Rattle.flash_traits.specs.Causes.{HasCause};
 ghost use Rattle.flash_traits.specs.Values.{put};
 ghost use Rattle.sector_log.specs.Appends.{AreLines, appended};
 ghost use Rattle.flash_traits.specs.Counts.{raised_by};
-ghost use Rattle.sector_switch.specs.Images.{Bytes, both_bytes};
-ghost use Rattle.sector_switch.specs.Losses.{KeepsBytes, Puts, MayPut};
-ghost use Rattle.sector_switch.specs.Fits.{FitsAlone, FitsMarked, free_of, with_home, marked_from};
+ghost use Rattle.sector_image.specs.Images.{Bytes};
+ghost use Rattle.sector_image.specs.Losses.{KeepsBytes, Puts, MayPut};
+ghost use Rattle.sector_image.specs.Fits.{FitsAlone, FitsMarked, free_of};
+ghost use Rattle.sector_switch.specs.States.{with_home, marked_from};
 
 use crate::flash::program;
 use crate::{Images, Kept, Marked};
@@ -24,7 +25,7 @@ pub struct Alone {
 }
 
 impl Model for Alone {
-    ghost use Rattle.sector_switch.specs.declared.kept.Kept.{Kept};
+    ghost use Rattle.sector_image.specs.declared.kept.Kept.{Kept};
 
     ghost Value = { Kept };
 
@@ -69,14 +70,7 @@ impl Alone {
         ensures cause { HasCause Flash (B.faults board.old) (B.faults board.new) result }
         ensures kind { IfErr result (λ kind. kind ≡ Flash) }
     {
-        let kept = put_alone(
-            board,
-            self.kept,
-            first,
-            bytes,
-            &mut images.whole,
-            &mut images.upper,
-        )?;
+        let kept = put_alone(board, self.kept, first, bytes, images)?;
         Ok(Alone { kept })
     }
 
@@ -96,31 +90,21 @@ impl Alone {
     }
 }
 
-/// Puts bytes at a line.
-pub(crate) fn put_lines(first: u16, bytes: &[u8], into: &mut [u8])
-    requires { 8 * first + length bytes.now ≤ length into.old }
-    ensures { into.new ≡ put (8 * first) bytes.now into.old }
-{
-    let at = 8 * first as usize;
-    into[at..at + bytes.len()].copy_from_slice(bytes);
-}
-
 /// Puts an entry into home.
 fn put_alone<B: Board>(
     board: &mut B,
     kept: Kept,
     first: u16,
     bytes: &[u8],
-    whole: &mut [u8],
-    upper: &mut [u8],
+    images: &mut Images,
 ) -> Result<Kept, Fault>
-    requires fits { FitsAlone B.Board board.old kept (both_bytes whole.old upper.old) }
+    requires fits { FitsAlone B.Board board.old kept images.old }
     requires lines { AreLines first bytes.now }
     requires room { 2 + length bytes.now ≤ free_of kept }
-    ensures fits { IfOk result (λ new. FitsAlone B.Board board.new new (both_bytes whole.new upper.new)) }
+    ensures fits { IfOk result (λ new. FitsAlone B.Board board.new new images.new) }
     ensures kept { IfOk result (λ new. new ≡ with_home kept (appended kept.home (length bytes.now / 8))) }
-    ensures put { OnOk result (whole.new ≡ put (8 * first) bytes.now whole.old) }
-    ensures err { OnErr result ((whole.new ≡ whole.old) × (upper.new ≡ upper.old)) }
+    ensures put { OnOk result (images.new.whole ≡ put (8 * first) bytes.now images.old.whole) }
+    ensures err { OnErr result (images.new ≡ images.old) }
     ensures changes { Changes B.Board board.old board.new (MayPut first bytes.now) (ByResult result (Puts first bytes.now) (MayPut first bytes.now)) }
     ensures erases { ErasesNothing B.Board board.old board.new }
     ensures programs { (B.moment board.new).programs ≤ raised_by (2 + length bytes.now / 2) (B.moment board.old).programs }
@@ -128,8 +112,7 @@ fn put_alone<B: Board>(
     ensures kind { IfErr result (λ kind. kind ≡ Flash) }
 {
     let home = append(board, kept.home, first, bytes)?;
-    put_lines(first, bytes, whole);
-    put_lines(first, bytes, upper);
+    images.put_lines(first, bytes);
     Ok(Kept { home, ..kept })
 }
 

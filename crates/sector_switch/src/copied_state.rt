@@ -5,12 +5,13 @@ ghost use Rattle.flash_traits.specs.declared.board.Fault.TheVariants.{Flash};
 ghost use Rattle.flash_traits.specs.Calls.{Changes, ErasesNothing};
 ghost use Rattle.flash_traits.specs.Causes.{HasCause, Rose};
 ghost use Rattle.flash_traits.specs.Counts.{raised_by};
-ghost use Rattle.sector_switch.specs.Images.{Bytes};
-ghost use Rattle.sector_switch.specs.Losses.{KeepsBytes};
-ghost use Rattle.sector_switch.specs.Fits.{FitsCopied, FitsVoided, voided_from};
+ghost use Rattle.sector_image.specs.Images.{Bytes};
+ghost use Rattle.sector_image.specs.Losses.{KeepsBytes};
+ghost use Rattle.sector_switch.specs.States.{FitsCopied, voided_from, settled_from};
+ghost use Rattle.sector_image.specs.Fits.{FitsAlone, FitsVoided};
 ghost use Rattle.sector_switch.specs.Refusals.{OnVoidWorn, OnVoidFault};
 
-use crate::{Kept, Voided};
+use crate::{Alone, Kept, Voided};
 use flash_traits::{Board, Fault};
 use guard_row::step;
 use std::marker::Model;
@@ -22,7 +23,7 @@ pub struct Copied {
 }
 
 impl Model for Copied {
-    ghost use Rattle.sector_switch.specs.declared.kept.Kept.{Kept};
+    ghost use Rattle.sector_image.specs.declared.kept.Kept.{Kept};
 
     ghost Value = { Kept };
 
@@ -58,6 +59,32 @@ impl Copied {
         }
         match void_home(board, kept) {
             Ok(kept) => Ok(Voided { kept }),
+            Err(kind) => Err(VoidError::Fault(kind)),
+        }
+    }
+
+    /// Makes home void, erases it and makes it available, beside the other sector as home. A loss inside leaves the bytes
+    /// of before.
+    pub fn settle<B: Board>(self, board: &mut B) -> Result<Alone, VoidError>
+        requires fits { (images : Bytes) × FitsCopied B.Board board.old self images }
+        ensures fits { IfOk result (λ alone. (images : Bytes) →
+            FitsCopied B.Board board.old self images → FitsAlone B.Board board.new alone images) }
+        ensures kept { IfOk result (λ alone. IfSome self.other (λ log. alone ≡ settled_from self log)) }
+        ensures worn { IfErr result (λ e. OnVoidWorn e (λ copied. (copied ≡ self)
+            × (self.guard ≡ 8192) × (board.new ≡ board.old))) }
+        ensures used_up { self.guard ≡ 8192 → IfOk result (λ _. ⊥) }
+        ensures changes { Changes B.Board board.old board.new (KeepsBytes 2) (KeepsBytes 2) }
+        ensures fault { IfErr result (λ e. OnVoidFault e (λ kind. (kind ≡ Flash)
+            × Rose (B.faults board.old Flash) (B.faults board.new Flash))) }
+        ensures counts { (k : Fault) → B.faults board.old k ≤ B.faults board.new k }
+    {
+        let voided = match self.void(board) {
+            Ok(voided) => voided,
+            Err(VoidError::Fault(kind)) => return Err(VoidError::Fault(kind)),
+            Err(VoidError::Worn(copied)) => return Err(VoidError::Worn(copied)),
+        };
+        match voided.settle(board) {
+            Ok(alone) => Ok(alone),
             Err(kind) => Err(VoidError::Fault(kind)),
         }
     }

@@ -1,16 +1,17 @@
 // The image in one sector, with the other one erased.
-ghost use Rattle.std.specs.Prelude.{◌≡◌, IfOk, IfErr};
+ghost use Rattle.std.specs.Prelude.{◌≡◌, ◌≤◌, IfOk, IfErr};
+ghost use Rattle.flash_traits.specs.Counts.{raised_by};
 ghost use Rattle.flash_traits.specs.declared.board.Fault.TheVariants.{Flash};
 ghost use Rattle.flash_traits.specs.Calls.{Changes, ErasesNothing};
 ghost use Rattle.flash_traits.specs.Causes.{HasCause};
-ghost use Rattle.sector_switch.specs.Images.{Bytes};
-ghost use Rattle.sector_switch.specs.Losses.{KeepsBytes};
-ghost use Rattle.sector_switch.specs.Fits.{FitsErased, FitsAlone, alone_from};
+ghost use Rattle.sector_image.specs.Images.{Bytes};
+ghost use Rattle.sector_image.specs.Losses.{KeepsBytes};
+ghost use Rattle.sector_switch.specs.States.{FitsErased, alone_from};
+ghost use Rattle.sector_image.specs.Fits.{FitsAlone};
 
-use crate::flash::second_sector;
 use crate::{Alone, Kept};
 use flash_traits::{Board, Fault, program_pair};
-use guard_row::step;
+use guard_row::{second_sector, step};
 use std::marker::Model;
 
 /// One sector is in use and has all bytes, and every halfword of the void one is FFFF.
@@ -20,7 +21,7 @@ pub struct Erased {
 }
 
 impl Model for Erased {
-    ghost use Rattle.sector_switch.specs.declared.kept.Kept.{Kept};
+    ghost use Rattle.sector_image.specs.declared.kept.Kept.{Kept};
 
     ghost Value = { Kept };
 
@@ -35,6 +36,7 @@ impl Erased {
         ensures kept { IfOk result (λ alone. alone ≡ alone_from self) }
         ensures changes { Changes B.Board board.old board.new (KeepsBytes 1) (KeepsBytes 1) }
         ensures erases { ErasesNothing B.Board board.old board.new }
+        ensures programs { (B.moment board.new).programs ≤ raised_by 3 (B.moment board.old).programs }
         ensures cause { HasCause Flash (B.faults board.old) (B.faults board.new) result }
         ensures kind { IfErr result (λ kind. kind ≡ Flash) }
     {
@@ -50,6 +52,7 @@ fn open_erased<B: Board>(board: &mut B, kept: Kept) -> Result<Kept, Fault>
     ensures kept { IfOk result (λ new. new ≡ alone_from kept) }
     ensures changes { Changes B.Board board.old board.new (KeepsBytes 1) (KeepsBytes 1) }
     ensures erases { ErasesNothing B.Board board.old board.new }
+    ensures programs { (B.moment board.new).programs ≤ raised_by 3 (B.moment board.old).programs }
     ensures cause { HasCause Flash (B.faults board.old) (B.faults board.new) result }
     ensures kind { IfErr result (λ kind. kind ≡ Flash) }
 {

@@ -1,4 +1,4 @@
-// Sectors by the guard count, and single programs.
+// Single programs.
 ghost use Rattle.std.specs.Prelude.{◌≡◌, ◌<◌, IfErr};
 ghost use Rattle.flash_traits.specs.declared.board.Fault.TheVariants.{Flash};
 ghost use Rattle.flash_traits.specs.Words.{IsSectorSize, ProgramMayLeave, Programs, region_length};
@@ -6,31 +6,8 @@ ghost use Rattle.flash_traits.specs.Losses.{ByResult};
 ghost use Rattle.flash_traits.specs.Calls.{Changes, ErasesNothing};
 ghost use Rattle.flash_traits.specs.Causes.{HasCause};
 ghost use Rattle.flash_traits.specs.Counts.{raised_by};
-ghost use Rattle.sector_switch.specs.Stands.{first_of, second_of};
 
 use flash_traits::{Board, Fault, Region};
-
-/// The home sector where the guard count is even, and the sector that isn't void where it is odd.
-pub(crate) fn first_sector(guard: u16) -> Region
-    ensures { result ≡ first_of guard }
-{
-    if guard % 4 == 0 || guard % 4 == 3 {
-        Region::S0
-    } else {
-        Region::S1
-    }
-}
-
-/// The sector beside home, or the void one.
-pub(crate) fn second_sector(guard: u16) -> Region
-    ensures { result ≡ second_of guard }
-{
-    if guard % 4 == 0 || guard % 4 == 3 {
-        Region::S1
-    } else {
-        Region::S0
-    }
-}
 
 /// Programs a halfword.
 pub(crate) fn program<B: Board>(

@@ -1,17 +1,19 @@
 // The image with home full, and the other sector available.
-ghost use Rattle.std.specs.Prelude.{◌≡◌, ◌≤◌, All, IfOk, IfErr};
+ghost use Rattle.std.specs.Prelude.{◌≡◌, ◌≤◌, All, length, IfOk, IfErr};
 ghost use Rattle.flash_traits.specs.declared.board.Fault.TheVariants.{Flash};
 ghost use Rattle.flash_traits.specs.Calls.{Changes, ErasesNothing};
 ghost use Rattle.flash_traits.specs.Causes.{HasCause};
 ghost use Rattle.flash_traits.specs.Counts.{raised_by};
-ghost use Rattle.sector_switch.specs.Images.{Bytes, both_bytes};
-ghost use Rattle.sector_switch.specs.Room.{chunks};
-ghost use Rattle.sector_switch.specs.Losses.{KeepsBytes};
-ghost use Rattle.sector_switch.specs.Fits.{FitsMarked, FitsSpilled, left_chunks, spilled_from};
+ghost use Rattle.sector_log.specs.Storage.{storage_bytes};
+ghost use Rattle.flash_traits.specs.Budget.{chunks};
+ghost use Rattle.sector_image.specs.Losses.{KeepsBytes};
+ghost use Rattle.sector_image.specs.Fits.{FitsMarked, FitsSpilled, left_chunks};
+ghost use Rattle.sector_switch.specs.States.{spilled_from};
 
-use crate::flash::{program, second_sector};
+use crate::flash::program;
 use crate::{Images, Kept, Spilled};
 use flash_traits::{Board, Fault, Mark};
+use guard_row::second_sector;
 use sector_log::Log;
 use std::marker::Model;
 
@@ -22,7 +24,7 @@ pub struct Marked {
 }
 
 impl Model for Marked {
-    ghost use Rattle.sector_switch.specs.declared.kept.Kept.{Kept};
+    ghost use Rattle.sector_image.specs.declared.kept.Kept.{Kept};
 
     ghost Value = { Kept };
 
@@ -34,6 +36,8 @@ impl Marked {
     pub fn open<B: Board>(self, board: &mut B, images: &mut Images) -> Result<Spilled, Fault>
         requires fits { FitsMarked B.Board board.old self images.old }
         ensures whole { images.new.whole ≡ images.old.whole }
+        ensures cleared { All (λ byte. byte ≡ 0) images.new.upper }
+        ensures size { length images.new.upper ≡ storage_bytes }
         ensures fits { IfOk result (λ spilled. FitsSpilled B.Board board.new spilled images.new) }
         ensures kept { IfOk result (λ spilled. spilled ≡ spilled_from self) }
         ensures left { IfOk result (λ spilled. left_chunks spilled images.new ≤ chunks) }
@@ -43,29 +47,20 @@ impl Marked {
         ensures cause { HasCause Flash (B.faults board.old) (B.faults board.new) result }
         ensures kind { IfErr result (λ kind. kind ≡ Flash) }
     {
-        let kept = begin_copy(board, self.kept, &images.whole, &mut images.upper)?;
+        let kept = begin_copy(board, self.kept, images)?;
         Ok(Spilled { kept })
     }
 }
 
-/// Makes every byte 0.
-pub(crate) fn clear(bytes: &mut [u8])
-    ensures { All (λ byte. byte ≡ 0) bytes.new }
-{
-    bytes.fill(0);
-}
-
 /// Marks the other sector in use, whose log is empty.
-fn begin_copy<B: Board>(
-    board: &mut B,
-    kept: Kept,
-    whole: &[u8],
-    upper: &mut [u8],
-) -> Result<Kept, Fault>
-    requires fits { FitsMarked B.Board board.old kept (both_bytes whole.now upper.old) }
-    ensures fits { IfOk result (λ new. FitsSpilled B.Board board.new new (both_bytes whole.now upper.new)) }
+fn begin_copy<B: Board>(board: &mut B, kept: Kept, images: &mut Images) -> Result<Kept, Fault>
+    requires fits { FitsMarked B.Board board.old kept images.old }
+    ensures whole { images.new.whole ≡ images.old.whole }
+    ensures cleared { All (λ byte. byte ≡ 0) images.new.upper }
+    ensures size { length images.new.upper ≡ storage_bytes }
+    ensures fits { IfOk result (λ new. FitsSpilled B.Board board.new new images.new) }
     ensures kept { IfOk result (λ new. new ≡ spilled_from kept) }
-    ensures left { IfOk result (λ new. left_chunks new (both_bytes whole.now upper.new) ≤ chunks) }
+    ensures left { IfOk result (λ new. left_chunks new images.new ≤ chunks) }
     ensures changes { Changes B.Board board.old board.new (KeepsBytes 0) (KeepsBytes 0) }
     ensures erases { ErasesNothing B.Board board.old board.new }
     ensures programs { (B.moment board.new).programs ≡ raised_by 1 (B.moment board.old).programs }
@@ -73,7 +68,7 @@ fn begin_copy<B: Board>(
     ensures kind { IfErr result (λ kind. kind ≡ Flash) }
 {
     let region = second_sector(kept.guard);
-    clear(upper);
+    images.clear_upper();
     program(board, region, 0, 0x5BFE)?;
     let log = Log {
         region,

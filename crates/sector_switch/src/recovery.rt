@@ -1,19 +1,21 @@
 // The way back to one sector alone.
-ghost use Rattle.std.specs.Prelude.{◌≡◌, ◌⊎◌, ◌≤◌, ◌+◌, IsTrue, IfOk, OnOk, IfErr};
+ghost use Rattle.std.specs.Prelude.{◌≡◌, ◌⊎◌, ◌≤◌, ◌+◌, ◌*◌, IsTrue, IfOk, OnOk, IfErr};
 ghost use Rattle.flash_traits.specs.declared.board.Fault.{Fault};
 ghost use Rattle.flash_traits.specs.declared.board.Fault.TheVariants.{Read, Flash};
-ghost use Rattle.flash_traits.specs.Words.{IsSectorSize};
 ghost use Rattle.flash_traits.specs.Calls.{Changes};
 ghost use Rattle.flash_traits.specs.Causes.{HasCause, Rose};
-ghost use Rattle.sector_switch.specs.declared.kept.Kept.{Kept};
-ghost use Rattle.sector_switch.specs.Images.{Bytes};
-ghost use Rattle.sector_switch.specs.Stands.{Reading, Reads, Stands, count_in, count_after, is_alone, is_due};
-ghost use Rattle.sector_switch.specs.FirstBad.{Place, FirstBad};
-ghost use Rattle.sector_switch.specs.Losses.{KeepsBytes};
-ghost use Rattle.sector_switch.specs.Fits.{FitsAlone, FitsMarked, FitsSpilled, FitsCopied, FitsVoided, FitsShape, guard_after, is_full};
-ghost use Rattle.sector_switch.specs.Refusals.{OnRecoverForeign, OnRecoverFault, OnWorn};
+ghost use Rattle.sector_image.specs.declared.kept.Kept.{Kept};
+ghost use Rattle.sector_image.specs.Images.{Bytes};
+ghost use Rattle.sector_image.specs.Stands.{Reading, Reads, Stands, count_in, count_after, is_alone, is_due};
+ghost use Rattle.sector_image.specs.FirstBad.{Place, FirstBad};
+ghost use Rattle.sector_image.specs.Losses.{KeepsBytes};
+ghost use Rattle.sector_image.specs.Fits.{FitsAlone, FitsMarked, FitsSpilled, FitsVoided, FitsShape};
+ghost use Rattle.sector_switch.specs.States.{FitsCopied, guard_after, is_full, taken_of, FilledFromZeros, HomeAfter, CanServe};
+ghost use Rattle.sector_switch.specs.Refusals.{OnRecoverForeign, OnRecoverFault, OnWorn, LeftAlone};
 
-use crate::{Alone, Images, Kept, Marked, Shape, Spilled, SurveyError, VoidError, Voided, survey};
+use crate::{
+    Alone, Images, Kept, Marked, Shape, Spilled, SurveyError, SwitchError, Voided, survey,
+};
 use flash_traits::{Board, Fault, Region};
 
 /// Why an image can't be recovered.
@@ -33,12 +35,22 @@ pub enum RecoverError {
     },
 }
 
+impl From<Fault> for RecoverError {
+    ghost use Rattle.sector_switch.specs.declared.recovery.RecoverError.TheVariants as errors;
+
+    ghost from_gives = { λ fault e. e ≡ errors.Fault fault };
+
+    fn from(fault: Fault) -> RecoverError {
+        RecoverError::Fault(fault)
+    }
+}
+
 /// Brings the image into one sector alone, from each of its four states, and reads its bytes into `images`. A loss
 /// inside leaves the bytes of before.
 ///
 /// Nothing is programmed where the image stands alone or the words are no image.
 pub fn recover<B: Board>(board: &mut B, images: &mut Images) -> Result<Alone, RecoverError>
-    requires attached { IsSectorSize (B.sector_bytes board.old) }
+    requires attached { CanServe (B.sector_bytes board.old) }
 
     // the image stands alone, with the bytes that the words stood for
     ensures fits { IfOk result (λ alone. FitsAlone B.Board board.new alone images.new) }
@@ -47,11 +59,17 @@ pub fn recover<B: Board>(board: &mut B, images: &mut Images) -> Result<Alone, Re
 
     // the guard count rises by two from marked and spilled, and by one from voided
     ensures guard { IfOk result (λ alone. B.tells board.new → (reading : Reading) → Reads (B.words board.old) reading → alone.guard ≡ count_after reading) }
+    ensures copied { IfOk result (λ alone. B.tells board.new → (reading : Reading) →
+        Reads (B.words board.old) reading → HomeAfter reading alone.home) }
     ensures idle { B.tells board.new → (reading : Reading) → Reads (B.words board.old) reading → IsTrue (is_alone reading) → B.moment board.new ≡ B.moment board.old }
 
     // no image
     ensures foreign { IfErr result (λ e. OnRecoverForeign e (λ place. B.tells board.new → FirstBad (B.words board.old) place)) }
     ensures foreign_idle { IfErr result (λ e. OnRecoverForeign e (λ place. B.moment board.new ≡ B.moment board.old)) }
+    ensures foreign_words { IfErr result (λ e. OnRecoverForeign e (λ place.
+        B.tells board.new → B.words board.new ≡ B.words board.old)) }
+    ensures left_alone { B.tells board.new → (place : Place) → FirstBad (B.words board.old) place →
+        LeftAlone B.Board board.old board.new result }
 
     // the guard row is used up: exactly where home is full and the count is 8,192, once the copy is whole
     ensures worn { IfErr result (λ e. OnWorn e (λ count. (count ≡ 8192) × (B.tells board.new → (reading : Reading) × Reads (B.words board.old) reading
@@ -91,6 +109,10 @@ fn settle<B: Board>(
     ensures fits { IfOk result (λ alone. FitsAlone B.Board board.new alone images.new) }
     ensures changes { Changes B.Board board.old board.new (KeepsBytes 2) (KeepsBytes 2) }
     ensures guard { IfOk result (λ alone. alone.guard ≡ guard_after shape kept.guard) }
+    ensures home_alone { shape ≡ Shape.Alone → IfOk result (λ alone. alone.home ≡ kept.home) }
+    ensures home_marked { shape ≡ Shape.Marked → IfOk result (λ alone. FilledFromZeros images.old.whole alone.home) }
+    ensures home_spilled { shape ≡ Shape.Spilled → IfOk result (λ alone. 2 * alone.home.end ≤ taken_of kept images.old) }
+    ensures home_voided { shape ≡ Shape.Voided → IfOk result (λ alone. alone.home ≡ kept.home) }
     ensures idle { shape ≡ Shape.Alone → board.new ≡ board.old }
     ensures not_foreign { IfErr result (λ e. OnRecoverForeign e (λ place. ⊥)) }
     ensures worn { IfErr result (λ e. OnWorn e (λ count. (count ≡ 8192) × (kept.guard ≡ 8192) × IsTrue (is_full shape))) }
@@ -103,7 +125,7 @@ fn settle<B: Board>(
         Shape::Alone => Ok(Alone { kept }),
         Shape::Marked => finish_marked(Marked { kept }, board, images),
         Shape::Spilled => finish_spilled(Spilled { kept }, board, images),
-        Shape::Voided => match finish_voided(Voided { kept }, board) {
+        Shape::Voided => match (Voided { kept }).settle(board) {
             Ok(alone) => Ok(alone),
             Err(kind) => Err(RecoverError::Fault(kind)),
         },
@@ -121,6 +143,7 @@ fn finish_marked<B: Board>(
     ensures fits { IfOk result (λ alone. FitsAlone B.Board board.new alone images.new) }
     ensures changes { Changes B.Board board.old board.new (KeepsBytes 2) (KeepsBytes 2) }
     ensures guard { IfOk result (λ alone. alone.guard ≡ marked.guard + 2) }
+    ensures filled { IfOk result (λ alone. FilledFromZeros images.old.whole alone.home) }
     ensures not_foreign { IfErr result (λ e. OnRecoverForeign e (λ place. ⊥)) }
     ensures worn { IfErr result (λ e. OnWorn e (λ count. (count ≡ 8192) × (marked.guard ≡ 8192))) }
     ensures worn_copied { IfErr result (λ e. OnWorn e (λ count. (kept : Kept) × FitsCopied B.Board board.new kept images.new × (kept.guard ≡ 8192))) }
@@ -145,6 +168,7 @@ fn finish_spilled<B: Board>(
     ensures fits { IfOk result (λ alone. FitsAlone B.Board board.new alone images.new) }
     ensures changes { Changes B.Board board.old board.new (KeepsBytes 2) (KeepsBytes 2) }
     ensures guard { IfOk result (λ alone. alone.guard ≡ spilled.guard + 2) }
+    ensures filled { IfOk result (λ alone. 2 * alone.home.end ≤ taken_of spilled images.old) }
     ensures not_foreign { IfErr result (λ e. OnRecoverForeign e (λ place. ⊥)) }
     ensures worn { IfErr result (λ e. OnWorn e (λ count. (count ≡ 8192) × (spilled.guard ≡ 8192))) }
     ensures worn_copied { IfErr result (λ e. OnWorn e (λ count. (kept : Kept) × FitsCopied B.Board board.new kept images.new × (kept.guard ≡ 8192))) }
@@ -152,31 +176,9 @@ fn finish_spilled<B: Board>(
     ensures fault { IfErr result (λ e. OnRecoverFault e (λ kind. (kind ≡ Flash) × Rose (B.faults board.old Flash) (B.faults board.new Flash))) }
     ensures counts { (k : Fault) → B.faults board.old k ≤ B.faults board.new k }
 {
-    let copied = match spilled.copy(board, images) {
-        Ok(copied) => copied,
-        Err(kind) => return Err(RecoverError::Fault(kind)),
-    };
-    let voided = match copied.void(board) {
-        Ok(voided) => voided,
-        Err(VoidError::Fault(kind)) => return Err(RecoverError::Fault(kind)),
-        Err(VoidError::Worn(_)) => return Err(RecoverError::Worn { count: 8192 }),
-    };
-    match finish_voided(voided, board) {
+    match spilled.switch(board, images) {
         Ok(alone) => Ok(alone),
-        Err(kind) => Err(RecoverError::Fault(kind)),
+        Err(SwitchError::Fault(kind)) => Err(RecoverError::Fault(kind)),
+        Err(SwitchError::Worn { count }) => Err(RecoverError::Worn { count }),
     }
-}
-
-/// From a voided state to one sector alone.
-fn finish_voided<B: Board>(voided: Voided, board: &mut B) -> Result<Alone, Fault>
-    requires fits { (images : Bytes) × FitsVoided B.Board board.old voided images }
-    ensures fits { IfOk result (λ alone. (images : Bytes) → FitsVoided B.Board board.old voided images → FitsAlone B.Board board.new alone images) }
-    ensures guard { IfOk result (λ alone. alone.guard ≡ voided.guard + 1) }
-    ensures changes { Changes B.Board board.old board.new (KeepsBytes 1) (KeepsBytes 1) }
-    ensures cause { HasCause Flash (B.faults board.old) (B.faults board.new) result }
-    ensures kind { IfErr result (λ kind. kind ≡ Flash) }
-{
-    let erased = voided.erase(board)?;
-    let alone = erased.open(board)?;
-    Ok(alone)
 }

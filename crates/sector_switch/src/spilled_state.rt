@@ -3,21 +3,25 @@ ghost use Rattle.std.specs.Prelude.{◌≡◌, ◌+◌, ◌-◌, ◌*◌, ◌/�
 ghost use Rattle.flash_traits.specs.declared.board.Fault.TheVariants.{Flash};
 ghost use Rattle.flash_traits.specs.Losses.{ByResult};
 ghost use Rattle.flash_traits.specs.Calls.{Changes, ErasesNothing};
-ghost use Rattle.flash_traits.specs.Causes.{HasCause};
+ghost use Rattle.flash_traits.specs.declared.board.Fault.{Fault};
+ghost use Rattle.flash_traits.specs.Causes.{HasCause, Rose};
+ghost use Rattle.sector_image.specs.declared.kept.Kept.{Kept};
+ghost use Rattle.sector_image.specs.Images.{IsFirstLeft, with_chunk};
 ghost use Rattle.sector_log.specs.Storage.{storage_bytes};
 ghost use Rattle.flash_traits.specs.Values.{put};
 ghost use Rattle.sector_log.specs.Appends.{AreLines, appended};
 ghost use Rattle.flash_traits.specs.Counts.{raised_by};
-ghost use Rattle.sector_switch.specs.Images.{Bytes, both_bytes};
-ghost use Rattle.sector_switch.specs.Room.{chunks, is_left, left_to_copy};
-ghost use Rattle.sector_switch.specs.Losses.{KeepsBytes, Puts, MayPut};
-ghost use Rattle.sector_switch.specs.Fits.{FitsSpilled, FitsCopied, left_chunks, left_in, taken_of, room_of, with_appended};
-ghost use Rattle.sector_switch.specs.Refusals.{kept_in, is_whole};
+ghost use Rattle.sector_image.specs.Images.{Bytes};
+ghost use Rattle.sector_image.specs.Room.{is_left, left_to_copy};
+ghost use Rattle.flash_traits.specs.Budget.{chunks};
+ghost use Rattle.sector_image.specs.Losses.{KeepsBytes, Puts, MayPut};
+ghost use Rattle.sector_image.specs.Fits.{FitsAlone, FitsSpilled, free_of, left_chunks};
+ghost use Rattle.sector_switch.specs.States.{FitsCopied, left_in, taken_of, room_of, with_appended};
+ghost use Rattle.sector_switch.specs.Refusals.{kept_in, is_whole, OnSwitchWorn, OnSwitchFault};
 
-use crate::alone_state::put_lines;
-use crate::chunks::{copy_bytes, count_left, first_left, torn_chunk};
-use crate::{Copied, Images, Kept};
+use crate::{Alone, Copied, Images, Kept, VoidError};
 use flash_traits::{Board, Fault};
+use sector_image::torn_chunk;
 use sector_log::{append, finish_torn};
 use std::marker::Model;
 
@@ -28,7 +32,7 @@ pub struct Spilled {
 }
 
 impl Model for Spilled {
-    ghost use Rattle.sector_switch.specs.declared.kept.Kept.{Kept};
+    ghost use Rattle.sector_image.specs.declared.kept.Kept.{Kept};
 
     ghost Value = { Kept };
 
@@ -47,7 +51,7 @@ impl Spilled {
     pub fn room(&self, images: &Images) -> u32
         ensures { result ≡ room_of self.now images.now }
     {
-        room_in(&self.kept, &images.whole, &images.upper)
+        room_in(&self.kept, images)
     }
 
     /// Puts an entry of 1 to 8 whole lines, from the line `first` on. A loss inside leaves the bytes of before or those
@@ -73,14 +77,7 @@ impl Spilled {
         ensures cause { HasCause Flash (B.faults board.old) (B.faults board.new) result }
         ensures kind { IfErr result (λ kind. kind ≡ Flash) }
     {
-        let kept = put_spilled(
-            board,
-            self.kept,
-            first,
-            bytes,
-            &mut images.whole,
-            &mut images.upper,
-        )?;
+        let kept = put_spilled(board, self.kept, first, bytes, images)?;
         Ok(Spilled { kept })
     }
 
@@ -97,9 +94,12 @@ impl Spilled {
         ensures falls { IfOk result (λ step. left_in (kept_in step) images.new ≤ left_in self images.old - 1) }
         ensures last { IfOk result (λ step. IsTrue (is_whole step) ↔ (left_in (kept_in step) images.new ≡ 0)) }
         ensures copied { IfOk result (λ step. IsTrue (is_whole step) → FitsCopied B.Board board.new (kept_in step) images.new) }
+        ensures ascending { self.completable ≡ false → (chunk : ℕ) → IsFirstLeft images.old chunk →
+            OnOk result (images.new ≡ with_chunk images.old chunk) }
         ensures taken { IfOk result (λ step. taken_of (kept_in step) images.new ≤ taken_of self images.old) }
         ensures guard { IfOk result (λ step. (kept_in step).guard ≡ self.guard) }
         ensures home { IfOk result (λ step. (kept_in step).home ≡ self.home) }
+        ensures size { IfOk result (λ step. (kept_in step).sector_bytes ≡ self.sector_bytes) }
         ensures idle { left_in self images.old ≡ 0 → board.new ≡ board.old }
         ensures changes { Changes B.Board board.old board.new (KeepsBytes 0) (KeepsBytes 0) }
         ensures erases { ErasesNothing B.Board board.old board.new }
@@ -107,8 +107,8 @@ impl Spilled {
         ensures cause { HasCause Flash (B.faults board.old) (B.faults board.new) result }
         ensures kind { IfErr result (λ kind. kind ≡ Flash) }
     {
-        let kept = copy_step(board, self.kept, &images.whole, &mut images.upper)?;
-        Ok(step_of(kept, &images.whole, &images.upper))
+        let kept = copy_step(board, self.kept, images)?;
+        Ok(step_of(kept, images))
     }
 
     /// Copies all that is left. A loss inside leaves the bytes of before.
@@ -119,6 +119,7 @@ impl Spilled {
         ensures taken { IfOk result (λ copied. taken_of copied images.new ≤ taken_of self images.old) }
         ensures guard { IfOk result (λ copied. copied.guard ≡ self.guard) }
         ensures home { IfOk result (λ copied. copied.home ≡ self.home) }
+        ensures size { IfOk result (λ copied. copied.sector_bytes ≡ self.sector_bytes) }
         ensures changes { Changes B.Board board.old board.new (KeepsBytes 0) (KeepsBytes 0) }
         ensures erases { ErasesNothing B.Board board.old board.new }
         ensures cause { HasCause Flash (B.faults board.old) (B.faults board.new) result }
@@ -132,18 +133,68 @@ impl Spilled {
             }
         }
     }
+
+    /// Copies all that is left, and makes the other sector home and the one that was home available. A loss inside leaves
+    /// the bytes of before.
+    pub fn switch<B: Board>(self, board: &mut B, images: &mut Images) -> Result<Alone, SwitchError>
+        requires fits { FitsSpilled B.Board board.old self images.old }
+        ensures whole { images.new.whole ≡ images.old.whole }
+        ensures fits { IfOk result (λ alone. FitsAlone B.Board board.new alone images.new) }
+        ensures guard { IfOk result (λ alone. alone.guard ≡ self.guard + 2) }
+        ensures filled { IfOk result (λ alone. 2 * alone.home.end ≤ taken_of self images.old) }
+        ensures free { IfOk result (λ alone. self.sector_bytes - taken_of self images.old ≤ free_of alone) }
+        ensures changes { Changes B.Board board.old board.new (KeepsBytes 2) (KeepsBytes 2) }
+
+        // the guard row is used up: the copy is whole, and home is as it was
+        ensures worn { IfErr result (λ e. OnSwitchWorn e (λ count. (count ≡ 8192) × (self.guard ≡ 8192))) }
+        ensures worn_copied { IfErr result (λ e. OnSwitchWorn e (λ count. (kept : Kept)
+            × FitsCopied B.Board board.new kept images.new × (kept.guard ≡ 8192)
+            × (kept.home ≡ self.home) × (kept.sector_bytes ≡ self.sector_bytes))) }
+        ensures used_up { self.guard ≡ 8192 → IfOk result (λ _. ⊥) }
+
+        ensures fault { IfErr result (λ e. OnSwitchFault e (λ kind. (kind ≡ Flash)
+            × Rose (B.faults board.old Flash) (B.faults board.new Flash))) }
+        ensures counts { (k : Fault) → B.faults board.old k ≤ B.faults board.new k }
+    {
+        let copied = match self.copy(board, images) {
+            Ok(copied) => copied,
+            Err(kind) => return Err(SwitchError::Fault(kind)),
+        };
+        match copied.settle(board) {
+            Ok(alone) => Ok(alone),
+            Err(VoidError::Fault(kind)) => Err(SwitchError::Fault(kind)),
+            Err(VoidError::Worn(_)) => Err(SwitchError::Worn { count: 8192 }),
+        }
+    }
+}
+
+/// Why an image wasn't switched to the other sector.
+#[derive(Clone, Copy, Debug, PartialEq, Eq)]
+pub enum SwitchError {
+    /// A program or the erase failed.
+    Fault(Fault),
+    /// The guard row is used up. The copy is whole, and the words still stand for the bytes.
+    Worn { count: u16 },
+}
+
+impl From<Fault> for SwitchError {
+    ghost use Rattle.sector_switch.specs.declared.spilled_state.SwitchError.TheVariants as errors;
+
+    ghost from_gives = { λ fault e. e ≡ errors.Fault fault };
+
+    fn from(fault: Fault) -> SwitchError {
+        SwitchError::Fault(fault)
+    }
 }
 
 /// How large a caller's entry may be.
-fn room_in(kept: &Kept, whole: &[u8], upper: &[u8]) -> u32
-    requires whole { length whole.now ≡ storage_bytes }
-    requires upper { length upper.now ≡ storage_bytes }
-    ensures { result ≡ room_of kept.now (both_bytes whole.now upper.now) }
+fn room_in(kept: &Kept, images: &Images) -> u32
+    ensures { result ≡ room_of kept.now images.now }
 {
     let Some(log) = kept.other else {
         return 0;
     };
-    let left = count_left(whole, upper, torn_chunk(kept.completable, log));
+    let left = images.count_left(torn_chunk(kept.completable, log));
     let used = 2 * log.end as u64 + 66 * left as u64 + 66;
     (kept.sector_bytes as u64).saturating_sub(used) as u32
 }
@@ -154,17 +205,16 @@ fn put_spilled<B: Board>(
     kept: Kept,
     first: u16,
     bytes: &[u8],
-    whole: &mut [u8],
-    upper: &mut [u8],
+    images: &mut Images,
 ) -> Result<Kept, Fault>
-    requires fits { FitsSpilled B.Board board.old kept (both_bytes whole.old upper.old) }
+    requires fits { FitsSpilled B.Board board.old kept images.old }
     requires lines { AreLines first bytes.now }
-    requires room { 2 + length bytes.now ≤ room_of kept (both_bytes whole.old upper.old) }
-    ensures fits { IfOk result (λ new. FitsSpilled B.Board board.new new (both_bytes whole.new upper.new)) }
+    requires room { 2 + length bytes.now ≤ room_of kept images.old }
+    ensures fits { IfOk result (λ new. FitsSpilled B.Board board.new new images.new) }
     ensures kept { IfOk result (λ new. new ≡ with_appended kept (length bytes.now / 8)) }
-    ensures left { IfOk result (λ new. left_chunks new (both_bytes whole.new upper.new) ≤ left_in kept (both_bytes whole.old upper.old)) }
-    ensures put { OnOk result (whole.new ≡ put (8 * first) bytes.now whole.old) }
-    ensures err { OnErr result ((whole.new ≡ whole.old) × (upper.new ≡ upper.old)) }
+    ensures left { IfOk result (λ new. left_chunks new images.new ≤ left_in kept images.old) }
+    ensures put { OnOk result (images.new.whole ≡ put (8 * first) bytes.now images.old.whole) }
+    ensures err { OnErr result (images.new ≡ images.old) }
     ensures changes { Changes B.Board board.old board.new (MayPut first bytes.now) (ByResult result (Puts first bytes.now) (MayPut first bytes.now)) }
     ensures erases { ErasesNothing B.Board board.old board.new }
     ensures programs { (B.moment board.new).programs ≤ raised_by (2 + length bytes.now / 2) (B.moment board.old).programs }
@@ -175,8 +225,7 @@ fn put_spilled<B: Board>(
         unreachable!()
     };
     let next = append(board, log, first, bytes)?;
-    put_lines(first, bytes, whole);
-    put_lines(first, bytes, upper);
+    images.put_lines(first, bytes);
     Ok(Kept {
         other: Some(next),
         completable: false,
@@ -189,19 +238,21 @@ fn copy_one<B: Board>(
     board: &mut B,
     kept: Kept,
     chunk: usize,
-    whole: &[u8],
-    upper: &mut [u8],
+    images: &mut Images,
 ) -> Result<Kept, Fault>
-    requires fits { FitsSpilled B.Board board.old kept (both_bytes whole.now upper.old) }
+    requires fits { FitsSpilled B.Board board.old kept images.old }
     requires plain { kept.completable ≡ false }
     requires chunk { chunk < chunks }
-    requires left { is_left whole.now upper.old None chunk ≡ true }
+    requires left { is_left images.old.whole images.old.upper None chunk ≡ true }
+    ensures whole { images.new.whole ≡ images.old.whole }
+    ensures covers { OnOk result (images.new ≡ with_chunk images.old chunk) }
     ensures plain { IfOk result (λ new. new.completable ≡ false) }
     ensures guard { IfOk result (λ new. new.guard ≡ kept.guard) }
     ensures home { IfOk result (λ new. new.home ≡ kept.home) }
-    ensures taken { IfOk result (λ new. taken_of new (both_bytes whole.now upper.new) ≤ taken_of kept (both_bytes whole.now upper.old)) }
-    ensures fits { IfOk result (λ new. FitsSpilled B.Board board.new new (both_bytes whole.now upper.new)) }
-    ensures falls { OnOk result (left_to_copy whole.now upper.new None < left_to_copy whole.now upper.old None) }
+    ensures size { IfOk result (λ new. new.sector_bytes ≡ kept.sector_bytes) }
+    ensures taken { IfOk result (λ new. taken_of new images.new ≤ taken_of kept images.old) }
+    ensures fits { IfOk result (λ new. FitsSpilled B.Board board.new new images.new) }
+    ensures falls { OnOk result (left_to_copy images.new.whole images.new.upper None < left_to_copy images.old.whole images.old.upper None) }
     ensures changes { Changes B.Board board.old board.new (KeepsBytes 0) (KeepsBytes 0) }
     ensures erases { ErasesNothing B.Board board.old board.new }
     ensures programs { (B.moment board.new).programs ≤ raised_by 34 (B.moment board.old).programs }
@@ -211,9 +262,8 @@ fn copy_one<B: Board>(
     let Some(log) = kept.other else {
         unreachable!()
     };
-    let at = 64 * chunk;
-    let next = append(board, log, 8 * chunk as u16, &whole[at..at + 64])?;
-    copy_bytes(chunk, whole, upper);
+    let next = append(board, log, 8 * chunk as u16, images.chunk(chunk))?;
+    images.cover(chunk);
     Ok(Kept {
         other: Some(next),
         completable: false,
@@ -222,20 +272,17 @@ fn copy_one<B: Board>(
 }
 
 /// Completes the completable torn last entry.
-fn finish_one<B: Board>(
-    board: &mut B,
-    kept: Kept,
-    whole: &[u8],
-    upper: &mut [u8],
-) -> Result<Kept, Fault>
-    requires fits { FitsSpilled B.Board board.old kept (both_bytes whole.now upper.old) }
+fn finish_one<B: Board>(board: &mut B, kept: Kept, images: &mut Images) -> Result<Kept, Fault>
+    requires fits { FitsSpilled B.Board board.old kept images.old }
     requires torn { kept.completable ≡ true }
+    ensures whole { images.new.whole ≡ images.old.whole }
     ensures plain { IfOk result (λ new. new.completable ≡ false) }
     ensures guard { IfOk result (λ new. new.guard ≡ kept.guard) }
     ensures home { IfOk result (λ new. new.home ≡ kept.home) }
-    ensures taken { IfOk result (λ new. taken_of new (both_bytes whole.now upper.new) ≤ taken_of kept (both_bytes whole.now upper.old)) }
-    ensures fits { IfOk result (λ new. FitsSpilled B.Board board.new new (both_bytes whole.now upper.new)) }
-    ensures falls { OnOk result (left_to_copy whole.now upper.new None ≤ left_chunks kept (both_bytes whole.now upper.old)) }
+    ensures size { IfOk result (λ new. new.sector_bytes ≡ kept.sector_bytes) }
+    ensures taken { IfOk result (λ new. taken_of new images.new ≤ taken_of kept images.old) }
+    ensures fits { IfOk result (λ new. FitsSpilled B.Board board.new new images.new) }
+    ensures falls { OnOk result (left_to_copy images.new.whole images.new.upper None ≤ left_chunks kept images.old) }
     ensures changes { Changes B.Board board.old board.new (KeepsBytes 0) (KeepsBytes 0) }
     ensures erases { ErasesNothing B.Board board.old board.new }
     ensures programs { (B.moment board.new).programs ≤ raised_by 34 (B.moment board.old).programs }
@@ -247,9 +294,8 @@ fn finish_one<B: Board>(
     };
     let Some(torn) = log.torn else { unreachable!() };
     let chunk = torn.line as usize / 8;
-    let at = 64 * chunk;
-    let next = finish_torn(board, log, &whole[at..at + 64])?;
-    copy_bytes(chunk, whole, upper);
+    let next = finish_torn(board, log, images.chunk(chunk))?;
+    images.cover(chunk);
     Ok(Kept {
         other: Some(next),
         completable: false,
@@ -258,20 +304,19 @@ fn finish_one<B: Board>(
 }
 
 /// Completes the completable torn last entry, or else copies the first chunk that isn't covered.
-fn copy_step<B: Board>(
-    board: &mut B,
-    kept: Kept,
-    whole: &[u8],
-    upper: &mut [u8],
-) -> Result<Kept, Fault>
-    requires fits { FitsSpilled B.Board board.old kept (both_bytes whole.now upper.old) }
+fn copy_step<B: Board>(board: &mut B, kept: Kept, images: &mut Images) -> Result<Kept, Fault>
+    requires fits { FitsSpilled B.Board board.old kept images.old }
+    ensures whole { images.new.whole ≡ images.old.whole }
+    ensures ascending { kept.completable ≡ false → (chunk : ℕ) → IsFirstLeft images.old chunk →
+        OnOk result (images.new ≡ with_chunk images.old chunk) }
     ensures plain { IfOk result (λ new. new.completable ≡ false) }
     ensures guard { IfOk result (λ new. new.guard ≡ kept.guard) }
     ensures home { IfOk result (λ new. new.home ≡ kept.home) }
-    ensures taken { IfOk result (λ new. taken_of new (both_bytes whole.now upper.new) ≤ taken_of kept (both_bytes whole.now upper.old)) }
-    ensures fits { IfOk result (λ new. FitsSpilled B.Board board.new new (both_bytes whole.now upper.new)) }
-    ensures falls { OnOk result (left_to_copy whole.now upper.new None ≤ left_in kept (both_bytes whole.now upper.old) - 1) }
-    ensures idle { left_in kept (both_bytes whole.now upper.old) ≡ 0 → board.new ≡ board.old }
+    ensures size { IfOk result (λ new. new.sector_bytes ≡ kept.sector_bytes) }
+    ensures taken { IfOk result (λ new. taken_of new images.new ≤ taken_of kept images.old) }
+    ensures fits { IfOk result (λ new. FitsSpilled B.Board board.new new images.new) }
+    ensures falls { OnOk result (left_to_copy images.new.whole images.new.upper None ≤ left_in kept images.old - 1) }
+    ensures idle { left_in kept images.old ≡ 0 → board.new ≡ board.old }
     ensures changes { Changes B.Board board.old board.new (KeepsBytes 0) (KeepsBytes 0) }
     ensures erases { ErasesNothing B.Board board.old board.new }
     ensures programs { (B.moment board.new).programs ≤ raised_by 34 (B.moment board.old).programs }
@@ -279,24 +324,24 @@ fn copy_step<B: Board>(
     ensures kind { IfErr result (λ kind. kind ≡ Flash) }
 {
     if kept.completable {
-        finish_one(board, kept, whole, upper)
+        finish_one(board, kept, images)
     } else {
-        match first_left(whole, upper) {
-            Some(chunk) => copy_one(board, kept, chunk, whole, upper),
+        match images.first_left() {
+            Some(chunk) => copy_one(board, kept, chunk, images),
             None => Ok(kept),
         }
     }
 }
 
 /// Whether something is left to copy.
-fn step_of(kept: Kept, whole: &[u8], upper: &[u8]) -> CopyStep
+fn step_of(kept: Kept, images: &Images) -> CopyStep
     requires plain { kept.completable ≡ false }
-    requires whole { length whole.now ≡ storage_bytes }
-    requires upper { length upper.now ≡ storage_bytes }
+    requires whole { length images.now.whole ≡ storage_bytes }
+    requires upper { length images.now.upper ≡ storage_bytes }
     ensures kept { kept_in result ≡ kept }
-    ensures last { IsTrue (is_whole result) ↔ (left_to_copy whole.now upper.now None ≡ 0) }
+    ensures last { IsTrue (is_whole result) ↔ (left_to_copy images.now.whole images.now.upper None ≡ 0) }
 {
-    match first_left(whole, upper) {
+    match images.first_left() {
         Some(_) => CopyStep::More(Spilled { kept }),
         None => CopyStep::Whole(Copied { kept }),
     }

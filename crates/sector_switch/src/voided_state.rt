@@ -4,13 +4,14 @@ ghost use Rattle.flash_traits.specs.declared.board.Fault.TheVariants.{Flash};
 ghost use Rattle.flash_traits.specs.Losses.{after_erase};
 ghost use Rattle.flash_traits.specs.Calls.{Changes};
 ghost use Rattle.flash_traits.specs.Causes.{HasCause};
-ghost use Rattle.sector_switch.specs.Images.{Bytes};
-ghost use Rattle.sector_switch.specs.Losses.{KeepsBytes};
-ghost use Rattle.sector_switch.specs.Fits.{FitsVoided, FitsErased};
+ghost use Rattle.sector_image.specs.Images.{Bytes};
+ghost use Rattle.sector_image.specs.Losses.{KeepsBytes};
+ghost use Rattle.sector_image.specs.Fits.{FitsAlone, FitsVoided};
+ghost use Rattle.sector_switch.specs.States.{FitsErased, alone_from};
 
-use crate::flash::second_sector;
-use crate::{Erased, Kept};
+use crate::{Alone, Erased, Kept};
 use flash_traits::{Board, Fault};
+use guard_row::second_sector;
 use std::marker::Model;
 
 /// One sector is in use and has all bytes, and the words of the other mean nothing.
@@ -20,7 +21,7 @@ pub struct Voided {
 }
 
 impl Model for Voided {
-    ghost use Rattle.sector_switch.specs.declared.kept.Kept.{Kept};
+    ghost use Rattle.sector_image.specs.declared.kept.Kept.{Kept};
 
     ghost Value = { Kept };
 
@@ -40,6 +41,22 @@ impl Voided {
     {
         let kept = erase_void(board, self.kept)?;
         Ok(Erased { kept })
+    }
+
+    /// Erases the void sector and makes it available, beside the other one as home. A loss inside leaves the bytes of
+    /// before.
+    pub fn settle<B: Board>(self, board: &mut B) -> Result<Alone, Fault>
+        requires fits { (images : Bytes) × FitsVoided B.Board board.old self images }
+        ensures fits { IfOk result (λ alone. (images : Bytes) →
+            FitsVoided B.Board board.old self images → FitsAlone B.Board board.new alone images) }
+        ensures kept { IfOk result (λ alone. alone ≡ alone_from self) }
+        ensures changes { Changes B.Board board.old board.new (KeepsBytes 1) (KeepsBytes 1) }
+        ensures cause { HasCause Flash (B.faults board.old) (B.faults board.new) result }
+        ensures kind { IfErr result (λ kind. kind ≡ Flash) }
+    {
+        let erased = self.erase(board)?;
+        let alone = erased.open(board)?;
+        Ok(alone)
     }
 }
 

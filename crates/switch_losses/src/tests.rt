@@ -1,7 +1,7 @@
 ghost use Rattle.std.specs.Prelude.{◌≡◌, IfOk};
 
 use byteorder::{ByteOrder, LittleEndian};
-use flash_board::{Board, Fault, LogError, MemBoard, Region};
+use flash_board::{Board, Event, Failed, Fault, Geometry, LogError, MemBoard, Region};
 use sector_log::{header_of, scan};
 use sector_switch::{CopyStep, Images, RecoverError, Shape, recover, survey};
 use std::alloc::Global;
@@ -327,6 +327,85 @@ fn a_scan_agrees_with_a_plain_reading(rt: HostRuntime) -> Result<(), Fail> {
             (end, place)
         };
         assert_eq!(rt; found, told);
+    }
+    Ok(())
+}
+
+/// A voided image of 16,384-byte sectors: the guard row's count is 1, and sector 1 is in use. Each
+/// read of sector 0, which is void, fails. Nothing is told, and each count stands at its end.
+#[derive(Drop)]
+struct VoidFails;
+
+impl Board for VoidFails {
+    ghost use Rattle.std.specs.Prelude.{ℕ, [], ◌-◌, ◌^◌};
+
+    ghost sector_bytes = { λ _. 16384 };
+
+    ghost tells = { λ _. ⊥ };
+
+    ghost words = { λ _. record { s0 = []; s1 = []; guard = [] } };
+
+    ghost has_lists = { λ _ _ _. Unit {0} };
+
+    ghost moment = { λ _. record { programs = 2 ^ 64 - 1; erases = 2 ^ 64 - 1; receptions = 2 ^ 64 - 1; sendings = 2 ^ 64 - 1 } };
+
+    ghost now = { λ _ _. ⊥ };
+
+    ghost left = { λ _ _ _. ⊥ };
+
+    ghost faults = { λ _ _. 2 ^ 64 - 1 };
+
+    ghost reads = { λ b o now. absurd now };
+
+    ghost counts_now = { λ b t o le now. now };
+
+    ghost only_now = { λ b o left. left };
+
+    ghost shape = { λ b told known. absurd told };
+
+    fn attach(&mut self, _name: &str, _port: u16, _make: Option<u32>) -> Result<Geometry, Failed> {
+        Err(Failed)
+    }
+
+    fn geometry(&self) -> Geometry {
+        Geometry {
+            sector_bytes: 16_384,
+        }
+    }
+
+    fn read(&mut self, region: Region, at: u32) -> Result<u16, Failed> {
+        match (region, at) {
+            (Region::S0, _) => Err(Failed),
+            (Region::S1, 0) => Ok(0x5BFE),
+            (Region::S1, 1) => Ok(0x5168),
+            (Region::Guard, 0) => Ok(0),
+            _ => Ok(0xFFFF),
+        }
+    }
+
+    fn program(&mut self, _region: Region, _at: u32, _word: u16) -> Result<(), Failed> {
+        Err(Failed)
+    }
+
+    fn erase(&mut self, _region: Region) -> Result<(), Failed> {
+        Err(Failed)
+    }
+
+    fn recv(&mut self, _into: &mut [u8]) -> Result<Event, Failed> {
+        Err(Failed)
+    }
+
+    fn send(&mut self, _peer: u8, _bytes: &[u8]) -> Result<(), Failed> {
+        Err(Failed)
+    }
+}
+
+#[test]
+fn a_survey_reads_nothing_of_a_void_sector(rt: HostRuntime) -> Result<(), Fail> {
+    let mut images = Images::new(rt.alloc())?;
+    match survey(&mut VoidFails, &mut images) {
+        Ok(survey) => assert_eq!(rt; survey.shape, Shape::Voided),
+        Err(_) => return Err(Fail::from("survey")),
     }
     Ok(())
 }

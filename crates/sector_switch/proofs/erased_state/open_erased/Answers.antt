@@ -1,5 +1,5 @@
 use Rattle.std.proofs.Common.{ℕ, inr, sym, subst}
-use Rattle.sector_switch.specs.Fits.{FitsAlone}
+use Rattle.sector_image.specs.Fits.{FitsAlone}
 use Rattle.flash_traits.specs.Pairs.{ProgramsPair, PairMayLeave}
 use Rattle.flash_traits.specs.Calls.{Changes}
 use Rattle.flash_traits.specs.declared.board.Region.{Region}

@@ -1,5 +1,9 @@
-use Rattle.std.proofs.Common.{arith}
-use Rattle.sector_switch.proofs.SpilledCalls.{then_keeps, more_keeps}
+use Rattle.std.proofs.Common.{ℕ, ◌+◌, ◌*◌, ◌≤◌, None, List, subst, arith}
+use Rattle.std.proofs.lemmas.Result.{IfOk-weaker}
+use Rattle.sector_image.specs.declared.kept.Kept.{Kept}
+use Rattle.sector_image.specs.Room.{left_to_copy}
+use Rattle.sector_switch.specs.States.{taken_of}
+use Rattle.sector_image.proofs.Keeping.{then_keeps, more_keeps}
 use Rattle.sector_switch.proofs.recovery.finish_marked.Goals as goal
 
 pub returns-in-Ok-clause-changes : goal.returns-in-Ok-clause-changes
@@ -7,3 +11,12 @@ returns-in-Ok-clause-changes g c = then_keeps g.B.Board g.met.B.Board.reads 0 2 
 
 pub returns-in-Err-clause-changes : goal.returns-in-Err-clause-changes
 returns-in-Err-clause-changes g c = more_keeps g.B.Board g.met.B.Board.reads 0 2 (omega arith) c.in-Err.ensures.changes
+
+pub returns-in-Ok-clause-filled : goal.returns-in-Ok-clause-filled
+returns-in-Ok-clause-filled g c = IfOk-weaker c.finish_spilled.result _ _ (λ alone filled. record {
+  zeros = c.open.new.images.upper;
+  size = c.open.ensures.size;
+  each = c.open.ensures.cleared;
+  most = subst (λ (w : List ℕ). 2 * alone.home.end ≤ 2 * 2 + 66 * left_to_copy w c.open.new.images.upper None) c.open.ensures.whole
+      (subst (λ (k : Kept). 2 * alone.home.end ≤ taken_of k c.open.new.images) c.in-Ok.ensures.kept filled);
+}) c.finish_spilled.ensures.filled

@@ -1,8 +1,9 @@
 use Rattle.std.proofs.Common.{sym, ◌∙◌, ap, subst}
 use Rattle.std.proofs.lemmas.Result.{IfOk-weaker}
 use Rattle.flash_traits.specs.Words.{Words}
-use Rattle.sector_switch.specs.Stands.{Reads, count_in, count_after, is_alone, is_due}
-use Rattle.sector_switch.proofs.RecoveryLemmas.{found, found_as, reads_keep, reads_then_keep, worn_through}
+use Rattle.sector_image.specs.Stands.{Reads, count_in, count_after, is_alone, is_due}
+use Rattle.sector_image.proofs.ImageLaws.{never_both}
+use Rattle.sector_switch.proofs.RecoveryLemmas.{copied_from, found, found_as, reads_keep, reads_then_keep, worn_through}
 use Rattle.sector_switch.proofs.recovery.recover.Goals as goal
 
 pub returns-in-Ok-clause-changes : goal.returns-in-Ok-clause-changes
@@ -42,3 +43,13 @@ returns-in-Ok-clause-used_up g c = λ told reading reads due count.
     let is = found g.B.Board c.survey.new.board c.in-Ok.survey.shape c.in-Ok.survey.kept c.survey.new.images c.in-Ok.ensures.fits told_mid in
     let same = found_as (g.B.Board.words c.survey.new.board) (g.B.Board.words c.args.board.now) c.in-Ok.survey.shape c.in-Ok.survey.kept reading is (c.in-Ok.ensures.reads.changes.content told_mid) reads in
     c.settle.ensures.used_up (sym is.due ∙ ap is_due same ∙ due) (sym is.count ∙ ap count_in same ∙ count)
+
+pub returns-in-Ok-clause-copied : goal.returns-in-Ok-clause-copied
+returns-in-Ok-clause-copied g c = copied_from g.B.Board c.survey.new.board c.settle.new.board (g.B.Board.words c.args.board.now) c.in-Ok.survey.shape c.in-Ok.survey.kept c.survey.new.images c.settle.result
+    c.in-Ok.ensures.fits (λ told. c.settle.ensures.changes.told told) (λ told. c.in-Ok.ensures.reads.changes.content told)
+    c.settle.ensures.home_alone c.settle.ensures.home_marked c.settle.ensures.home_spilled c.settle.ensures.home_voided
+
+pub returns-in-Ok-clause-left_alone : goal.returns-in-Ok-clause-left_alone
+returns-in-Ok-clause-left_alone g c = λ told place bad.
+    let stands = c.in-Ok.ensures.stands (c.settle.ensures.changes.told told) in
+    absurd (never_both (g.B.Board.words c.args.board.now) stands.0 place stands.1 bad)

@@ -1,5 +1,5 @@
 use Rattle.std.proofs.Common.{arith}
-use Rattle.sector_switch.proofs.SpilledCalls.{still_keeps, more_keeps}
+use Rattle.sector_image.proofs.Keeping.{still_keeps, more_keeps}
 use Rattle.sector_switch.proofs.recovery.settle.Goals as goal
 
 pub returns-in-Alone-clause-changes : goal.returns-in-Alone-clause-changes

@@ -2,14 +2,16 @@ use Rattle.std.proofs.Common.{◌≡◌, ℕ, ◌+◌, ◌-◌, ◌*◌, ◌≤�
 use Rattle.std.specs.Option.{option_map_or}
 use Rattle.sector_log.specs.declared.log.Log.{Log}
 use Rattle.flash_traits.specs.Values.{put}
-use Rattle.sector_switch.specs.declared.kept.Kept.{Kept}
-use Rattle.sector_switch.specs.Images.{Bytes, both_bytes}
-use Rattle.sector_switch.specs.Room.{left_to_copy}
-use Rattle.sector_switch.specs.Losses.{Puts}
-use Rattle.sector_switch.specs.Fits.{torn_chunk, left_chunks, left_in, room_of}
+use Rattle.sector_image.specs.declared.kept.Kept.{Kept}
+use Rattle.sector_image.specs.Images.{Bytes, both_bytes}
+use Rattle.sector_image.specs.Room.{left_to_copy}
+use Rattle.sector_image.specs.Losses.{Puts}
+use Rattle.sector_image.specs.Fits.{torn_chunk, left_chunks}
+use Rattle.sector_switch.specs.States.{left_in, room_of}
 use Rattle.sector_switch.proofs.SpilledLemmas.{put_left}
 use Rattle.sector_switch.proofs.Left.{chunk_of_state}
-use Rattle.sector_switch.proofs.SpilledCalls.{at_err, put_changes_err, put_changes_ok, put_fits, rules_of}
+use Rattle.sector_image.proofs.Keeping.{at_err}
+use Rattle.sector_switch.proofs.SpilledCalls.{put_changes_err, put_changes_ok, put_fits, rules_of}
 use Rattle.sector_switch.proofs.spilled_state.put_spilled.Goals as goal
 
 fits_inside : (first : ℕ) (bytes whole : List ℕ) → length bytes ≡ 8 * (length bytes / 8) → first + length bytes / 8 ≤ 1920 → length whole ≡ 15360 → 8 * first + length bytes ≤ length whole
@@ -26,35 +28,34 @@ room_at size bytes kept log images is same room =
 
 pub returns-in_err-next-clause-changes : goal.returns-in_err-next-clause-changes
 returns-in_err-next-clause-changes g c =
-    let images = both_bytes c.args.whole.now c.args.upper.now in
+    let images = c.args.images.now in
     let rules = rules_of g.B.Board c.args.board.now c.args.kept images c.in-Some.log c.requires.fits c.in-Some.is in
     at_err g.B.Board c.from_residual.result (Puts c.args.first c.args.bytes.now) c.from_residual.ensures.0
     (put_changes_err g.B.Board g.met.B.Board.reads g.met.B.Board.shape c.args.board.now c.append.new.board c.args.kept c.in-Some.log images c.requires.fits c.in-Some.is
-    c.args.first (length c.args.bytes.now / 8) c.args.bytes.now c.requires.lines.whole (fits_inside c.args.first c.args.bytes.now c.args.whole.now c.requires.lines.whole c.requires.lines.inside rules.home.whole_size)
+    c.args.first (length c.args.bytes.now / 8) c.args.bytes.now c.requires.lines.whole (fits_inside c.args.first c.args.bytes.now c.args.images.now.whole c.requires.lines.whole c.requires.lines.inside rules.home.whole_size)
     (λ k. omega (arith, c.type_inv.bytes k)) (room_at (g.B.Board.sector_bytes c.args.board.now) (length c.args.bytes.now) c.args.kept c.in-Some.log images c.in-Some.is rules.home.size c.requires.room) c.in_err-next.ensures.changes)
 
 pub returns-clause-changes : goal.returns-clause-changes
 returns-clause-changes g c =
-    let images = both_bytes c.args.whole.now c.args.upper.now in
+    let images = c.args.images.now in
     let rules = rules_of g.B.Board c.args.board.now c.args.kept images c.in-Some.log c.requires.fits c.in-Some.is in
     put_changes_ok g.B.Board g.met.B.Board.reads g.met.B.Board.shape c.args.board.now c.append.new.board c.args.kept c.in-Some.log images c.requires.fits c.in-Some.is
-    c.args.first (length c.args.bytes.now / 8) c.args.bytes.now c.requires.lines.whole (fits_inside c.args.first c.args.bytes.now c.args.whole.now c.requires.lines.whole c.requires.lines.inside rules.home.whole_size)
+    c.args.first (length c.args.bytes.now / 8) c.args.bytes.now c.requires.lines.whole (fits_inside c.args.first c.args.bytes.now c.args.images.now.whole c.requires.lines.whole c.requires.lines.inside rules.home.whole_size)
     (λ k. omega (arith, c.type_inv.bytes k)) (room_at (g.B.Board.sector_bytes c.args.board.now) (length c.args.bytes.now) c.args.kept c.in-Some.log images c.in-Some.is rules.home.size c.requires.room) c.in_ok-next.ensures.changes
 
 pub returns-clause-fits : goal.returns-clause-fits
 returns-clause-fits g c =
-    let images = both_bytes c.args.whole.now c.args.upper.now in
+    let images = c.args.images.now in
     let rules = rules_of g.B.Board c.args.board.now c.args.kept images c.in-Some.log c.requires.fits c.in-Some.is in
     put_fits g.B.Board g.met.B.Board.reads g.met.B.Board.shape c.args.board.now c.append.new.board c.args.kept c.in-Some.log images c.requires.fits c.in-Some.is
-    c.args.first (length c.args.bytes.now / 8) c.args.bytes.now c.requires.lines.whole (fits_inside c.args.first c.args.bytes.now c.args.whole.now c.requires.lines.whole c.requires.lines.inside rules.home.whole_size)
+    c.args.first (length c.args.bytes.now / 8) c.args.bytes.now c.requires.lines.whole (fits_inside c.args.first c.args.bytes.now c.args.images.now.whole c.requires.lines.whole c.requires.lines.inside rules.home.whole_size)
     (λ k. omega (arith, c.type_inv.bytes k)) (room_at (g.B.Board.sector_bytes c.args.board.now) (length c.args.bytes.now) c.args.kept c.in-Some.log images c.in-Some.is rules.home.size c.requires.room)
-    c.in_ok-next.next c.put_lines.new.into c.put_lines-2.new.into c.in_ok-next.ensures.changes c.in_ok-next.ensures.log c.put_lines.ensures c.put_lines-2.ensures
+    c.in_ok-next.next c.put_lines.new.self c.in_ok-next.ensures.changes c.in_ok-next.ensures.log c.put_lines.ensures
 
 pub returns-clause-left : goal.returns-clause-left
 returns-clause-left g c =
-    let images = both_bytes c.args.whole.now c.args.upper.now in
+    let images = c.args.images.now in
     let rules = rules_of g.B.Board c.args.board.now c.args.kept images c.in-Some.log c.requires.fits c.in-Some.is in
     let less = put_left (g.B.Board.sector_bytes c.args.board.now) c.args.kept c.in-Some.log images rules c.args.first (length c.args.bytes.now / 8) c.args.bytes.now c.requires.lines.whole
-    (fits_inside c.args.first c.args.bytes.now c.args.whole.now c.requires.lines.whole c.requires.lines.inside rules.home.whole_size) in
-    subst (λ (w : List ℕ). left_to_copy w c.put_lines-2.new.into None ≤ left_in c.args.kept images) (sym c.put_lines.ensures)
-    (subst (λ (u : List ℕ). left_to_copy (put (8 * c.args.first) c.args.bytes.now c.args.whole.now) u None ≤ left_in c.args.kept images) (sym c.put_lines-2.ensures) less)
+    (fits_inside c.args.first c.args.bytes.now c.args.images.now.whole c.requires.lines.whole c.requires.lines.inside rules.home.whole_size) in
+    subst (λ (now : Bytes). left_to_copy now.whole now.upper None ≤ left_in c.args.kept images) (sym c.put_lines.ensures) less

@@ -1,7 +1,7 @@
 use Rattle.std.proofs.Common.{sym, subst}
-use Rattle.sector_switch.specs.declared.kept.Kept.{Kept}
-use Rattle.sector_switch.specs.Fits.{FitsCopied}
-use Rattle.sector_switch.proofs.SpilledCalls.{still_keeps}
+use Rattle.sector_image.specs.declared.kept.Kept.{Kept}
+use Rattle.sector_switch.specs.States.{FitsCopied}
+use Rattle.sector_image.proofs.Keeping.{still_keeps}
 use Rattle.sector_switch.proofs.copied_state.Copied.void.Goals as goal
 
 pub returns-then-kept-eq8192-clause-changes : goal.returns-then-kept-eq8192-clause-changes

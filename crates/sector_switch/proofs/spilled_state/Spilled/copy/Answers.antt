@@ -1,9 +1,10 @@
 use Rattle.std.proofs.Common.{◌≤◌, refl, sym, ◌∙◌, ap, subst, arith}
 use Rattle.flash_traits.proofs.Moments.{chained_erases_nothing}
 use Rattle.sector_switch.specs.declared.spilled_state.CopyStep.{CopyStep}
-use Rattle.sector_switch.specs.Fits.{FitsSpilled, taken_of, left_chunks}
+use Rattle.sector_image.specs.Fits.{FitsSpilled, left_chunks}
+use Rattle.sector_switch.specs.States.{taken_of}
 use Rattle.sector_switch.specs.Refusals.{kept_in}
-use Rattle.sector_switch.proofs.SpilledCalls.{still_keeps, then_keeps}
+use Rattle.sector_image.proofs.Keeping.{still_keeps, then_keeps}
 use Rattle.sector_switch.proofs.spilled_state.Spilled.copy.Goals as goal
 
 pub loop-next-init : goal.loop-next-init
@@ -13,6 +14,7 @@ loop-next-init g c = record {
   taken = omega arith;
   guard = refl;
   home = refl;
+  size = refl;
   changes = still_keeps g.B.Board g.met.B.Board.reads c.args.board.now 0;
   erases = record { erases = refl };
   later = λ k. omega arith;
@@ -32,6 +34,7 @@ loop-next-preserved g c = record {
   );
   guard = ap (λ (s : CopyStep). (kept_in s).guard) (sym c.in-More.is) ∙ c.in_ok-next.ensures.guard ∙ c.loop-next.invariant.guard;
   home = ap (λ (s : CopyStep). (kept_in s).home) (sym c.in-More.is) ∙ c.in_ok-next.ensures.home ∙ c.loop-next.invariant.home;
+  size = ap (λ (s : CopyStep). (kept_in s).sector_bytes) (sym c.in-More.is) ∙ c.in_ok-next.ensures.size ∙ c.loop-next.invariant.size;
   changes = then_keeps g.B.Board g.met.B.Board.reads 0 0 c.loop-next.invariant.changes c.in_ok-next.ensures.changes;
   erases = chained_erases_nothing g.B.Board c.loop-next.invariant.erases c.in_ok-next.ensures.erases;
   later = λ k. omega (arith, c.loop-next.invariant.later k, c.in_ok-next.ensures.cause.later k);

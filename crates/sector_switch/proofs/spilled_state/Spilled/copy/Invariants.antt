@@ -1,7 +1,8 @@
 use Rattle.std.proofs.Common.{◌≡◌, ◌≤◌}
 use Rattle.flash_traits.specs.Calls.{Changes, ErasesNothing}
-use Rattle.sector_switch.specs.Losses.{KeepsBytes}
-use Rattle.sector_switch.specs.Fits.{FitsSpilled, left_in, taken_of}
+use Rattle.sector_image.specs.Losses.{KeepsBytes}
+use Rattle.sector_image.specs.Fits.{FitsSpilled}
+use Rattle.sector_switch.specs.States.{left_in, taken_of}
 use Rattle.sector_switch.proofs.spilled_state.Spilled.copy.Given as goal
 
 abbrev pub invariant-loop-next : goal.invariant-loop-next
@@ -11,6 +12,7 @@ invariant-loop-next g l = record {
   taken : taken_of l.state l.images ≤ taken_of l.fn.self l.fn.images;
   guard : l.state.guard ≡ l.fn.self.guard;
   home : l.state.home ≡ l.fn.self.home;
+  size : l.state.sector_bytes ≡ l.fn.self.sector_bytes;
   changes : Changes g.B.Board l.fn.board l.board (KeepsBytes 0) (KeepsBytes 0);
   erases : ErasesNothing g.B.Board l.fn.board l.board;
   later : (k : _) → g.B.Board.faults l.fn.board k ≤ g.B.Board.faults l.board k;

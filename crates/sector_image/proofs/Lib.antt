@@ -1,0 +1,11 @@
+pub mod Counts
+pub mod ChunkLemmas
+pub mod Rooms
+pub mod Values
+pub mod Pushed
+pub mod Regions
+pub mod LawsBelow
+pub mod ImageLaws
+pub mod Standing
+pub mod Keeping
+pub mod SurveyLemmas

@@ -1,0 +1,9 @@
+pub mod Room
+pub mod Images
+pub mod Stands
+pub mod FirstBad
+pub mod Losses
+pub mod Fits
+pub mod Surveys
+pub mod Refusals
+pub mod Laws
