@@ -6,8 +6,8 @@ use Rattle.flash_traits.specs.declared.board.Board.{Ghosts}
 use Rattle.flash_traits.specs.Calls.{Changes}
 use Rattle.flash_traits.proofs.Moments.{first_words, chained_words}
 use Rattle.storage_lines.specs.declared.lines.LineWrite.{LineWrite}
-use Rattle.sector_switch.specs.Stands.{Stands}
-use Rattle.sector_switch.specs.Losses.{RaisesGuard, KeepsBytes, Puts, MayPut}
+use Rattle.sector_image.specs.Stands.{Stands}
+use Rattle.sector_image.specs.Losses.{RaisesGuard, KeepsBytes, Puts, MayPut}
 use Rattle.block_store.specs.Losses.{PutsLines, MayPutLines}
 use Rattle.block_store.specs.Store.{Store, State, raise}
 use Rattle.block_store.specs.Inside.{due_in}

@@ -5,8 +5,8 @@ use Rattle.storage_lines.specs.declared.lines.LineWrite.{LineWrite}
 use Rattle.storage_lines.specs.declared.lines.TheConstants.{STORAGE_BYTES}
 use Rattle.storage_lines.specs.Lines.{after}
 use Rattle.flash_traits.specs.Values.{put}
-use Rattle.sector_switch.specs.Stands.{Stands}
-use Rattle.sector_switch.specs.Losses.{RaisesGuard}
+use Rattle.sector_image.specs.Stands.{Stands}
+use Rattle.sector_image.specs.Losses.{RaisesGuard}
 
 -- the number of the first line
 abbrev pub first_line : List LineWrite → ℕ

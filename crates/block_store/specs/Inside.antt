@@ -1,8 +1,8 @@
 -- How the state inside a store is seen, and what a spilled one keeps free.
 use Rattle.std.specs.Prelude.{◌≡◌, ℕ, ◌+◌, ◌≤◌, length, if◌then◌else◌}
 use Rattle.storage_lines.specs.declared.lines.TheConstants.{STORAGE_BYTES}
-use Rattle.sector_switch.specs.Images.{Bytes}
-use Rattle.sector_switch.specs.Fits.{taken_of}
+use Rattle.sector_image.specs.Images.{Bytes}
+use Rattle.sector_switch.specs.States.{taken_of}
 use Rattle.block_store.specs.declared.State.{State as Inner}
 use Rattle.block_store.specs.declared.State.TheVariants as inner
 use Rattle.block_store.specs.Store.{State, Alone, Spilled, Spent, lacks_in}

@@ -3,8 +3,8 @@ use Rattle.std.specs.Prelude.{◌⊎◌, ℕ, List}
 use Rattle.flash_traits.specs.Words.{Words}
 use Rattle.storage_lines.specs.declared.lines.LineWrite.{LineWrite}
 use Rattle.storage_lines.specs.Lines.{after}
-use Rattle.sector_switch.specs.Stands.{Stands}
-use Rattle.sector_switch.specs.Losses.{RaisesGuard}
+use Rattle.sector_image.specs.Stands.{Stands}
+use Rattle.sector_image.specs.Losses.{RaisesGuard}
 
 -- The words stand for the bytes that they stood for with these writes, and the guard count rose by at most so much.
 pub record PutsLines (most : ℕ) (writes : List LineWrite) (old new : Words) : Type 0 where

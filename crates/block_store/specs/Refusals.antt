@@ -2,10 +2,10 @@
 use Rattle.std.specs.Prelude.{◌≡◌, ℕ}
 use Rattle.flash_traits.specs.declared.board.Board.{Ghosts}
 use Rattle.flash_traits.specs.declared.board.Fault.{Fault}
-use Rattle.sector_switch.specs.declared.kept.Kept.{Kept}
-use Rattle.sector_switch.specs.FirstBad.{Place, place_of}
-use Rattle.sector_switch.specs.Images.{Bytes}
-use Rattle.sector_switch.specs.Fits.{FitsCopied}
+use Rattle.sector_image.specs.declared.kept.Kept.{Kept}
+use Rattle.sector_image.specs.FirstBad.{Place, place_of}
+use Rattle.sector_image.specs.Images.{Bytes}
+use Rattle.sector_switch.specs.States.{FitsCopied}
 use Rattle.block_store.specs.declared.OpenError.{OpenError}
 use Rattle.block_store.specs.declared.OpenError.TheVariants as open_error
 use Rattle.block_store.specs.declared.PutError.{PutError}

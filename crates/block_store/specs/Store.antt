@@ -5,10 +5,11 @@ use Rattle.flash_traits.specs.Budget.{budget_of}
 use Rattle.flash_traits.specs.declared.board.Board.{Ghosts}
 use Rattle.storage_lines.specs.declared.lines.LineWrite.{LineWrite}
 use Rattle.storage_lines.specs.declared.lines.TheConstants.{LINES}
-use Rattle.sector_switch.specs.declared.kept.Kept.{Kept}
-use Rattle.sector_switch.specs.Images.{Bytes}
-use Rattle.sector_switch.specs.Fits as fits
-use Rattle.sector_switch.specs.Fits.{FitsAlone, FitsSpilled}
+use Rattle.sector_image.specs.declared.kept.Kept.{Kept}
+use Rattle.sector_image.specs.Images.{Bytes}
+use Rattle.sector_image.specs.Fits as fits
+use Rattle.sector_switch.specs.States as states
+use Rattle.sector_image.specs.Fits.{FitsAlone, FitsSpilled}
 
 -- One sector has all bytes; or home is full and the other sector takes the entries; or a call has failed, and the
 -- board is to be opened again.
@@ -76,7 +77,7 @@ guard_ahead store = guard_of store + (if is_spilled store then 2 else 0)
 -- those of the other sector less what is kept for the copy.
 abbrev pub room_in : State → Bytes → ℕ
 room_in (Alone kept) bytes = fits.free_of kept
-room_in (Spilled kept) bytes = fits.room_of kept bytes
+room_in (Spilled kept) bytes = states.room_of kept bytes
 room_in Spent bytes = 0
 
 abbrev pub room_of : Store → ℕ
@@ -94,7 +95,7 @@ free_of store = free_in store.state
 -- What an armed vehicle may still write: ten bytes for each line of the budget, and the room of a spilled store.
 abbrev pub spare_in : State → Bytes → ℕ
 spare_in (Alone kept) bytes = 10 * budget_of kept.sector_bytes
-spare_in (Spilled kept) bytes = fits.room_of kept bytes
+spare_in (Spilled kept) bytes = states.room_of kept bytes
 spare_in Spent bytes = 0
 
 abbrev pub spare_of : Store → ℕ

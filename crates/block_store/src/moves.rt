@@ -4,10 +4,11 @@ ghost use Rattle.flash_traits.specs.declared.board.Fault.{Fault};
 ghost use Rattle.flash_traits.specs.declared.board.Fault.TheVariants.{Flash};
 ghost use Rattle.flash_traits.specs.Calls.{Changes, ErasesNothing};
 ghost use Rattle.flash_traits.specs.Causes.{HasCause, Rose};
-ghost use Rattle.sector_switch.specs.Images.{Bytes};
-ghost use Rattle.sector_switch.specs.Room.{chunks};
-ghost use Rattle.sector_switch.specs.Losses.{KeepsBytes};
-ghost use Rattle.sector_switch.specs.Fits.{FitsAlone, FitsSpilled, FitsVoided, free_of, left_chunks, taken_of, marked_from, spilled_from, alone_from};
+ghost use Rattle.sector_image.specs.Images.{Bytes};
+ghost use Rattle.flash_traits.specs.Budget.{chunks};
+ghost use Rattle.sector_image.specs.Losses.{KeepsBytes};
+ghost use Rattle.sector_image.specs.Fits.{FitsAlone, FitsSpilled, FitsVoided, free_of, left_chunks};
+ghost use Rattle.sector_switch.specs.States.{taken_of, marked_from, spilled_from, alone_from};
 ghost use Rattle.block_store.specs.Refusals.{OnFault, OnWorn, OnNoRoom, IsWorn};
 
 use crate::PutError;

@@ -9,13 +9,13 @@ use Rattle.flash_traits.specs.declared.board.Fault.{Fault}
 use Rattle.flash_traits.proofs.Moments.{chained_words, first_words, started_words, chained_erases_nothing}
 use Rattle.storage_lines.specs.declared.lines.LineWrite.{LineWrite}
 use Rattle.storage_lines.specs.Lines.{after}
-use Rattle.sector_switch.specs.Stands.{Stands}
-use Rattle.sector_switch.specs.Losses.{RaisesGuard}
-use Rattle.sector_switch.specs.Images.{Bytes}
-use Rattle.sector_switch.proofs.ImageLaws.{one_value}
-use Rattle.sector_switch.proofs.Standing.{raises_none, raises_then}
-use Rattle.sector_switch.proofs.OneLogLemmas.{stands_alone}
-use Rattle.sector_switch.proofs.SpilledLemmas.{stands_now}
+use Rattle.sector_image.specs.Stands.{Stands}
+use Rattle.sector_image.specs.Losses.{RaisesGuard}
+use Rattle.sector_image.specs.Images.{Bytes}
+use Rattle.sector_image.proofs.ImageLaws.{one_value}
+use Rattle.sector_image.proofs.Standing.{raises_none, raises_then}
+use Rattle.sector_image.proofs.Standing.{stands_alone}
+use Rattle.sector_image.proofs.Standing.{stands_now}
 use Rattle.block_store.specs.Store.{State, Alone, Spilled, Spent, Store, Fits, FitsState, durable_of, guard_of, guard_ahead, free_of, spare_of, room_of, is_alone, is_spilled, is_spent, spent, entry_bytes, lacks_room, raise}
 use Rattle.block_store.specs.Losses.{PutsLines, MayPutLines}
 use Rattle.dirty_lines.specs.Lines.{Lines, lines_of}

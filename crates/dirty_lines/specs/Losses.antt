@@ -3,8 +3,8 @@ use Rattle.std.specs.Prelude.{◌≡◌, ℕ, ◌+◌, ◌*◌, ◌<◌, List, �
 use Rattle.flash_traits.specs.Words.{Words}
 use Rattle.storage_lines.specs.declared.lines.LineWrite.{LineWrite}
 use Rattle.storage_lines.specs.Lines.{after}
-use Rattle.sector_switch.specs.Stands.{Stands}
-use Rattle.sector_switch.specs.Losses.{RaisesGuard}
+use Rattle.sector_image.specs.Stands.{Stands}
+use Rattle.sector_image.specs.Losses.{RaisesGuard}
 use Rattle.block_store.specs.Store.{Store, entry_bytes, lacks_room}
 use Rattle.dirty_lines.specs.Entries.{Cut, IsLongest, joined}
 

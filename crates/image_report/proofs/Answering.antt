@@ -4,12 +4,12 @@ use Rattle.flash_traits.specs.Words.{Words, HasShape, IsSectorSize}
 use Rattle.flash_traits.specs.declared.board.Board.{Ghosts}
 use Rattle.sector_log.specs.Bytes.{IsValue}
 use Rattle.flash_traits.specs.Calls.{OnlyReads}
-use Rattle.sector_switch.specs.Images.{Bytes}
-use Rattle.sector_switch.specs.Fits.{FitsShape}
-use Rattle.sector_switch.specs.Stands.{Reading, Stands, entries_in, count_in}
-use Rattle.sector_switch.specs.declared.kept.Kept.{Kept}
-use Rattle.sector_switch.specs.declared.kept.Shape.{Shape}
-use Rattle.sector_switch.proofs.ImageLaws.{one_reading}
+use Rattle.sector_image.specs.Images.{Bytes}
+use Rattle.sector_image.specs.Fits.{FitsShape}
+use Rattle.sector_image.specs.Stands.{Reading, Stands, entries_in, count_in}
+use Rattle.sector_image.specs.declared.kept.Kept.{Kept}
+use Rattle.sector_image.specs.declared.kept.Shape.{Shape}
+use Rattle.sector_image.proofs.ImageLaws.{one_reading}
 use Rattle.image_report.specs.declared.findings.Findings.{Findings}
 use Rattle.image_report.specs.Dumps.{IsDump, dump_text}
 use Rattle.image_report.specs.Reports.{IsFound, IsReport, report_text}

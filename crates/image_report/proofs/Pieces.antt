@@ -2,7 +2,7 @@
 use Rattle.std.proofs.Common.{◌≡◌, ℕ, List, ◌++◌, ◌∙◌, sym, ap, append_assoc}
 use Rattle.std.specs.Prelude.{Result, Ok, Err, IsErrAnd}
 use Rattle.flash_traits.specs.declared.stream.Sink.{Ghosts}
-use Rattle.sector_switch.specs.declared.kept.Shape.{Shape}
+use Rattle.sector_image.specs.declared.kept.Shape.{Shape}
 use Rattle.image_report.specs.Dumps.{head_line, param_lines, digest_line, dump_text}
 use Rattle.image_report.specs.Writes.{Writes}
 use Rattle.image_report.proofs.Writing.{writes_then, writes_cut, retext}

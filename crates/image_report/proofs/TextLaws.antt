@@ -13,10 +13,10 @@ use Rattle.sector_log.specs.Sector.{IsSector}
 use Rattle.sector_log.specs.Log.{IsLogOf, end_of, torn_of}
 use Rattle.sector_log.proofs.SectorLemmas as sectors
 use Rattle.sector_log.proofs.ValueLemmas as values
-use Rattle.sector_switch.specs.Stands.{Reading, Stands, entries_in, count_in}
-use Rattle.sector_switch.specs.declared.kept.Shape.{Shape}
-use Rattle.sector_switch.proofs.ImageLaws as image
-use Rattle.sector_switch.proofs.Regions.{big, half_of}
+use Rattle.sector_image.specs.Stands.{Reading, Stands, entries_in, count_in}
+use Rattle.sector_image.specs.declared.kept.Shape.{Shape}
+use Rattle.sector_image.proofs.ImageLaws as image
+use Rattle.sector_image.proofs.Regions.{big, half_of}
 use Rattle.image_report.specs.declared.findings.GuardFound.{GuardFound}
 use Rattle.image_report.specs.declared.findings.GuardFound.TheVariants as guard
 use Rattle.image_report.specs.declared.findings.SectorFound.{SectorFound}

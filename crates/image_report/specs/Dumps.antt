@@ -18,9 +18,9 @@ use Rattle.sha2.specs.Sha256.{sha256}
 use Rattle.flash_traits.specs.Words.{Words}
 use Rattle.flash_traits.specs.declared.board.Mark.TheVariants.{InUse, Full}
 use Rattle.sector_log.specs.Bytes.{IsValue}
-use Rattle.sector_switch.specs.Stands.{Reading, Both, One, Reads, entries_in, count_in}
-use Rattle.sector_switch.specs.declared.kept.Shape.{Shape}
-use Rattle.sector_switch.specs.declared.kept.Shape.TheVariants as shape
+use Rattle.sector_image.specs.Stands.{Reading, Both, One, Reads, entries_in, count_in}
+use Rattle.sector_image.specs.declared.kept.Shape.{Shape}
+use Rattle.sector_image.specs.declared.kept.Shape.TheVariants as shape
 use Rattle.param_tree.specs.declared.Kind.{Kind}
 use Rattle.param_tree.specs.declared.Kind.TheVariants.{I8, I16, I32, F32, Vec3}
 use Rattle.param_tree.specs.declared.Var.{Var}

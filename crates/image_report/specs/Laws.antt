@@ -1,7 +1,7 @@
 -- The laws of the two texts.
 use Rattle.std.specs.Prelude.{◌≡◌, ℕ, List}
 use Rattle.flash_traits.specs.Words.{Words, HasShape, IsSectorSize}
-use Rattle.sector_switch.specs.Stands.{Stands}
+use Rattle.sector_image.specs.Stands.{Stands}
 use Rattle.image_report.specs.Dumps.{IsDump}
 use Rattle.image_report.specs.Reports.{IsReport}
 

@@ -1,7 +1,7 @@
 -- What the answers of the calls say.
 use Rattle.std.specs.Prelude.{Result, Ok, Err}
 use Rattle.flash_traits.specs.declared.board.Fault.{Fault}
-use Rattle.sector_switch.specs.FirstBad.{Place, place_of}
+use Rattle.sector_image.specs.FirstBad.{Place, place_of}
 use Rattle.image_report.specs.declared.errors.ReportError.{ReportError}
 use Rattle.image_report.specs.declared.errors.ReportError.TheVariants as errors
 

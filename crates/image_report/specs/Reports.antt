@@ -17,8 +17,8 @@ use Rattle.sector_log.specs.declared.log.Log.{Log}
 use Rattle.sector_log.specs.Entries.{Entry}
 use Rattle.sector_log.specs.Sector as sector
 use Rattle.sector_log.specs.Log.{IsLogOf}
-use Rattle.sector_switch.specs.Stands.{Reading, Reads}
-use Rattle.sector_switch.specs.declared.kept.Shape.{Shape}
+use Rattle.sector_image.specs.Stands.{Reading, Reads}
+use Rattle.sector_image.specs.declared.kept.Shape.{Shape}
 use Rattle.image_report.specs.declared.findings.GuardFound.{GuardFound}
 use Rattle.image_report.specs.declared.findings.GuardFound.TheVariants as guard
 use Rattle.image_report.specs.declared.findings.SectorFound.{SectorFound}

@@ -6,8 +6,8 @@ use Rattle.flash_traits.specs.declared.board.Region.{Region}
 use Rattle.flash_traits.specs.declared.board.Region.TheVariants.{S0, S1, Guard}
 use Rattle.flash_traits.specs.declared.board.Mark.{Mark}
 use Rattle.flash_traits.specs.declared.board.Mark.TheVariants.{Available, InUse, Full}
-use Rattle.sector_switch.specs.declared.kept.Shape.{Shape}
-use Rattle.sector_switch.specs.declared.kept.Shape.TheVariants as shape
+use Rattle.sector_image.specs.declared.kept.Shape.{Shape}
+use Rattle.sector_image.specs.declared.kept.Shape.TheVariants as shape
 
 -- each line ends with LF (10)
 abbrev pub line_of : List ℕ → List ℕ

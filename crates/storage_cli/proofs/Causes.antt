@@ -4,9 +4,9 @@ use Rattle.flash_traits.specs.declared.board.Fault.{Fault}
 use Rattle.flash_traits.specs.declared.board.Fault.TheVariants as fault
 use Rattle.flash_traits.specs.Causes.{Rose}
 use Rattle.flash_traits.specs.Words.{Words}
-use Rattle.sector_switch.specs.FirstBad.{Place, FirstBad, place_of}
-use Rattle.sector_switch.specs.Stands.{Stands}
-use Rattle.sector_switch.proofs.ImageLaws as image
+use Rattle.sector_image.specs.FirstBad.{Place, FirstBad, place_of}
+use Rattle.sector_image.specs.Stands.{Stands}
+use Rattle.sector_image.proofs.ImageLaws as image
 use Rattle.vehicle_node.specs.declared.NodeError.{NodeError}
 use Rattle.vehicle_node.specs.declared.NodeError.TheVariants as node_error
 use Rattle.vehicle_node.specs.Refusals as node

@@ -2,7 +2,7 @@
 use Rattle.std.proofs.Common.{◌≡◌, ◌≢◌, ◌⊎◌, inl, inr, ℕ, List, refl, sym, ◌∙◌, subst, arith, Result, Err}
 use Rattle.flash_traits.specs.declared.board.Fault.{Fault}
 use Rattle.flash_traits.specs.Words.{Words}
-use Rattle.sector_switch.specs.FirstBad.{place_of}
+use Rattle.sector_image.specs.FirstBad.{place_of}
 use Rattle.storage_cli.specs.declared.endings.Served.{Served}
 use Rattle.storage_cli.specs.declared.endings.Foreign.{Foreign}
 use Rattle.storage_cli.specs.declared.endings.Stop.{Stop}

@@ -6,7 +6,7 @@ use Rattle.flash_traits.specs.Words.{Words}
 use Rattle.flash_traits.specs.Losses.{Received, SentFrame, Moment, Outcome, After}
 use Rattle.flash_traits.specs.Calls.{Passes}
 use Rattle.flash_traits.proofs.Moments.{up_to_self, chained, weaker}
-use Rattle.sector_switch.specs.Stands.{Stands}
+use Rattle.sector_image.specs.Stands.{Stands}
 use Rattle.storage_lines.specs.Lines.{after}
 use Rattle.vehicle_node.specs.Runs.{Run}
 use Rattle.vehicle_node.specs.Safe.{Safe, SafeSince, Adds}

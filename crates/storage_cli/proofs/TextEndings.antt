@@ -5,8 +5,8 @@ use Rattle.flash_traits.specs.Words.{Words}
 use Rattle.command_line.specs.Commands.{line_of}
 use Rattle.command_line.specs.Lines.{CommandLine}
 use Rattle.command_line.specs.declared.Command.{Command}
-use Rattle.sector_switch.specs.FirstBad.{Place, FirstBad}
-use Rattle.sector_switch.specs.Stands.{Stands}
+use Rattle.sector_image.specs.FirstBad.{Place, FirstBad}
+use Rattle.sector_image.specs.Stands.{Stands}
 use Rattle.image_report.specs.declared.errors.ReportError.{ReportError}
 use Rattle.image_report.specs.declared.errors.ReportError.TheVariants as errors
 use Rattle.image_report.specs.Refusals.{OnForeign, OnOutput, OnceRead}

@@ -4,7 +4,7 @@ use Rattle.flash_traits.specs.Words.{Words}
 use Rattle.flash_traits.specs.Causes.{Rose}
 use Rattle.flash_traits.specs.declared.board.Fault.{Fault}
 use Rattle.flash_traits.specs.declared.board.Fault.TheVariants as fault
-use Rattle.sector_switch.specs.FirstBad.{FirstBad, place_of}
+use Rattle.sector_image.specs.FirstBad.{FirstBad, place_of}
 use Rattle.vehicle_node.specs.declared.NodeError.{NodeError}
 use Rattle.vehicle_node.specs.declared.NodeError.TheVariants as node_error
 use Rattle.storage_cli.specs.declared.endings.Served.{Served}

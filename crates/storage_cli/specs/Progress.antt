@@ -4,7 +4,7 @@ use Rattle.flash_traits.specs.declared.board.Board.{Ghosts}
 use Rattle.flash_traits.specs.Words.{Words}
 use Rattle.flash_traits.specs.Losses.{Received, SentFrame, Outcome}
 use Rattle.flash_traits.specs.Calls.{Passes}
-use Rattle.sector_switch.specs.Stands.{Stands}
+use Rattle.sector_image.specs.Stands.{Stands}
 use Rattle.vehicle_node.specs.Safe.{Safe, SafeSince, Adds}
 use Rattle.vehicle_node.specs.Standing.{Node, StandsForRun, counts}
 use Rattle.storage_cli.specs.declared.endings.Served.{Served}

@@ -3,9 +3,9 @@ use Rattle.std.specs.Prelude.{◌≡◌, ◌≢◌, ℕ, ◌-◌, List, [], ◌�
 use Rattle.flash_traits.specs.Words.{Words}
 use Rattle.flash_traits.specs.Losses.{Received, End, SentFrame, Moment}
 use Rattle.storage_lines.specs.Lines.{after}
-use Rattle.sector_switch.specs.FirstBad.{Place, FirstBad}
-use Rattle.sector_switch.specs.Stands as image
-use Rattle.sector_switch.specs.Stands.{Stands, Reading, is_due, count_in}
+use Rattle.sector_image.specs.FirstBad.{Place, FirstBad}
+use Rattle.sector_image.specs.Stands as image
+use Rattle.sector_image.specs.Stands.{Stands, Reading, is_due, count_in}
 use Rattle.vehicle_core.specs.Acts.{Act}
 use Rattle.vehicle_node.specs.Frames.{AreFramesOf}
 use Rattle.vehicle_node.specs.Reading.{Reads, no_rests}

@@ -3,8 +3,8 @@ ghost use Rattle.std.specs.Prelude.{◌≡◌, List, ℕ, [], IfOk, IfErr, OnOk,
 ghost use Rattle.flash_traits.specs.Words.{IsSectorSize};
 ghost use Rattle.flash_traits.specs.Losses.{Received, SentFrame, Outcome};
 ghost use Rattle.flash_traits.specs.Calls.{Passes};
-ghost use Rattle.sector_switch.specs.FirstBad.{Place, FirstBad};
-ghost use Rattle.sector_switch.specs.Stands.{Stands};
+ghost use Rattle.sector_image.specs.FirstBad.{Place, FirstBad};
+ghost use Rattle.sector_image.specs.Stands.{Stands};
 ghost use Rattle.block_store.specs.Refusals.{IsWorn};
 ghost use Rattle.vehicle_node.specs.Standing.{Fits, StandsForRun};
 ghost use Rattle.storage_cli.specs.Serving.{IsUsedUp};

@@ -5,7 +5,7 @@ use Rattle.flash_traits.specs.Words.{Words}
 use Rattle.flash_traits.specs.Losses.{Received, SentFrame, Outcome}
 use Rattle.storage_lines.specs.declared.lines.LineWrite.{LineWrite}
 use Rattle.storage_lines.specs.Lines.{after}
-use Rattle.sector_switch.specs.Stands.{Stands}
+use Rattle.sector_image.specs.Stands.{Stands}
 use Rattle.block_store.specs.Store.{durable_of}
 use Rattle.dirty_lines.specs.Lines.{Lines, current_of}
 use Rattle.vehicle_core.specs.Vehicle.{Vehicle}

@@ -18,11 +18,11 @@ use Rattle.storage_lines.specs.Pieces.{Piece, writes_of, writes_of_piece}
 use Rattle.param_records.specs.Records.{magic}
 use Rattle.param_records.specs.Changes.{formatting}
 use Rattle.sector_log.specs.Bytes.{value_of}
-use Rattle.sector_switch.specs.Stands.{Stands, Reading, Reads, entries_in}
-use Rattle.sector_switch.proofs.Values.{is_value}
-use Rattle.sector_switch.specs.Losses.{KeepsBytes}
-use Rattle.sector_switch.proofs.ImageLaws.{one_value}
-use Rattle.sector_switch.specs.FirstBad.{Place}
+use Rattle.sector_image.specs.Stands.{Stands, Reading, Reads, entries_in}
+use Rattle.sector_image.proofs.Values.{is_value}
+use Rattle.sector_image.specs.Losses.{KeepsBytes}
+use Rattle.sector_image.proofs.ImageLaws.{one_value}
+use Rattle.sector_image.specs.FirstBad.{Place}
 use Rattle.block_store.specs.declared.OpenError.{OpenError}
 use Rattle.block_store.specs.declared.OpenError.TheVariants as open_error
 use Rattle.block_store.specs.Refusals.{OnOpenForeign, OnOpenWorn}

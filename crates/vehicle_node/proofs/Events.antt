@@ -5,7 +5,7 @@ use Rattle.std.proofs.lemmas.List.{length-set}
 use Rattle.flash_traits.specs.declared.board.Board.{Ghosts}
 use Rattle.flash_traits.specs.Losses.{Received, Datagram, Idle, End, SentFrame, Outcome, Unchanged, Receives, Either}
 use Rattle.flash_traits.proofs.Moments.{weaker}
-use Rattle.sector_switch.specs.Stands.{Stands}
+use Rattle.sector_image.specs.Stands.{Stands}
 use Rattle.block_store.specs.Store.{durable_of}
 use Rattle.vehicle_core.specs.Acts.{Act}
 use Rattle.vehicle_node.specs.declared.NodeError.{NodeError}

@@ -8,10 +8,10 @@ use Rattle.flash_traits.specs.Losses.{SentFrame, Outcome, KeepsWords}
 use Rattle.flash_traits.specs.Calls.{Passes}
 use Rattle.flash_traits.proofs.Moments.{weaker, chained}
 use Rattle.storage_lines.specs.declared.lines.LineWrite.{LineWrite}
-use Rattle.sector_switch.specs.Stands.{Stands}
-use Rattle.sector_switch.specs.Images.{Bytes}
-use Rattle.sector_switch.specs.Fits.{OneLogRules, OneLogWords, TwoLogRules, TwoLogWords}
-use Rattle.sector_switch.specs.declared.kept.Shape.TheVariants as shape
+use Rattle.sector_image.specs.Stands.{Stands}
+use Rattle.sector_image.specs.Images.{Bytes}
+use Rattle.sector_image.specs.Fits.{OneLogRules, OneLogWords, TwoLogRules, TwoLogWords}
+use Rattle.sector_image.specs.declared.kept.Shape.TheVariants as shape
 use Rattle.block_store.specs.Store.{Store, State, Alone, Spilled, Spent, durable_of, FitsState}
 use Rattle.block_store.specs.Store as store
 use Rattle.dirty_lines.specs.Lines.{Lines}

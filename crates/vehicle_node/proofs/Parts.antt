@@ -8,9 +8,9 @@ use Rattle.flash_traits.specs.declared.board.Board.{Ghosts}
 use Rattle.flash_traits.specs.Losses.{SentFrame, Outcome}
 use Rattle.flash_traits.proofs.Moments.{weaker}
 use Rattle.storage_lines.specs.declared.lines.LineWrite.{LineWrite}
-use Rattle.sector_switch.specs.Images.{Bytes}
-use Rattle.sector_switch.specs.Stands.{Stands}
-use Rattle.sector_switch.proofs.OneLogLemmas.{stands_alone}
+use Rattle.sector_image.specs.Images.{Bytes}
+use Rattle.sector_image.specs.Stands.{Stands}
+use Rattle.sector_image.proofs.Standing.{stands_alone}
 use Rattle.block_store.specs.Store.{State, Alone, Spilled, Spent, FitsState, alone, durable_of}
 use Rattle.vehicle_core.specs.Acts.{Act}
 use Rattle.vehicle_node.specs.declared.NodeError.{NodeError}

@@ -10,10 +10,10 @@ use Rattle.flash_traits.specs.Calls.{Changes, Passes}
 use Rattle.flash_traits.proofs.Moments.{up_to_self, weaker, elapses_of}
 use Rattle.storage_lines.specs.declared.lines.LineWrite.{LineWrite}
 use Rattle.storage_lines.specs.Lines.{after, put_line}
-use Rattle.sector_switch.specs.Stands.{Stands}
-use Rattle.sector_switch.specs.Images.{Bytes}
-use Rattle.sector_switch.proofs.OneLogLemmas.{stands_alone}
-use Rattle.sector_switch.proofs.SpilledLemmas.{stands_now}
+use Rattle.sector_image.specs.Stands.{Stands}
+use Rattle.sector_image.specs.Images.{Bytes}
+use Rattle.sector_image.proofs.Standing.{stands_alone}
+use Rattle.sector_image.proofs.Standing.{stands_now}
 use Rattle.block_store.specs.Store.{Store, State, Alone, Spilled, Spent, durable_of, FitsState}
 use Rattle.block_store.specs.Store as store
 use Rattle.dirty_lines.specs.Entries.{Cut, joined, Wrote, IsFewest}

@@ -7,7 +7,7 @@ use Rattle.flash_traits.specs.Words.{Words}
 use Rattle.flash_traits.specs.Losses.{SentFrame}
 use Rattle.storage_lines.specs.declared.lines.LineWrite.{LineWrite}
 use Rattle.storage_lines.specs.Lines.{put_line, after}
-use Rattle.sector_switch.specs.Stands.{Stands}
+use Rattle.sector_image.specs.Stands.{Stands}
 use Rattle.vehicle_core.specs.Acts.{Act}
 use Rattle.vehicle_node.specs.Frames.{Answer, IsFrameOf, AreFramesOf, numbered}
 use Rattle.vehicle_node.specs.Runs.{Run, did_in, deliveries_in, part, all_parts, finish, turn, start, run_from, run_of, floor_of}

@@ -8,9 +8,9 @@ use Rattle.flash_traits.specs.Calls.{Passes}
 use Rattle.flash_traits.specs.Losses.{Received, received, IsEventInRange, End, after_recv, ByResult, SentFrame, Outcome, After, Unchanged, Receives, Either, KeepsWords}
 use Rattle.flash_traits.proofs.Moments.{weaker}
 use Rattle.storage_lines.specs.declared.lines.LineWrite.{LineWrite}
-use Rattle.sector_switch.specs.declared.kept.Shape.TheVariants as shape
-use Rattle.sector_switch.specs.Fits.{OneLogRules, OneLogWords, TwoLogRules, TwoLogWords}
-use Rattle.sector_switch.specs.Images.{Bytes}
+use Rattle.sector_image.specs.declared.kept.Shape.TheVariants as shape
+use Rattle.sector_image.specs.Fits.{OneLogRules, OneLogWords, TwoLogRules, TwoLogWords}
+use Rattle.sector_image.specs.Images.{Bytes}
 use Rattle.block_store.specs.Store.{State, Alone, Spilled, Spent, FitsState}
 use Rattle.vehicle_node.specs.declared.NodeError.{NodeError}
 use Rattle.vehicle_node.specs.declared.Turn.{Turn}

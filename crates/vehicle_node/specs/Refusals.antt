@@ -1,7 +1,7 @@
 -- What the refusals say.
 use Rattle.std.specs.Prelude.{ℕ}
 use Rattle.flash_traits.specs.declared.board.Fault.{Fault}
-use Rattle.sector_switch.specs.FirstBad.{Place, place_of}
+use Rattle.sector_image.specs.FirstBad.{Place, place_of}
 use Rattle.vehicle_node.specs.declared.NodeError.{NodeError}
 use Rattle.vehicle_node.specs.declared.NodeError.TheVariants as node_error
 

@@ -3,7 +3,7 @@ use Rattle.std.specs.Prelude.{◌≡◌, ◌⊎◌, ◌≤◌, ℕ, ◌+◌, Lis
 use Rattle.flash_traits.specs.Words.{Words}
 use Rattle.flash_traits.specs.Losses.{Received, SentFrame, Outcome}
 use Rattle.storage_lines.specs.Lines.{after}
-use Rattle.sector_switch.specs.Stands.{Stands}
+use Rattle.sector_image.specs.Stands.{Stands}
 use Rattle.vehicle_core.specs.Acts.{Act}
 use Rattle.vehicle_node.specs.Frames.{AreFramesOf}
 use Rattle.vehicle_node.specs.Reading.{Reads, no_rests}

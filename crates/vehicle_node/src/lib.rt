@@ -12,8 +12,8 @@ ghost use Rattle.flash_traits.specs.Losses.{Received, received, End, SentFrame, 
 ghost use Rattle.flash_traits.specs.Calls.{Passes};
 ghost use Rattle.flash_traits.specs.Causes.{Rose};
 ghost use Rattle.storage_lines.specs.Lines.{after};
-ghost use Rattle.sector_switch.specs.FirstBad.{FirstBad};
-ghost use Rattle.sector_switch.specs.Stands.{Stands, Reads, is_due, count_in};
+ghost use Rattle.sector_image.specs.FirstBad.{FirstBad};
+ghost use Rattle.sector_image.specs.Stands.{Stands, Reads, is_due, count_in};
 ghost use Rattle.block_store.specs.Refusals.{IsWorn};
 ghost use Rattle.vehicle_node.specs.Runs.{Run};
 ghost use Rattle.vehicle_node.specs.Safe.{SafeSince, Adds};

@@ -1,6 +1,6 @@
 use Rattle.std.proofs.Common.{◌≡◌, ◌+◌, ◌*◌, [], length, get_or, take, sym, ◌∙◌, ap}
 use Rattle.storage_lines.specs.declared.lines.LineWrite.{LineWrite}
-use Rattle.sector_switch.proofs.SpilledCalls.{at_err}
+use Rattle.sector_image.proofs.Keeping.{at_err}
 use Rattle.block_store.specs.Store.{Store, raise, entry_bytes}
 use Rattle.block_store.specs.Losses.{PutsLines}
 use Rattle.block_store.specs.Inside.{state_of, due_in}

@@ -1,4 +1,4 @@
-use Rattle.sector_switch.proofs.SpilledCalls.{then_keeps}
+use Rattle.sector_image.proofs.Keeping.{then_keeps}
 use Rattle.block_store.proofs.moves.settle.Goals as goal
 
 pub returns-in_err-alone-clause-changes : goal.returns-in_err-alone-clause-changes

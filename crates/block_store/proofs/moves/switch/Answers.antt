@@ -1,5 +1,5 @@
 use Rattle.std.proofs.Common.{arith}
-use Rattle.sector_switch.proofs.SpilledCalls.{then_keeps, more_keeps}
+use Rattle.sector_image.proofs.Keeping.{then_keeps, more_keeps}
 use Rattle.block_store.proofs.moves.switch.Goals as goal
 
 pub returns-in-Err-clause-changes : goal.returns-in-Err-clause-changes

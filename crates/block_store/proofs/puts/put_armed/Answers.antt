@@ -1,4 +1,4 @@
-use Rattle.sector_switch.proofs.SpilledCalls.{at_err}
+use Rattle.sector_image.proofs.Keeping.{at_err}
 use Rattle.block_store.specs.Entries.{PutsEntry}
 use Rattle.block_store.proofs.PutLemmas.{keeps_entry, then_may_put, then_puts}
 use Rattle.block_store.proofs.puts.put_armed.Goals as goal

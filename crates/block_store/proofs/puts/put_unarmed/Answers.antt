@@ -1,5 +1,5 @@
 use Rattle.std.proofs.Common.{◌+◌, length}
-use Rattle.sector_switch.proofs.SpilledCalls.{at_err}
+use Rattle.sector_image.proofs.Keeping.{at_err}
 use Rattle.block_store.specs.Inside.{state_of, due_in}
 use Rattle.block_store.specs.Entries.{PutsEntry}
 use Rattle.block_store.proofs.PutLemmas.{keeps_entry, then_may_put, then_puts}

@@ -1,8 +1,8 @@
 use Rattle.std.proofs.Common.{subst}
 use Rattle.flash_traits.specs.Words.{Words}
-use Rattle.sector_switch.specs.Stands.{Reads}
-use Rattle.sector_switch.specs.FirstBad.{place_of}
-use Rattle.sector_switch.proofs.ImageLaws.{never_both}
+use Rattle.sector_image.specs.Stands.{Reads}
+use Rattle.sector_image.specs.FirstBad.{place_of}
+use Rattle.sector_image.proofs.ImageLaws.{never_both}
 use Rattle.image_report.proofs.Found.{state_of}
 use Rattle.image_report.proofs.findings.state_found.Goals as goal
 

@@ -1,7 +1,7 @@
 use Rattle.std.proofs.Common.{◌≡◌, ◌∙◌, sym, subst, Result, true}
 use Rattle.std.specs.Prelude.{IfErr, is_err}
 use Rattle.flash_traits.specs.Words.{Words}
-use Rattle.sector_switch.specs.FirstBad.{FirstBad}
+use Rattle.sector_image.specs.FirstBad.{FirstBad}
 use Rattle.storage_cli.specs.declared.endings.Stop.{Stop}
 use Rattle.storage_cli.specs.declared.printing.Printed.{Printed}
 use Rattle.storage_cli.specs.Ends.{IsFirst}

@@ -1,7 +1,7 @@
 use Rattle.std.proofs.Common.{◌∙◌, sym, subst}
 use Rattle.flash_traits.specs.Words.{Words}
-use Rattle.sector_switch.specs.FirstBad.{FirstBad}
-use Rattle.sector_switch.specs.Stands.{Stands}
+use Rattle.sector_image.specs.FirstBad.{FirstBad}
+use Rattle.sector_image.specs.Stands.{Stands}
 use Rattle.storage_cli.proofs.Formatting.{on_ok_part}
 use Rattle.storage_cli.proofs.Serves.{safe_run, completes_attached}
 use Rattle.storage_cli.proofs.serving.serve.Goals as goal

@@ -1,9 +1,9 @@
 use Rattle.std.proofs.Common.{ℕ, List, subst, []}
-use Rattle.sector_switch.specs.FirstBad.{Place, FirstBad}
-use Rattle.sector_switch.proofs.ImageLaws.{one_value}
+use Rattle.sector_image.specs.FirstBad.{Place, FirstBad}
+use Rattle.sector_image.proofs.ImageLaws.{one_value}
 use Rattle.block_store.specs.Store.{durable_of}
 use Rattle.vehicle_node.specs.Standing.{StandsForRun}
-use Rattle.sector_switch.specs.Stands.{Stands}
+use Rattle.sector_image.specs.Stands.{Stands}
 use Rattle.vehicle_node.proofs.Passing.{adds_both}
 use Rattle.vehicle_node.proofs.Boot.{open_losses, words_here, boot_losses, stands_booted, foreign_at, worn_at, worn_anyway, read_stands}
 use Rattle.vehicle_node.proofs.Node.open.Goals as goal
