@@ -235,7 +235,10 @@ fn a_head_is_programmed_and_read(rt: HostRuntime) -> Result<(), Fail> {
         in_use: true,
         full: true,
     };
-    assert_eq!(rt; begin_sector(&mut board, Region::S0, Mark::Available), Ok(()));
+    assert_eq!(rt;
+        begin_sector(&mut board, Region::S0, Mark::Available),
+        Ok(())
+    );
     assert_eq!(rt; read_head(&mut board, Region::S0, any), Ok(Mark::Available));
     let in_use = Marks {
         available: false,
