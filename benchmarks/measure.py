@@ -1,14 +1,15 @@
 #!/usr/bin/env python3
-"""Measures the built program beside plain C on this machine: benchmarks/measure.py PROGRAM [SECONDS]
+"""Measures the built program beside plain C on this machine, and prints a table for docs/BENCHMARKS.md.
 
-- round trips a second of `serve`, for PARAM_REQUEST_READ of index 0, with one request in flight and with sixteen, beside a bare
-  UDP echo, in turns;
-- the same with a value stored for each of the 240 parameters;
-- the time of opening a full image of the largest size, beside reading the file.
+    benchmarks/measure.py PROGRAM [--turns N] [--disk FOLDER] [--memory FOLDER] [--only PART]
 
-It needs a C compiler (cc). It prints what it found and compares nothing.
+Parts: trips, lists, sets, openings. Each number of the program stands beside one of C from the same run: `echo.c` sends
+back what comes, and `floor.c` is the least server that does the same work. Program and C take turns on a processor of
+their own, the client has another; a number is the median of the turns. It needs a C compiler (cc) and compares nothing.
 """
+import argparse
 import os
+import platform
 import socket
 import statistics
 import subprocess
@@ -19,135 +20,247 @@ import time
 HERE = os.path.dirname(os.path.abspath(__file__))
 sys.path.insert(0, os.path.join(HERE, "..", "tools"))
 import mavlink  # noqa: E402
-import parameters  # noqa: E402
+import states  # noqa: E402
+from server import END, free_port  # noqa: E402
+from vehicle import Vehicle, as_float  # noqa: E402
+
+TRIPS = 20_000  # round trips of a turn
+SETS = 1_000
+OPENINGS = 20  # starts of a turn
+PAUSE = 20e-6  # seconds between two tries
+PATIENCE = 20  # seconds until an answer is given up
+LIST_PATIENCE = 60  # seconds until a list is given up
 
 
-def free_port():
-    with socket.socket(socket.AF_INET, socket.SOCK_DGRAM) as spare:
-        spare.bind(("127.0.0.1", 0))
-        return spare.getsockname()[1]
+def processors():
+    """The words that pin a server and a client to processors of their own, where there are enough."""
+    allowed = sorted(os.sched_getaffinity(0))
+    if len(allowed) < 3:
+        return [], [], []
+    server, client = str(allowed[1]), str(allowed[2])
+    return ["taskset", "-c", server], ["taskset", "-c", client], ["taskset", "-c", f"{server},{client}"]
+
+
+def wait(port):
+    """Waits until a server at this port answers, and returns its first answer."""
+    with socket.socket(socket.AF_INET, socket.SOCK_DGRAM) as station:
+        station.settimeout(0.2)
+        station.connect(("127.0.0.1", port))
+        start = time.perf_counter()
+        while time.perf_counter() - start < PATIENCE:
+            try:
+                station.send(mavlink.request_read(0))
+                return station.recv(2048)
+            except (TimeoutError, ConnectionRefusedError):
+                time.sleep(PAUSE)
+    raise SystemExit("measure: no answer")
+
+
+class Server:
+    """A server in the background, which has answered once."""
+
+    def __init__(self, pin, words, port):
+        self.port = port
+        self.process = subprocess.Popen([*pin, *words], stdout=subprocess.DEVNULL)
+        wait(port)
+
+    def __enter__(self):
+        return self
+
+    def __exit__(self, *_):
+        self.process.kill()
+        self.process.wait()
 
 
 class Bench:
-    def __init__(self, program, seconds, folder):
-        self.program, self.seconds, self.folder = program, seconds, folder
-        self.own_port = free_port()
-        for name in ("echo", "client"):
-            subprocess.run(["cc", "-O2", "-o", os.path.join(folder, name), os.path.join(HERE, name + ".c")], check=True)
+    def __init__(self, words, folder):
+        self.program, self.turns = os.path.abspath(words.program), words.turns
+        self.folder = folder
+        self.pin_server, self.pin_client, self.pin_both = processors()
+        for name in ("echo", "client", "floor", "opener"):
+            source = os.path.join(HERE, name + ".c")
+            subprocess.run(["cc", "-O2", "-o", self.path(name), source], check=True)
 
     def path(self, name):
         return os.path.join(self.folder, name)
 
+    def write(self, name, content):
+        with open(self.path(name), "wb") as file:
+            file.write(content)
+        return self.path(name)
+
     def serve(self, image):
         port = free_port()
-        server = subprocess.Popen([self.program, "serve", image, "--port", str(port)], stdout=subprocess.DEVNULL)
-        self.wait(port)
-        return server, port
+        return Server(self.pin_server, [self.program, "serve", image, "--port", str(port)], port)
 
-    def wait(self, port):
+    def floor(self, *words):
+        port = free_port()
+        return Server(self.pin_server, [self.path("floor"), str(port), self.path("names"), *words], port)
+
+    def echo(self):
+        port = free_port()
+        return Server(self.pin_server, [self.path("echo"), str(port)], port)
+
+    def seconds(self, server, own_port, in_flight, count, requests):
+        """How long so many requests took, of the requests in a file in turn."""
+        words = [self.path("client"), str(server.port), str(own_port), str(in_flight), str(count), requests]
+        return float(subprocess.run([*self.pin_client, *words], capture_output=True, check=True).stdout)
+
+    def requests(self, name, frames):
+        return self.write(name, "".join(frame.hex() + "\n" for frame in frames).encode())
+
+    def prepare(self):
+        """Makes an empty image, and one with a value for each parameter that takes another than its default."""
+        self.empty, self.stored = self.path("empty.img"), self.path("stored.img")
+        for image in (self.empty, self.stored):
+            subprocess.run([self.program, "format", image], check=True, stdout=subprocess.DEVNULL)
+        with self.serve(self.stored) as server:
+            vehicle = Vehicle(server.port)
+            shown = vehicle.list()
+            self.names = [one["name"] for one in shown]
+            self.taken = 0
+            for one in shown:
+                value = 1.0 if one["value"] != 1.0 else 2.0
+                self.taken += vehicle.set(one["name"], value)["value"] == as_float(value)
+            vehicle.read("0")
+            vehicle.socket.send(END)
+            server.process.wait(timeout=PATIENCE)
+        self.write("names", "".join(name + "\n" for name in self.names).encode())
+
+    def copy(self, image, folder):
+        """A fresh copy of an image."""
+        with open(image, "rb") as source:
+            content = source.read()
+        copy = os.path.join(folder, "vehicle.img")
+        with open(copy, "wb") as file:
+            file.write(content)
+        return copy
+
+    def trips(self):
+        by_name = [mavlink.request_read(-1, name=name) for name in self.names]
+        cases = [
+            ("index 0, nothing stored", self.empty, [mavlink.request_read(0)]),
+            (f"each name in turn, {self.taken} values stored", self.stored, by_name),
+            (f"the last name, {self.taken} values stored", self.stored, by_name[-1:]),
+        ]
+        table("Round trips a second, PARAM_REQUEST_READ", ["in flight", "serve", "C server", "C echo", "of C server", "of echo"])
+        for title, image, frames in cases:
+            requests = self.requests("requests", frames)
+            with self.serve(self.copy(image, self.folder)) as ours, self.floor() as floor, self.echo() as echo:
+                servers = [(server, free_port()) for server in (ours, floor, echo)]
+                for in_flight in (1, 16):
+                    took = [[self.seconds(server, own, in_flight, TRIPS, requests) for server, own in servers] for _ in range(self.turns)]
+                    rates = [TRIPS / statistics.median(column) for column in zip(*took)]
+                    row(title, [in_flight, *(f"{rate:.0f}" for rate in rates), f"{rates[0] / rates[1]:.2f}", f"{rates[0] / rates[2]:.2f}"])
+
+    def list_seconds(self, server, beats):
+        """How long a list takes that is asked for once, with a heartbeat a second or none."""
         with socket.socket(socket.AF_INET, socket.SOCK_DGRAM) as station:
-            station.settimeout(0.2)
-            station.connect(("127.0.0.1", port))
-            for _ in range(100):
+            station.connect(("127.0.0.1", server.port))
+            station.settimeout(0.05)
+            seen, start = set(), time.perf_counter()
+            beat = start
+            station.send(mavlink.request_list(version=2))
+            while len(seen) < len(self.names):
+                now = time.perf_counter()
+                if now - start > LIST_PATIENCE:
+                    raise SystemExit(f"measure: {len(seen)} values after {LIST_PATIENCE} seconds")
+                if beats and now - beat >= 1:
+                    station.send(mavlink.heartbeat(version=2))
+                    beat = now
                 try:
-                    station.send(mavlink.request_read(0))
-                    return station.recv(2048)
-                except (TimeoutError, ConnectionRefusedError):
-                    time.sleep(0.05)
-        raise SystemExit("measure: no answer")
+                    shown = mavlink.read_value(station.recv(2048))
+                except TimeoutError:
+                    continue
+                if shown is not None:
+                    seen.add(shown["index"])
+            return time.perf_counter() - start
 
-    def rate(self, port, in_flight):
-        words = [self.path("client"), str(port), str(self.own_port), str(in_flight), str(self.seconds), mavlink.request_read(0).hex()]
-        return float(subprocess.run(words, capture_output=True, check=True).stdout)
+    def lists(self):
+        table("Seconds of a list of all parameters, asked for once", ["serve", "C server"])
+        for title, beats in (("a station that is silent then", False), ("a station with a heartbeat a second", True)):
+            ours, bare = [], []
+            for _ in range(3):  # a new server each time: it knows eight stations
+                with self.serve(self.copy(self.stored, self.folder)) as server:
+                    ours.append(self.list_seconds(server, beats))
+                with self.floor() as server:
+                    bare.append(self.list_seconds(server, beats))
+            row(title, [f"{statistics.median(ours):.3f}", f"{statistics.median(bare):.4f}"])
 
-    def round_trips(self, image, title):
-        echo_port = free_port()
-        echo = subprocess.Popen([self.path("echo"), str(echo_port)])
-        server, port = self.serve(image)
-        try:
-            self.wait(echo_port)
-            for in_flight in (1, 16):
-                ours, bare = [], []
-                for _ in range(5):
-                    ours.append(self.rate(port, in_flight))
-                    bare.append(self.rate(echo_port, in_flight))
-                ours, bare = statistics.median(ours), statistics.median(bare)
-                print(f"{title}, {in_flight} in flight: {ours:.0f} round trips a second, echo {bare:.0f}, ratio {ours / bare:.2f}")
-        finally:
-            server.kill()
-            echo.kill()
-            server.wait()
-            echo.wait()
+    def sets(self, folders):
+        frames = [mavlink.set_value(self.names[n % len(self.names)], 1.0 + n // len(self.names)) for n in range(SETS)]
+        requests = self.requests("requests", frames)
+        table(f"{SETS} sets one after another, ms", ["serve", "C: write, fdatasync, answer", "of C"])
+        for title, folder in folders:
+            ours, bare = [], []
+            for _ in range(self.turns):
+                with self.serve(self.copy(self.stored, folder)) as server:
+                    ours.append(self.seconds(server, free_port(), 1, SETS, requests))
+                with self.floor(self.copy(self.stored, folder), "sync") as server:
+                    bare.append(self.seconds(server, free_port(), 1, SETS, requests))
+            mine, other = 1000 * statistics.median(ours), 1000 * statistics.median(bare)
+            row(title, [f"{mine:.1f}", f"{other:.1f}", f"{other / mine:.2f}"])
 
-    def store_all(self, image):
-        """Gives each parameter a value that isn't its default, and returns how many took it."""
-        server, port = self.serve(image)
-        vehicle = parameters.Vehicle(port)
-        taken = 0
-        for shown in vehicle.list():
-            value = 1.0 if shown["value"] != 1.0 else 2.0
-            taken += vehicle.set(shown["name"], value)["value"] == value
-        vehicle.read("0")
-        vehicle.socket.send(b"END\n")
-        server.wait()
-        return taken
+    def opening(self, source, folder, *program):
+        """The milliseconds from the start of a program to its first answer."""
+        image, port = os.path.join(folder, "opened.img"), free_port()
+        words = [word.format(port=port, image=image) for word in program]
+        opener = [self.path("opener"), mavlink.request_read(0).hex(), str(OPENINGS), str(port), source, image, *words]
+        printed = subprocess.run([*self.pin_both, *opener], capture_output=True, check=True, text=True).stdout
+        return [float(line) for line in printed.split()]
 
-    def opening(self, image):
-        """The time from the start of the program to its first answer, beside reading the file."""
-        took, read = [], []
-        for _ in range(5):
-            port = free_port()
-            with socket.socket(socket.AF_INET, socket.SOCK_DGRAM) as station:
-                station.settimeout(0.001)
-                station.connect(("127.0.0.1", port))
-                start = time.perf_counter()
-                server = subprocess.Popen([self.program, "serve", image, "--port", str(port)], stdout=subprocess.DEVNULL)
-                while True:
-                    try:
-                        station.send(mavlink.request_read(0))
-                        station.recv(2048)
-                        break
-                    except (TimeoutError, ConnectionRefusedError):
-                        continue
-                took.append(time.perf_counter() - start)
-            server.kill()
-            server.wait()
-            start = time.perf_counter()
-            subprocess.run(["cat", image], stdout=subprocess.DEVNULL, check=False)
-            read.append(time.perf_counter() - start)
-        print(f"opening a full image of {os.path.getsize(image)} bytes, to the first answer: "
-              f"{1000 * statistics.median(took):.1f} ms, cat {1000 * statistics.median(read):.1f} ms")
+    def openings(self, folders):
+        with open(self.stored, "rb") as file:
+            stored = states.states(file.read())
+        with open(self.empty, "rb") as file:
+            empty = file.read()
+        table("From the start to the first answer, ms", [*(f"serve, {title}" for title, _ in folders), "C: reads the file, answers"])
+        for state, image in {"alone, nothing stored": empty, **stored}.items():
+            source = self.write("source.img", image)
+            took = [self.opening(source, folder, self.program, "serve", "{image}", "--port", "{port}") for _, folder in folders]
+            bare = self.opening(source, folders[0][1], self.path("floor"), "{port}", self.path("names"), "{image}")
+            row(state, [f"{statistics.median(times):.2f}" for times in (*took, bare)])
 
 
-def fill(image):
-    """Fills the rest of sector 0's log, behind its entries, with entries of line 1919, zeros: a full sector."""
-    with open(image, "r+b") as file:
-        content = bytearray(file.read())
-        at = 4
-        while content[at:at + 2] != b"\xff\xff":
-            header = content[at] | content[at + 1] << 8
-            at += 2 + 8 * (1 + (header >> 13))
-        entry = (0 | 1919 << 2 | 0 << 13).to_bytes(2, "little") + bytes(8)
-        while at + 10 <= 131_072 - 10:
-            content[at:at + 10] = entry
-            at += 10
-        file.seek(0)
-        file.write(content)
+def table(title, columns):
+    print(f"\n| {title} | " + " | ".join(columns) + " |")
+    print("|---" * (1 + len(columns)) + "|", flush=True)
+
+
+def row(title, cells):
+    print(f"| {title} | " + " | ".join(str(cell) for cell in cells) + " |", flush=True)
+
+
+def machine():
+    """This machine in a line."""
+    with open("/proc/cpuinfo", encoding="ascii", errors="replace") as file:
+        models = [line.split(":", 1)[1].strip() for line in file if line.startswith("model name")]
+    return f"{models[0] if models else platform.machine()}, {os.cpu_count()} processors, {platform.system()} {platform.release()}"
 
 
 def main():
-    if len(sys.argv) not in (2, 3):
-        raise SystemExit(__doc__)
-    seconds = float(sys.argv[2]) if len(sys.argv) == 3 else 1.0
-    with tempfile.TemporaryDirectory() as folder:
-        bench = Bench(os.path.abspath(sys.argv[1]), seconds, folder)
-        image = bench.path("vehicle.img")
-        subprocess.run([bench.program, "format", image], check=True)
-        bench.round_trips(image, "no stored value")
-        taken = bench.store_all(image)
-        bench.round_trips(image, f"{taken} stored values")
-        fill(image)
-        bench.opening(image)
+    parser = argparse.ArgumentParser(description=__doc__, formatter_class=argparse.RawDescriptionHelpFormatter)
+    parser.add_argument("program", metavar="PROGRAM")
+    parser.add_argument("--turns", type=int, default=7, help="turns of each measurement (7)")
+    parser.add_argument("--disk", default=".", help="a folder on a disk (the current one)")
+    parser.add_argument("--memory", default="/dev/shm", help="a folder in memory (/dev/shm)")
+    parser.add_argument("--only", choices=("trips", "lists", "sets", "openings"), help="one part alone")
+    words = parser.parse_args()
+    with tempfile.TemporaryDirectory(dir=words.memory) as folder, tempfile.TemporaryDirectory(dir=words.disk) as disk:
+        bench = Bench(words, folder)
+        bench.prepare()
+        folders = [("image in memory", folder), ("image on a disk", disk)]
+        load = os.getloadavg()[0]
+        print(f"{machine()}; load {load:.1f} at the start; medians of {bench.turns} turns")
+        parts = {
+            "trips": bench.trips,
+            "lists": bench.lists,
+            "sets": lambda: bench.sets(folders),
+            "openings": lambda: bench.openings(folders),
+        }
+        for name, part in parts.items():
+            if words.only in (None, name):
+                part()
 
 
 if __name__ == "__main__":
