@@ -8,7 +8,7 @@ use Rattle.std.proofs.lemmas.Grind.{common_steps, flat_map-append}
 use Rattle.std.proofs.lemmas.List.Elements.{All-append, All-cons, All-nil}
 use Rattle.std.proofs.lemmas.List.Concat.{flat_map-cons}
 use Rattle.storage_lines.specs.Numbers.{number_of, bytes_of}
-use Rattle.mission_commands.specs.Commands.{IsPatternOf}
+use Rattle.mission_commands.specs.Commands.{IsPatternOfWhole}
 use Rattle.storage_lines.proofs.NumberLemmas.{length-bytes_of}
 use Rattle.fence_records.specs.declared.items.Point.{Point}
 use Rattle.fence_records.specs.Fence.{Figure, Polygon, Round, ReturnPoint, record_of, items_of, IsFigure, IsEnd, point_of, points_from, point_bytes}
@@ -114,8 +114,8 @@ part-small bytes a h long =
     let size : length (take 4 (drop a bytes)) ≡ 4 = grind (arith, common_steps) in
     rw size at (number_of-small (take 4 (drop a bytes)) (take-IsBytes 4 (drop a bytes) (drop-IsBytes a bytes h)))
 
-pub counted : (n pattern : ℕ) (bs : List ℕ) → IsPatternOf (pos n) pattern → IsPatternOf (pos (length (points_from n bs))) pattern
-counted n pattern bs h = let e : length (points_from n bs) ≡ n = length-points_from n bs in subst (λ k. IsPatternOf (pos k) pattern) (sym e) h
+pub counted : (n pattern : ℕ) (bs : List ℕ) → IsPatternOfWhole (pos n) pattern → IsPatternOfWhole (pos (length (points_from n bs))) pattern
+counted n pattern bs h = let e : length (points_from n bs) ≡ n = length-points_from n bs in subst (λ k. IsPatternOfWhole (pos k) pattern) (sym e) h
 
 -- one more figure is read
 pub read_on : (fs : List Figure) (f : Figure) (whole bytes : List ℕ) (at n : ℕ) → All IsFigure fs → IsFigure f

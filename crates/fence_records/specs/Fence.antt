@@ -4,7 +4,7 @@ use Rattle.std.specs.Int.{w32}
 use Rattle.std.specs.List.{flat_map}
 use Rattle.std.specs.Str.{bytes_eq}
 use Rattle.storage_lines.specs.Numbers.{bytes_of, number_of, unsigned, signed_of}
-use Rattle.mission_commands.specs.Commands.{IsPatternOf}
+use Rattle.mission_commands.specs.Commands.{IsPatternOfWhole}
 use Rattle.fence_records.specs.declared.items.FenceItem.{FenceItem}
 use Rattle.fence_records.specs.declared.items.Point.{Point}
 
@@ -44,7 +44,7 @@ IsPoint p = FitsSigned w32 p.x × FitsSigned w32 p.y
 -- what a record can hold
 abbrev pub IsFigure : Figure → Type 0
 IsFigure (Polygon inside pattern points) =
-    (length points < 256) × (IsPatternOf (pos (length points)) pattern) × (All IsPoint points)
+    (length points < 256) × (IsPatternOfWhole (pos (length points)) pattern) × (All IsPoint points)
 IsFigure (Round inside radius p) = (radius < 2 ^ 32) × (IsPoint p)
 IsFigure (ReturnPoint p) = IsPoint p
 

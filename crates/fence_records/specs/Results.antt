@@ -1,7 +1,7 @@
 -- What `from_item` gives, and what an item that is read back looks like.
 use Rattle.std.specs.Prelude.{ℕ, pos, ◌≡◌, ◌<◌, Result}
 use Rattle.mission_commands.specs.declared.commands.Item.{Item}
-use Rattle.mission_commands.specs.Commands.{MeetsAll, IsTested, IsPatternOf}
+use Rattle.mission_commands.specs.Commands.{MeetsAll, IsTested, IsPatternOfWhole}
 use Rattle.fence_records.specs.declared.items.FenceItem.{FenceItem}
 use Rattle.fence_records.specs.Items.{MeetsFence, fence_rules, fence_item_of}
 use Rattle.fence_records.specs.Lists.{IsFenceItem, pattern_of}
@@ -28,7 +28,7 @@ KeepsFenceItems =
 -- A count has one nearest pattern, and `pattern_of` is that.
 abbrev pub CountsHavePatterns : Type 0
 CountsHavePatterns = (n : ℕ) → n < 256
-    → IsPatternOf (pos n) (pattern_of n) × ((p : ℕ) → IsPatternOf (pos n) p → p ≡ pattern_of n)
+    → IsPatternOfWhole (pos n) (pattern_of n) × ((p : ℕ) → IsPatternOfWhole (pos n) p → p ≡ pattern_of n)
 
 -- an item that is read back: its frame is 0, and what isn't stored is 0
 abbrev pub item_of : FenceItem → ℕ → Item

@@ -11,10 +11,10 @@ use Rattle.mission_commands.specs.declared.table.Shape.TheVariants.{Located, Pla
 use Rattle.mission_commands.specs.declared.commands.Item.{Item}
 use Rattle.mission_commands.specs.declared.commands.Command.{Command}
 use Rattle.storage_lines.specs.Numbers.{bytes_of, number_of, unsigned, signed_of}
-use Rattle.mission_commands.specs.Rows.{IsRow, width_of}
+use Rattle.mission_commands.specs.Rows.{IsRow, stored_width}
 use Rattle.mission_commands.specs.Table.{row_of}
-use Rattle.mission_commands.specs.Commands.{Meets, MeetsAll, item_rules, Allows, StoredAs, IsPacked, IsUnpacked, IsLocation, IsRest, IsPlaceOf, IsLatitude, IsLongitude, IfLocated, IsBelowZero, params_of, location_of, part_at, flags_of, frame_of, sign_flag, is_negative, has_location}
-use Rattle.mission_commands.specs.Back.{SameParam, SamePlace, GivesBack, ComesBack}
+use Rattle.mission_commands.specs.Commands.{Meets, MeetsAll, item_rules, Allows, StoredAs, IsPacked, IsUnpacked, IsLocation, IsRest, IsPlaceOf, IsLatitude, IsLongitude, IfLocated, IsBelowZero, parameter_bytes, location_of, part_at, frame_flags, frame_with, sign_flag, has_sign, has_location}
+use Rattle.mission_commands.specs.Back.{SameParam, SamePosition, GivesBack, ComesBack}
 use Rattle.storage_lines.proofs.NumberLemmas.{length-bytes_of}
 use Rattle.mission_commands.proofs.Rows.{is_signed, HasSigns, row_of-HasSigns, row_of-IsRow}
 use Rattle.mission_commands.proofs.Tested.{length-StoredAs}
@@ -26,11 +26,11 @@ no_sign (Whole low high width) bits negative e = tt
 no_sign (Signed high width) bits negative e = absurd (cc)
 no_sign Pattern bits negative e = tt
 
-has_sign : (u : Use) (bits : ℕ) (negative : Bool) → (IsTrue negative ↔ IsBelowZero u bits) → HasSign u bits negative
-has_sign Unused bits negative e = tt
-has_sign (Whole low high width) bits negative e = tt
-has_sign (Signed high width) bits negative e = e
-has_sign Pattern bits negative e = tt
+sign_kept : (u : Use) (bits : ℕ) (negative : Bool) → (IsTrue negative ↔ IsBelowZero u bits) → HasSign u bits negative
+sign_kept Unused bits negative e = tt
+sign_kept (Whole low high width) bits negative e = tt
+sign_kept (Signed high width) bits negative e = e
+sign_kept Pattern bits negative e = tt
 
 -- the item's parameters, from those of the bytes
 pub params_back : (row : Row) (item back : Item) (negative : Bool) (bytes : List ℕ) → IsRow row → HasSigns row → HasSign row.param3 item.param3 negative
@@ -46,12 +46,12 @@ params_back row item back negative bytes sound signs sign3 a1 a2 a3 a4 p q =
     let e4 = p.together ∙ append_assoc (p.first ++ p.second ++ p.third) p.fourth z in
     let e3 = e4 ∙ append_assoc (p.first ++ p.second) p.third (p.fourth ++ z) in
     let e2 = e3 ∙ append_assoc p.first p.second (p.third ++ (p.fourth ++ z)) in
-    let l12 : length (p.first ++ p.second) ≡ width_of row.param1 + width_of row.param2 = length-append p.first p.second ∙ (rw (w1, w2) refl) in
-    let l123 : length (p.first ++ p.second ++ p.third) ≡ width_of row.param1 + width_of row.param2 + width_of row.param3 = length-append (p.first ++ p.second) p.third ∙ (rw (l12, w3) refl) in
-    let f1 = at_place [] p.first (p.second ++ (p.third ++ (p.fourth ++ z))) bytes 0 (width_of row.param1) e2 refl w1 in
-    let f2 = at_place p.first p.second (p.third ++ (p.fourth ++ z)) bytes (width_of row.param1) (width_of row.param2) e2 w1 w2 in
-    let f3 = at_place (p.first ++ p.second) p.third (p.fourth ++ z) bytes (width_of row.param1 + width_of row.param2) (width_of row.param3) e3 l12 w3 in
-    let f4 = at_place (p.first ++ p.second ++ p.third) p.fourth z bytes (width_of row.param1 + width_of row.param2 + width_of row.param3) (width_of row.param4) e4 l123 w4 in (
+    let l12 : length (p.first ++ p.second) ≡ stored_width row.param1 + stored_width row.param2 = length-append p.first p.second ∙ (rw (w1, w2) refl) in
+    let l123 : length (p.first ++ p.second ++ p.third) ≡ stored_width row.param1 + stored_width row.param2 + stored_width row.param3 = length-append (p.first ++ p.second) p.third ∙ (rw (l12, w3) refl) in
+    let f1 = at_place [] p.first (p.second ++ (p.third ++ (p.fourth ++ z))) bytes 0 (stored_width row.param1) e2 refl w1 in
+    let f2 = at_place p.first p.second (p.third ++ (p.fourth ++ z)) bytes (stored_width row.param1) (stored_width row.param2) e2 w1 w2 in
+    let f3 = at_place (p.first ++ p.second) p.third (p.fourth ++ z) bytes (stored_width row.param1 + stored_width row.param2) (stored_width row.param3) e3 l12 w3 in
+    let f4 = at_place (p.first ++ p.second ++ p.third) p.fourth z bytes (stored_width row.param1 + stored_width row.param2 + stored_width row.param3) (stored_width row.param4) e4 l123 w4 in (
       same_param row.param1 item.param1 back.param1 _ negative sound.use1 a1 (no_sign row.param1 item.param1 negative signs.none1) (subst (StoredAs row.param1 item.param1) (sym f1) p.stored1) q.param1,
       same_param row.param2 item.param2 back.param2 _ negative sound.use2 a2 (no_sign row.param2 item.param2 negative signs.none2) (subst (StoredAs row.param2 item.param2) (sym f2) p.stored2) q.param2,
       same_param row.param3 item.param3 back.param3 _ negative sound.use3 a3 sign3 (subst (StoredAs row.param3 item.param3) (sym f3) p.stored3) q.param3,
@@ -107,29 +107,29 @@ rest_of Unlisted item c h = h
 
 -- for a row with a shape
 pub back_of : (s : Shape) (row : Row) (item : Item) (c : Command) (back : Item) → row.shape ≡ s → IsRow row → HasSigns row → MeetsAll (Meets item row) item_rules
-    → IsPacked row item (params_of s c) → IsRestOf s row item c → IsUnpacked row (is_negative c.content) (params_of s c) back → IsPlaceOf s c.content back.frame back.x back.y back.z
+    → IsPacked row item (parameter_bytes s c) → IsRestOf s row item c → IsUnpacked row (has_sign c.content) (parameter_bytes s c) back → IsPlaceOf s c.content back.frame back.x back.y back.z
     → back.command ≡ item.command → GivesBack row item back
 back_of Located row item c back e sound signs meets p l q place id =
     let loc : IfLocated Located (IsLatitude item.x) = subst (λ s. IfLocated s (IsLatitude item.x)) e meets.1.1.1.1.1.1.0 in
     let lon : IfLocated Located (IsLongitude item.y) = subst (λ s. IfLocated s (IsLongitude item.y)) e meets.1.1.1.1.1.1.1.0 in
-    let parts = location_back c.content (flags_of item.frame + sign_flag l.negative) l.altitude item.x item.y l.bytes l.nearest.0 loc lon in
+    let parts = location_back c.content (frame_flags item.frame + sign_flag l.negative) l.altitude item.x item.y l.bytes l.nearest.0 loc lon in
     let flags = flags_back item.frame l.negative in
-    let turn : is_negative c.content ≡ l.negative = ap (λ n. ((n / 4) % 2) == 1) parts.0 ∙ flags.1 in
-    let params = params_back row item back (is_negative c.content) (params_of Located c) sound signs (subst (HasSign row.param3 item.param3) (sym turn) (has_sign row.param3 item.param3 l.negative l.sign)) meets.1.1.0 meets.1.1.1.0 meets.1.1.1.1.0 meets.1.1.1.1.1.0 p q in
-    let there : SamePlace Located item back = (place.x_is ∙ parts.2, place.y_is ∙ parts.3, ap flags_of place.frame_is ∙ (ap (λ n. flags_of (frame_of n)) parts.0 ∙ flags.0), (l.altitude, l.nearest, (l.nearest.0, subst (λ (k : ℤ). IsNearest back.z k 100) parts.1 place.z_is))) in
-    record { command_is = id; param1 = params.0; param2 = params.1; param3 = params.2; param4 = params.3; place = subst (λ s. SamePlace s item back) (sym e) there }
+    let turn : has_sign c.content ≡ l.negative = ap (λ n. ((n / 4) % 2) == 1) parts.0 ∙ flags.1 in
+    let params = params_back row item back (has_sign c.content) (parameter_bytes Located c) sound signs (subst (HasSign row.param3 item.param3) (sym turn) (sign_kept row.param3 item.param3 l.negative l.sign)) meets.1.1.0 meets.1.1.1.0 meets.1.1.1.1.0 meets.1.1.1.1.1.0 p q in
+    let there : SamePosition Located item back = (place.x_is ∙ parts.2, place.y_is ∙ parts.3, ap frame_flags place.frame_is ∙ (ap (λ n. frame_flags (frame_with n)) parts.0 ∙ flags.0), (l.altitude, l.nearest, (l.nearest.0, subst (λ (k : ℤ). IsNearest back.z k 100) parts.1 place.z_is))) in
+    record { command_is = id; param1 = params.0; param2 = params.1; param3 = params.2; param4 = params.3; place = subst (λ s. SamePosition s item back) (sym e) there }
 back_of Plain row item c back e sound signs meets p l q place id =
     let none : has_location row.shape ≡ false = ap has_location e in
-    let params = params_back row item back (is_negative c.content) (params_of Plain c) sound signs (no_sign row.param3 item.param3 (is_negative c.content) (signs.none3 none)) meets.1.1.0 meets.1.1.1.0 meets.1.1.1.1.0 meets.1.1.1.1.1.0 p q in
-    let there : SamePlace Plain item back = (place.x_is, place.y_is, place.frame_is) in
-    record { command_is = id; param1 = params.0; param2 = params.1; param3 = params.2; param4 = params.3; place = subst (λ s. SamePlace s item back) (sym e) there }
+    let params = params_back row item back (has_sign c.content) (parameter_bytes Plain c) sound signs (no_sign row.param3 item.param3 (has_sign c.content) (signs.none3 none)) meets.1.1.0 meets.1.1.1.0 meets.1.1.1.1.0 meets.1.1.1.1.1.0 p q in
+    let there : SamePosition Plain item back = (place.x_is, place.y_is, place.frame_is) in
+    record { command_is = id; param1 = params.0; param2 = params.1; param3 = params.2; param4 = params.3; place = subst (λ s. SamePosition s item back) (sym e) there }
 back_of Unlisted row item c back e sound signs meets p l q place id = absurd l
 
 pub comes_back : ComesBack
 comes_back item c seq back meets stored is =
     let row = row_of item.command in
-    let q : IsUnpacked (row_of item.command) (is_negative c.content) (params_of (row_of item.command).shape c) back =
-    subst (λ i. IsUnpacked (row_of i) (is_negative c.content) (params_of (row_of i).shape c) back) stored.id is.params in
+    let q : IsUnpacked (row_of item.command) (has_sign c.content) (parameter_bytes (row_of item.command).shape c) back =
+    subst (λ i. IsUnpacked (row_of i) (has_sign c.content) (parameter_bytes (row_of i).shape c) back) stored.id is.params in
     let place : IsPlaceOf (row_of item.command).shape c.content back.frame back.x back.y back.z =
     subst (λ i. IsPlaceOf (row_of i).shape c.content back.frame back.x back.y back.z) stored.id is.place in
     back_of (row_of item.command).shape (row_of item.command) item c back refl (row_of-IsRow item.command) (row_of-HasSigns item.command) meets stored.params (rest_of (row_of item.command).shape item c stored.rest) q place (is.command_is ∙ stored.id)

@@ -9,7 +9,7 @@ use Rattle.mission_commands.specs.declared.table.Use.{Use}
 use Rattle.mission_commands.specs.declared.table.Use.TheVariants.{Unused, Whole, Signed, Pattern}
 use Rattle.mission_commands.specs.Commands.{has_location}
 use Rattle.mission_commands.specs.Table.{rows, row_of, unlisted}
-use Rattle.mission_commands.specs.Rows.{IsUse, IsRange, IsRow, width_of, room_of}
+use Rattle.mission_commands.specs.Rows.{IsUse, IsRange, IsRow, stored_width, parameter_room}
 
 pub found_row : (id : ℕ) (rs : List Row) (found : Option Row) → rs ≡ rows → found ≡ find (λ r. r.id == id) rs → unwrap_or found unlisted ≡ row_of id
 unfolding row_of
@@ -35,7 +35,7 @@ is_use (Signed high width) = (nat_lt 0 width && nat_lt width 3) && is_range (pos
 is_use Pattern = true
 
 abbrev has_room : Row → Bool
-has_room row = nat_lt (width_of row.param1 + width_of row.param2 + width_of row.param3 + width_of row.param4) (room_of row.shape + 1)
+has_room row = nat_lt (stored_width row.param1 + stored_width row.param2 + stored_width row.param3 + stored_width row.param4) (parameter_room row.shape + 1)
 
 unfoldable is_row : Row → Bool
 is_row row = ((is_use row.param1 && is_use row.param2) && (is_use row.param3 && is_use row.param4)) && has_room row
@@ -71,7 +71,7 @@ row_tells row h =
     let halves = and_parts (is_use row.param1 && is_use row.param2) (is_use row.param3 && is_use row.param4) whole.0 in
     let front = and_parts (is_use row.param1) (is_use row.param2) halves.0 in
     let back = and_parts (is_use row.param3) (is_use row.param4) halves.1 in
-    let small = ltb-true (width_of row.param1 + width_of row.param2 + width_of row.param3 + width_of row.param4) (room_of row.shape + 1) whole.1 in
+    let small = ltb-true (stored_width row.param1 + stored_width row.param2 + stored_width row.param3 + stored_width row.param4) (parameter_room row.shape + 1) whole.1 in
     record {
       use1 = use_tells row.param1 front.0;
       use2 = use_tells row.param2 front.1;

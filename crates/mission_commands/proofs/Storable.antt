@@ -12,9 +12,9 @@ use Rattle.mission_commands.specs.declared.table.Shape.TheVariants.{Located, Pla
 use Rattle.mission_commands.specs.declared.commands.Item.{Item}
 use Rattle.mission_commands.specs.declared.commands.Command.{Command}
 use Rattle.storage_lines.specs.Numbers.{bytes_of, unsigned}
-use Rattle.mission_commands.specs.Rows.{IsRow, width_of}
+use Rattle.mission_commands.specs.Rows.{IsRow, stored_width}
 use Rattle.mission_commands.specs.Table.{rows, row_of, unlisted}
-use Rattle.mission_commands.specs.Commands.{StoredAs, IsPacked, IsListed, has_location, params_of, filled, flags_of, sign_flag}
+use Rattle.mission_commands.specs.Commands.{StoredAs, IsPacked, IsListed, has_location, parameter_bytes, filled, frame_flags, sign_flag}
 use Rattle.storage_lines.specs.Bytes.{IsBytes}
 use Rattle.mission_commands.specs.Storable.{StoresFit}
 use Rattle.storage_lines.proofs.NumberLemmas.{length-bytes_of}
@@ -94,7 +94,7 @@ unfolding row_of
 row_id id h = found_id id rows h
 
 abbrev widths : Row → ℕ
-widths row = width_of row.param1 + width_of row.param2 + width_of row.param3 + width_of row.param4
+widths row = stored_width row.param1 + stored_width row.param2 + stored_width row.param3 + stored_width row.param4
 
 -- ids of two bytes, none of which marks the long form, and room for the long form
 unfoldable fits_bytes : Row → Bool
@@ -141,10 +141,10 @@ row_fits id = fits_tells (row_of id) (find-passes (λ r. r.id == id) fits_bytes 
 
 packed_length : (row : Row) (item : Item) (bytes : List ℕ) → (p : IsPacked row item bytes) → length (p.first ++ p.second ++ p.third ++ p.fourth) ≡ widths row
 packed_length row item bytes p =
-    let a : length p.first ≡ width_of row.param1 = length-StoredAs row.param1 item.param1 p.first p.stored1 in
-    let b : length p.second ≡ width_of row.param2 = length-StoredAs row.param2 item.param2 p.second p.stored2 in
-    let c : length p.third ≡ width_of row.param3 = length-StoredAs row.param3 item.param3 p.third p.stored3 in
-    let d : length p.fourth ≡ width_of row.param4 = length-StoredAs row.param4 item.param4 p.fourth p.stored4 in
+    let a : length p.first ≡ stored_width row.param1 = length-StoredAs row.param1 item.param1 p.first p.stored1 in
+    let b : length p.second ≡ stored_width row.param2 = length-StoredAs row.param2 item.param2 p.second p.stored2 in
+    let c : length p.third ≡ stored_width row.param3 = length-StoredAs row.param3 item.param3 p.third p.stored3 in
+    let d : length p.fourth ≡ stored_width row.param4 = length-StoredAs row.param4 item.param4 p.fourth p.stored4 in
     let e = length-append p.first p.second in
     let f = length-append (p.first ++ p.second) p.third in
     let g = length-append (p.first ++ p.second ++ p.third) p.fourth in
@@ -156,7 +156,7 @@ packed_low row item bytes p =
     (low_append (p.first ++ p.second) p.third (low_append p.first p.second (low_part row.param1 item.param1 p.first p.stored1) (low_part row.param2 item.param2 p.second p.stored2)) (low_part row.param3 item.param3 p.third p.stored3))
     (low_part row.param4 item.param4 p.fourth p.stored4)
 
-small_flags : (f : ℕ) (negative : Bool) → flags_of f + sign_flag negative < 256
+small_flags : (f : ℕ) (negative : Bool) → frame_flags f + sign_flag negative < 256
 small_flags f true = elim (flags-small f) [ inl e ↦ omega (arith, e) | inr h ↦ elim h [ inl e ↦ omega (arith, e) | inr e ↦ omega (arith, e) ] ]
 small_flags f false = elim (flags-small f) [ inl e ↦ omega (arith, e) | inr h ↦ elim h [ inl e ↦ omega (arith, e) | inr e ↦ omega (arith, e) ] ]
 
@@ -166,9 +166,9 @@ record IsContent (row : Row) (content : List ℕ) : Type 0 where
   pub low : IsBytes content
   pub short : widths row ≤ 10 → has_location row.shape ≡ false → content ≡ take 10 content ++ 0 ∷ 0 ∷ []
 
-content_of : (s : Shape) (row : Row) (item : Item) (c : Command) → row.shape ≡ s → IsRow row → IsPacked row item (params_of s c) → IsRestOf s row item c → IsContent row c.content
+content_of : (s : Shape) (row : Row) (item : Item) (c : Command) → row.shape ≡ s → IsRow row → IsPacked row item (parameter_bytes s c) → IsRestOf s row item c → IsContent row c.content
 content_of Located row item c e sound p l =
-    let flags = flags_of item.frame + sign_flag l.negative in
+    let flags = frame_flags item.frame + sign_flag l.negative in
     let a = bytes_of 3 (unsigned 3 l.altitude) in
     let b = bytes_of 4 (unsigned 4 item.x) in
     let d = bytes_of 4 (unsigned 4 item.y) in

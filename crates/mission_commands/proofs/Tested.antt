@@ -9,9 +9,9 @@ use Rattle.mission_commands.specs.declared.table.Shape.TheVariants.{Located, Pla
 use Rattle.mission_commands.specs.declared.commands.Item.{Item}
 use Rattle.mission_commands.specs.declared.commands.Command.{Command}
 use Rattle.storage_lines.specs.Numbers.{bytes_of}
-use Rattle.mission_commands.specs.Rows.{IsRow, width_of}
+use Rattle.mission_commands.specs.Rows.{IsRow, stored_width}
 use Rattle.mission_commands.specs.Table.{row_of}
-use Rattle.mission_commands.specs.Commands.{Rule, Meets, MeetsAll, FailsWith, IfLocated, IsListed, has_location, is_frame, StoredAs, IsPacked, IsLocation, IsStored, IsRest, params_of, filled, param_rules, location_rules, item_rules}
+use Rattle.mission_commands.specs.Commands.{Rule, Meets, MeetsAll, FailsWith, IfLocated, IsListed, has_location, is_frame, StoredAs, IsPacked, IsLocation, IsStored, IsRest, parameter_bytes, filled, param_rules, location_rules, item_rules}
 use Rattle.storage_lines.proofs.NumberLemmas.{length-bytes_of, bytes_of-next}
 
 pub if_located : (s : Shape) (P : Type 0) → IsTrue (has_location s) → P → IfLocated s P
@@ -44,7 +44,7 @@ pub FailsWith-back : (meets : Rule → Type 0) (rs ss : List Rule) (e : ℕ) →
 FailsWith-back meets [] ss e h k = k
 FailsWith-back meets (r ∷ rs) ss e h k = inr (h.0, FailsWith-back meets rs ss e h.1 k)
 
-pub length-StoredAs : (u : Use) (bits : ℕ) (part : List ℕ) → StoredAs u bits part → length part ≡ width_of u
+pub length-StoredAs : (u : Use) (bits : ℕ) (part : List ℕ) → StoredAs u bits part → length part ≡ stored_width u
 length-StoredAs Unused bits part h = rw h refl
 length-StoredAs (Whole low high width) bits part h = ap length h.2 ∙ length-bytes_of width _
 length-StoredAs (Signed high width) bits part h = ap length h.2 ∙ length-bytes_of width _
@@ -97,7 +97,7 @@ packed_small row item bytes sound shape p =
     let b = length-StoredAs row.param2 item.param2 p.second p.stored2 in
     let c = length-StoredAs row.param3 item.param3 p.third p.stored3 in
     let d = length-StoredAs row.param4 item.param4 p.fourth p.stored4 in
-    let room : width_of row.param1 + width_of row.param2 + width_of row.param3 + width_of row.param4 ≤ 2 = rw shape at sound.room in
+    let room : stored_width row.param1 + stored_width row.param2 + stored_width row.param3 + stored_width row.param4 ≤ 2 = rw shape at sound.room in
     omega (arith, length-append {A = ℕ})
 
 -- p1 shows the bytes that stand before a location
@@ -119,12 +119,12 @@ placed item row bytes content sound same known sited framed before p after l low
       record {
         id = refl;
         p1 = omega arith;
-        params = subst (λ s. IsPacked (row_of item.command) item (params_of s (record { id = item.command; p1 = get_or bytes 0 0 + 256 * get_or bytes 1 0; content = content }))) (sym shape') (subst (λ r. IsPacked r item (bytes_of 12 (get_or bytes 0 0 + 256 * get_or bytes 1 0))) same (packed_head row item bytes sound shape p low high));
+        params = subst (λ s. IsPacked (row_of item.command) item (parameter_bytes s (record { id = item.command; p1 = get_or bytes 0 0 + 256 * get_or bytes 1 0; content = content }))) (sym shape') (subst (λ r. IsPacked r item (bytes_of 12 (get_or bytes 0 0 + 256 * get_or bytes 1 0))) same (packed_head row item bytes sound shape p low high));
         rest = subst (λ s. IsRest s item (record { id = item.command; p1 = get_or bytes 0 0 + 256 * get_or bytes 1 0; content = content })) (sym shape') (subst (λ r. IsLocation r item content) same l);
       },
     )
 
-pub params_before : (s : Shape) (c : Command) → s ≢ Plain → c.p1 < 65536 → (c.p1 % 256) ∷ (c.p1 / 256) ∷ replicate 10 0 ≡ params_of s c
+pub params_before : (s : Shape) (c : Command) → s ≢ Plain → c.p1 < 65536 → (c.p1 % 256) ∷ (c.p1 / 256) ∷ replicate 10 0 ≡ parameter_bytes s c
 params_before Located c h k = small c.p1 k
 params_before Plain c h k = absurd (h refl)
 params_before Unlisted c h k = small c.p1 k

@@ -3,7 +3,7 @@ use Rattle.std.specs.Prelude.{ℕ, ℤ, pos, negsuc, neg_ℤ, unsigned_abs, ◌�
 use Rattle.word_bits.specs.Pattern.{IsWhole, IsFinite, IsNearest, IsCentimetres, signed}
 use Rattle.storage_lines.specs.Numbers.{bytes_of, number_of, unsigned, signed_of}
 use Rattle.mission_commands.specs.Table.{row_of}
-use Rattle.mission_commands.specs.Rows.{width_of}
+use Rattle.mission_commands.specs.Rows.{stored_width}
 use Rattle.mission_commands.specs.declared.table.Use.{Use}
 use Rattle.mission_commands.specs.declared.table.Use.TheVariants.{Unused, Whole, Signed, Pattern}
 use Rattle.mission_commands.specs.declared.table.Shape.{Shape}
@@ -40,10 +40,10 @@ abbrev pub filled : ℕ → List ℕ → List ℕ
 filled n xs = xs ++ replicate (n - length xs) 0
 
 -- where the parameters stand: in the content, or before it, where zeros are thought to follow
-abbrev pub params_of : Shape → Command → List ℕ
-params_of Located c = bytes_of 12 c.p1
-params_of Plain c = c.content
-params_of Unlisted c = bytes_of 12 c.p1
+abbrev pub parameter_bytes : Shape → Command → List ℕ
+parameter_bytes Located c = bytes_of 12 c.p1
+parameter_bytes Plain c = c.content
+parameter_bytes Unlisted c = bytes_of 12 c.p1
 
 -- the bytes are those of the parameters that are stored, in order, and then zeros
 pub record IsPacked (row : Row) (item : Item) (bytes : List ℕ) : Type 0 where
@@ -74,8 +74,8 @@ has_location Plain = false
 has_location Unlisted = false
 
 -- bit 0 for a height over home or the ground, bit 1 for one over the ground
-abbrev pub flags_of : ℕ → ℕ
-flags_of f = if (f == 0) || (f == 5) then 0 else (if (f == 3) || (f == 6) then 1 else 3)
+abbrev pub frame_flags : ℕ → ℕ
+frame_flags f = if (f == 0) || (f == 5) then 0 else (if (f == 3) || (f == 6) then 1 else 3)
 
 -- bit 2, for a negative number whose magnitude is stored
 abbrev pub sign_flag : Bool → ℕ
@@ -114,7 +114,7 @@ pub record IsLocation (row : Row) (item : Item) (content : List ℕ) : Type 0 wh
   pub altitude : ℤ
   pub nearest : IsAltitude item.z altitude
   pub bytes :
-      content ≡ location_of (flags_of item.frame + sign_flag negative) altitude item.x item.y
+      content ≡ location_of (frame_flags item.frame + sign_flag negative) altitude item.x item.y
 
 -- what is stored beside the parameters: a location, or no bytes before the content
 abbrev pub IsRest : Shape → Item → Command → Type 0
@@ -126,7 +126,7 @@ IsRest Unlisted item c = ⊥
 pub record IsStored (item : Item) (c : Command) : Type 0 where
   pub id : c.id ≡ item.command
   pub p1 : c.p1 < 2 ^ 16
-  pub params : IsPacked (row_of item.command) item (params_of (row_of item.command).shape c)
+  pub params : IsPacked (row_of item.command) item (parameter_bytes (row_of item.command).shape c)
   pub rest : IsRest (row_of item.command).shape item c
 
 -- what an item has to meet to be stored
@@ -210,8 +210,8 @@ abbrev pub part_at : ℕ → ℕ → List ℕ → List ℕ
 part_at start width bytes = take width (drop start bytes)
 
 -- the pattern that stands for the whole number; that of 0 has no sign
-abbrev pub IsPatternOf : ℤ → ℕ → Type 0
-IsPatternOf n bits = IsNearest bits n 1 × (bits ≢ 2 ^ 31)
+abbrev pub IsPatternOfWhole : ℤ → ℕ → Type 0
+IsPatternOfWhole n bits = IsNearest bits n 1 × (bits ≢ 2 ^ 31)
 
 -- a stored whole number, which has a sign where its range has
 abbrev pub whole_in : ℤ → ℕ → ℕ → ℤ
@@ -222,29 +222,29 @@ whole_in (negsuc low) width n = signed_of width n
 abbrev pub IsParam : Use → Bool → List ℕ → ℕ → Type 0
 IsParam Unused negative part bits = bits ≡ 0
 IsParam (Whole low high width) negative part bits =
-    IsPatternOf (whole_in low width (number_of part)) bits
-IsParam (Signed high width) negative part bits = IsPatternOf (signed negative (number_of part)) bits
+    IsPatternOfWhole (whole_in low width (number_of part)) bits
+IsParam (Signed high width) negative part bits = IsPatternOfWhole (signed negative (number_of part)) bits
 IsParam Pattern negative part bits = bits ≡ number_of part
 
 -- the item's parameters are those of the bytes
 pub record IsUnpacked (row : Row) (negative : Bool) (bytes : List ℕ) (item : Item) : Type 0 where
-  pub param1 : IsParam row.param1 negative (part_at 0 (width_of row.param1) bytes) item.param1
+  pub param1 : IsParam row.param1 negative (part_at 0 (stored_width row.param1) bytes) item.param1
   pub param2 : IsParam row.param2 negative
-      (part_at (width_of row.param1) (width_of row.param2) bytes) item.param2
+      (part_at (stored_width row.param1) (stored_width row.param2) bytes) item.param2
   pub param3 : IsParam row.param3 negative
-      (part_at (width_of row.param1 + width_of row.param2) (width_of row.param3) bytes) item.param3
+      (part_at (stored_width row.param1 + stored_width row.param2) (stored_width row.param3) bytes) item.param3
   pub param4 : IsParam row.param4 negative
-      (part_at (width_of row.param1 + width_of row.param2 + width_of row.param3)
-      (width_of row.param4) bytes) item.param4
+      (part_at (stored_width row.param1 + stored_width row.param2 + stored_width row.param3)
+      (stored_width row.param4) bytes) item.param4
 
 -- the frame that the flags of a location give
-abbrev pub frame_of : ℕ → ℕ
-frame_of flags = if ((flags / 2) % 2) == 1 then 10 else (if (flags % 2) == 1 then 3 else 0)
+abbrev pub frame_with : ℕ → ℕ
+frame_with flags = if ((flags / 2) % 2) == 1 then 10 else (if (flags % 2) == 1 then 3 else 0)
 
 -- where an item is
 pub record IsPlaceOf (shape : Shape) (content : List ℕ) (frame : ℕ) (x y : ℤ) (z : ℕ)
     : Type 0 where
-  pub frame_is : frame ≡ (if has_location shape then frame_of (slice_index content 0) else 2)
+  pub frame_is : frame ≡ (if has_location shape then frame_with (slice_index content 0) else 2)
   pub x_is :
       x ≡ (if has_location shape then signed_of 4 (number_of (part_at 4 4 content)) else pos 0)
   pub y_is :
@@ -254,8 +254,8 @@ pub record IsPlaceOf (shape : Shape) (content : List ℕ) (frame : ℕ) (x y : �
   pub no_minus_zero : z ≢ 2 ^ 31
 
 -- whether the flags say that a magnitude is that of a negative number
-abbrev pub is_negative : List ℕ → Bool
-is_negative content = ((slice_index content 0 / 4) % 2) == 1
+abbrev pub has_sign : List ℕ → Bool
+has_sign content = ((slice_index content 0 / 4) % 2) == 1
 
 -- the item is what a stored command is sent as
 pub record IsItemOf (c : Command) (seq : ℕ) (item : Item) : Type 0 where
@@ -264,5 +264,5 @@ pub record IsItemOf (c : Command) (seq : ℕ) (item : Item) : Type 0 where
   pub current_is : item.current ≡ 0
   pub autocontinue_is : item.autocontinue ≡ 1
   pub params :
-      IsUnpacked (row_of c.id) (is_negative c.content) (params_of (row_of c.id).shape c) item
+      IsUnpacked (row_of c.id) (has_sign c.content) (parameter_bytes (row_of c.id).shape c) item
   pub place : IsPlaceOf (row_of c.id).shape c.content item.frame item.x item.y item.z

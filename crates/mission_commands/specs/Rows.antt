@@ -7,11 +7,11 @@ use Rattle.mission_commands.specs.declared.table.Shape.TheVariants.{Located, Pla
 use Rattle.mission_commands.specs.declared.table.Row.{Row}
 
 -- how many bytes of the parameter are stored
-abbrev pub width_of : Use → ℕ
-width_of Unused = 0
-width_of (Whole low high width) = width
-width_of (Signed high width) = width
-width_of Pattern = 4
+abbrev pub stored_width : Use → ℕ
+stored_width Unused = 0
+stored_width (Whole low high width) = width
+stored_width (Signed high width) = width
+stored_width Pattern = 4
 
 -- the range fits the bytes
 abbrev pub IsRange : ℤ → ℤ → ℕ → Type 0
@@ -27,10 +27,10 @@ IsUse (Signed high width) = (1 ≤ width) × (width ≤ 2) × (IsRange (pos 0) h
 IsUse Pattern = Unit {0}
 
 -- how many bytes the parameters have
-abbrev pub room_of : Shape → ℕ
-room_of Located = 2
-room_of Plain = 12
-room_of Unlisted = 2
+abbrev pub parameter_room : Shape → ℕ
+parameter_room Located = 2
+parameter_room Plain = 12
+parameter_room Unlisted = 2
 
 -- a row's parameters are such, and their bytes have room
 pub record IsRow (row : Row) : Type 0 where
@@ -39,5 +39,5 @@ pub record IsRow (row : Row) : Type 0 where
   pub use3 : IsUse row.param3
   pub use4 : IsUse row.param4
   pub room :
-      width_of row.param1 + width_of row.param2 + width_of row.param3 + width_of row.param4
-      ≤ room_of row.shape
+      stored_width row.param1 + stored_width row.param2 + stored_width row.param3 + stored_width row.param4
+      ≤ parameter_room row.shape

@@ -7,8 +7,8 @@ use Rattle.mission_commands.specs.declared.table.Shape.TheVariants.{Located, Pla
 use Rattle.mission_commands.specs.declared.table.Row.{Row}
 
 -- one command, with what it does with its four parameters
-abbrev pub row : ℕ → Shape → Use → Use → Use → Use → Row
-row id shape a b c d =
+abbrev pub command_row : ℕ → Shape → Use → Use → Use → Use → Row
+command_row id shape a b c d =
     record { id = id; shape = shape; param1 = a; param2 = b; param3 = c; param4 = d }
 
 -- a whole number in so many bytes
@@ -21,11 +21,11 @@ from_minus_one high width = Whole (negsuc 0) (pos high) width
 
 -- a command that has a location; its stored parameters stand in the two bytes before it
 abbrev pub located : ℕ → Use → Use → Row
-located id a c = row id Located a Unused c Unused
+located id a c = command_row id Located a Unused c Unused
 
 -- a command without one; its stored parameters stand in the content
 abbrev pub plain : ℕ → Use → Use → Use → Use → Row
-plain id a b c d = row id Plain a b c d
+plain id a b c d = command_row id Plain a b c d
 
 -- the whole numbers of one byte, and of two
 abbrev pub U8 : Use
@@ -63,7 +63,7 @@ rows =
 
 -- a command that is not listed
 abbrev pub unlisted : Row
-unlisted = row 0 Unlisted U16 Unused Unused Unused
+unlisted = command_row 0 Unlisted U16 Unused Unused Unused
 
 -- the command's row
 unfoldable pub row_of : ℕ → Row

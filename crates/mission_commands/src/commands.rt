@@ -4,9 +4,9 @@ ghost use Rattle.std.specs.Prelude.{◌≡◌, ◌+◌, ◌≤◌, ◌++◌, ◌
 ghost use Rattle.std.specs.Bool.{OnTrue};
 ghost use Rattle.arrayvec.specs.ArrayVec.{array_vec_len};
 ghost use Rattle.word_bits.specs.Pattern.{IsWhole, IsCentimetres, signed};
-ghost use Rattle.mission_commands.specs.Rows.{IsUse, IsRow, width_of};
+ghost use Rattle.mission_commands.specs.Rows.{IsUse, IsRow, stored_width};
 ghost use Rattle.mission_commands.specs.Table.{row_of};
-ghost use Rattle.mission_commands.specs.Commands.{Allows, IsWithin, StoredAs, IsBelowZero, filled, flags_of, is_frame, is_location_frame, has_location, location_of, sign_flag, Meets, IsTested, IsPacked, IsLocation, IsStored, IsItemOf, IsPlaceOf, IsParam, part_at, params_of, frame_of, whole_in, param_rules, location_rules, item_rules};
+ghost use Rattle.mission_commands.specs.Commands.{Allows, IsWithin, StoredAs, IsBelowZero, filled, frame_flags, is_frame, is_location_frame, has_location, location_of, sign_flag, Meets, IsTested, IsPacked, IsLocation, IsStored, IsItemOf, IsPlaceOf, IsParam, part_at, parameter_bytes, frame_with, whole_in, param_rules, location_rules, item_rules};
 
 use crate::table::{Row, Shape, Use, row_of};
 use arrayvec::ArrayVec;
@@ -61,12 +61,12 @@ fn whole_within(bits: u32, low: i32, high: i32) -> Option<i32>
 /// Tests a parameter, and appends what is stored of it.
 fn store(param: Use, bits: u32, packed: &mut ArrayVec<u8, 12>) -> bool
     requires usual { IsUse param }
-    requires room { array_vec_len packed.old + width_of param ≤ 12 }
+    requires room { array_vec_len packed.old + stored_width param ≤ 12 }
     ensures allowed { MatchBool result (Allows param bits) (¬ Allows param bits) }
     ensures stored { OnTrue result ((part : List ℕ) × (StoredAs param bits part)
         × (packed.new.items ≡ packed.old.items ++ part)) }
     ensures len { OnTrue result
-        (array_vec_len packed.new ≡ array_vec_len packed.old + width_of param) }
+        (array_vec_len packed.new ≡ array_vec_len packed.old + stored_width param) }
 {
     match param {
         Use::Unused => true,
@@ -116,8 +116,8 @@ fn is_location_frame(frame: u8) -> bool
 }
 
 /// The flags of a location with this frame.
-fn flags_of(frame: u8) -> u8
-    ensures value { result ≡ flags_of frame }
+fn frame_flags(frame: u8) -> u8
+    ensures value { result ≡ frame_flags frame }
     ensures bound { result ≤ 3 }
 {
     match frame {
@@ -209,7 +209,7 @@ fn location(row: &Row, item: &Item) -> Result<[u8; 12], u8>
     };
     let negative = is_below_zero(row.param3, item.param3);
     Ok(location_of(
-        flags_of(item.frame) + sign_flag(negative),
+        frame_flags(item.frame) + sign_flag(negative),
         altitude,
         item.x,
         item.y,
@@ -265,9 +265,9 @@ struct Place {
 }
 
 /// How many bytes of the parameter are stored.
-fn width_of(param: Use) -> usize
+fn stored_width(param: Use) -> usize
     requires { IsUse param }
-    ensures value { result ≡ width_of param }
+    ensures value { result ≡ stored_width param }
     ensures bound { result ≤ 4 }
 {
     match param {
@@ -307,8 +307,8 @@ fn with_sign(negative: bool, magnitude: u32) -> i32
 /// The parameter that is stored from a place on.
 fn param_at(param: Use, negative: bool, bytes: &[u8; 12], start: usize) -> u32
     requires usual { IsUse param }
-    requires room { start + width_of param ≤ 12 }
-    ensures { IsParam param negative (part_at start (width_of param) bytes.now) result }
+    requires room { start + stored_width param ≤ 12 }
+    ensures { IsParam param negative (part_at start (stored_width param) bytes.now) result }
 {
     match param {
         Use::Unused => 0,
@@ -323,8 +323,8 @@ fn param_at(param: Use, negative: bool, bytes: &[u8; 12], start: usize) -> u32
 }
 
 /// The frame of a location with these flags.
-fn frame_of(flags: u8) -> u8
-    ensures { result ≡ frame_of flags }
+fn frame_with(flags: u8) -> u8
+    ensures { result ≡ frame_with flags }
 {
     if flags / 2 % 2 == 1 {
         10
@@ -341,7 +341,7 @@ fn place_of(shape: Shape, content: &[u8; 12]) -> Place
 {
     match shape {
         Shape::Located => Place {
-            frame: frame_of(content[0]),
+            frame: frame_with(content[0]),
             x: signed_of(4, number_of(&content[4..8])),
             y: signed_of(4, number_of(&content[8..12])),
             z: bits_of_centimetres(signed_of(3, number_of(&content[1..4]))),
@@ -356,8 +356,8 @@ fn place_of(shape: Shape, content: &[u8; 12]) -> Place
 }
 
 /// The bytes of the parameters.
-fn params_of(shape: Shape, command: &Command) -> [u8; 12]
-    ensures { result ≡ params_of shape command.now }
+fn parameter_bytes(shape: Shape, command: &Command) -> [u8; 12]
+    ensures { result ≡ parameter_bytes shape command.now }
 {
     match shape {
         Shape::Plain => command.content,
@@ -383,11 +383,11 @@ pub fn to_item(command: &Command, seq: u16) -> Item
     ensures { IsItemOf command.now seq result }
 {
     let row = row_of(command.id);
-    let bytes = params_of(row.shape, command);
+    let bytes = parameter_bytes(row.shape, command);
     let negative = command.content[0] / 4 % 2 == 1;
-    let second = width_of(row.param1);
-    let third = second + width_of(row.param2);
-    let fourth = third + width_of(row.param3);
+    let second = stored_width(row.param1);
+    let third = second + stored_width(row.param2);
+    let fourth = third + stored_width(row.param3);
     let place = place_of(row.shape, &command.content);
     Item {
         param1: param_at(row.param1, negative, &bytes, 0),
