@@ -31,7 +31,7 @@ module _ (names : List Text) (s : Shape) (k : Knows names s.rules) where
   operand_next false h word e l t =
       rw (e, l, t, k.by_index) (ap (λ (g : Held). at g positional false) (image_held s.rules word h))
 
-  -- a word behind `--`
+  -- a word after `--`
   pub trailing_turn : (w : Waiting) (h : Held) (word : Text) → turn_fault s [] (at h w true) word ≡ calm h
   trailing_turn w h word = rw (k.by_index) (image_fault s.rules s.args_override_self h)
 

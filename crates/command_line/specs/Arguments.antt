@@ -1,7 +1,7 @@
--- What the words behind the first say, apart from any program that reads them.
+-- What the words after the first say, apart from any program that reads them.
 --
 -- A word that begins with `-`, and is not the single `-`, is an option; every other word is an
--- operand, and behind the word `--` every word is one. An option is `--name value` in two words or
+-- operand, and after the word `--` every word is one. An option is `--name value` in two words or
 -- `--name=value` in one, with a name that the command has; each other option is refused.
 use Rattle.std.specs.Prelude.{◌==◌, ℕ, Bool, List, [], ◌∷◌, map, Option, Some, None}
 use Rattle.std.specs.Prelude.{if◌then◌else◌, option_map}
@@ -35,25 +35,26 @@ is_named names name = list_any (λ n. bytes_eq n name) names
 abbrev pub role_if_named : List Text → Text → Option Text → Role
 role_if_named names name value = if is_named names name then option_role name value else refused
 
--- what stands before the first `=` (61), and what stands behind it if there is one
+-- what stands before the first `=` (0x3D), and what stands after it if there is one
 abbrev pub name_in : Text → Text
-name_in text = before_first (λ b. b == 61) text
+name_in text = before_first (λ b. b == 0x3D) text
 
 abbrev pub value_in : Text → Option Text
 value_in text =
-    if list_any (λ b. b == 61) text then Some (after_first (λ b. b == 61) text) else None
+    if list_any (λ b. b == 0x3D) text then Some (after_first (λ b. b == 0x3D) text) else None
 
 -- the role of the word that is `--` and then this text
-abbrev pub role_behind_dashes : List Text → Text → Role
-role_behind_dashes names [] = ends_options
-role_behind_dashes names (x ∷ xs) = role_if_named names (name_in (x ∷ xs)) (value_in (x ∷ xs))
+abbrev pub role_after_dashes : List Text → Text → Role
+role_after_dashes names [] = ends_options
+role_after_dashes names (x ∷ xs) = role_if_named names (name_in (x ∷ xs)) (value_in (x ∷ xs))
 
--- the role of a word, for a command with options of these names; 45 is `-`
+-- the role of a word, for a command with options of these names; 0x2D is `-`
 abbrev pub role_of : List Text → Text → Role
 role_of names [] = stands_alone
 role_of names (x ∷ []) = stands_alone
 role_of names (x ∷ y ∷ rest) =
-    if x == 45 then (if y == 45 then role_behind_dashes names rest else refused) else stands_alone
+    if x == 0x2D then (if y == 0x2D then role_after_dashes names rest else refused)
+    else stands_alone
 
 -- an operand, as IMAGE, or an option by its name with its value
 pub data Argument : Type 0 where
@@ -64,13 +65,14 @@ abbrev pub with_argument : Argument → Option (List Argument) → Option (List 
 with_argument a = option_map (λ rest. a ∷ rest)
 
 -- The arguments from a word of this role on, where no option waits for its value; `next` has those
--- of the words behind it.
+-- of the words after it.
 abbrev pub arguments_from : Role → Text → List Text → (Option Text → Option (List Argument))
     → Option (List Argument)
 arguments_from stands_alone word rest next = with_argument (operand word) (next None)
 arguments_from ends_options word rest next = Some (map operand rest)
 arguments_from (opens name) word rest next = next (Some name)
-arguments_from (gives name value) word rest next = with_argument (option_value name value) (next None)
+arguments_from (gives name value) word rest next =
+    with_argument (option_value name value) (next None)
 arguments_from refused word rest next = None
 
 -- The arguments from a word of this role on, where the option `name` waits for its value: the word

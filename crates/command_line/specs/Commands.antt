@@ -1,5 +1,6 @@
 -- A command as the words say it, and the ranges that its numbers keep.
-use Rattle.std.specs.Prelude.{◌≡◌, ◌≤◌, ◌⊎◌, ℕ}
+use Rattle.std.specs.Prelude.{◌≤◌, ℕ}
+use Rattle.flash_traits.specs.Words.{IsSectorSize}
 use Rattle.command_line.specs.Lines.{CommandLine, serve, format, dump, report}
 use Rattle.command_line.specs.declared.Command.{Command}
 use Rattle.command_line.specs.declared.Command.TheVariants as command
@@ -10,13 +11,13 @@ line_of (command.Format image sector) = format image.now sector
 line_of (command.Dump image) = dump image.now
 line_of (command.Report image) = report image.now
 
--- one of the four sizes of a sector, in bytes
-abbrev pub IsSectorSize : ℕ → Type 0
-IsSectorSize n = (n ≡ 16384) ⊎ ((n ≡ 32768) ⊎ ((n ≡ 65536) ⊎ (n ≡ 131072)))
+-- a size of a sector, in bytes, with which an image is made: each that a board has
+abbrev pub IsFormatSize : ℕ → Type 0
+IsFormatSize n = IsSectorSize n
 
--- a port and a number of turns are at least 1, and a sector has one of the four sizes
+-- a port and a number of turns are at least 1, and a sector has a size with which an image is made
 abbrev pub IsInRange : Command → Type 0
 IsInRange (command.Serve image port turns) = (1 ≤ port) × (1 ≤ turns)
-IsInRange (command.Format image sector) = IsSectorSize sector
+IsInRange (command.Format image sector) = IsFormatSize sector
 IsInRange (command.Dump image) = Unit {0}
 IsInRange (command.Report image) = Unit {0}

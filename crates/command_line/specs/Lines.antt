@@ -1,13 +1,14 @@
 -- The command that a list of words is, or none. The first word picks the command; the rest are its
--- arguments: one operand, IMAGE, and each option at most once, before or behind it.
+-- arguments: one operand, IMAGE, and each option at most once, before or after it.
 --
--- A command is added by: a constructor of `CommandLine`; the names of its options (`serve_options`);
--- what its operands and values say (`serve_says`, `serve_from`); its first word in
--- `line_of_command`; its variant in Commands.antt. In src/ come the variant of `Command`, the names
--- again, a function beside `serve_said` and `serve`, and the first word in `command_of`. The lemmas
--- and the reading of the words by `clap` hold for options of any names.
-use Rattle.std.specs.Prelude.{◌==◌, ◌||◌, ℕ, List, [], ◌∷◌, Option, Some, None, codes, drop, if◌then◌else◌, option_and_then, option_map, slice_get}
+-- A command is added by: a constructor of `CommandLine`; the names of its options
+-- (`serve_options`); what its operands and values say (`serve_says`, `serve_from`); its first word
+-- in `line_of_command`; its variant in Commands.antt. In src/ come the variant of `Command`, the
+-- names again, a function beside `serve_said` and `serve`, and the first word in `command_of`. The
+-- lemmas and the reading of the words by `clap` hold for options of any names.
+use Rattle.std.specs.Prelude.{ℕ, List, [], ◌∷◌, Option, Some, None, codes, drop, if◌then◌else◌, option_and_then, option_map, slice_get}
 use Rattle.std.specs.Str.{bytes_eq}
+use Rattle.flash_traits.specs.Words.{is_size}
 use Rattle.command_line.specs.Arguments.{Argument, Text, arguments, operands, values_of}
 use Rattle.command_line.specs.Numbers.{number_given, only}
 
@@ -47,15 +48,15 @@ format_with _ _ = None
 abbrev pub format_options : List Text
 format_options = codes "sector" ∷ []
 
--- the number, where it is one of the four sizes of a sector
-abbrev pub sector_size_in : ℕ → Option ℕ
-sector_size_in n =
-    if n == 16384 || (n == 32768 || (n == 65536 || n == 131072)) then Some n else None
+-- the number, where it is a size with which an image is made
+abbrev pub format_size_in : ℕ → Option ℕ
+format_size_in n = if is_size n then Some n else None
 
--- S is one of the four sizes, and 131072 where it is not given.
+-- S is one of these sizes, and 131072 where it is not given.
 abbrev pub format_says : List Text → List Text → Option CommandLine
 format_says images sectors =
-    format_with (only images) (option_and_then sector_size_in (number_given 16384 131072 131072 sectors))
+    format_with (only images)
+    (option_and_then format_size_in (number_given 16384 131072 131072 sectors))
 
 abbrev pub format_from : Option (List Argument) → Option CommandLine
 format_from None = None
@@ -79,7 +80,7 @@ abbrev pub report_from : Option (List Argument) → Option CommandLine
 report_from None = None
 report_from (Some args) = report_says (operands args)
 
--- the command with this first word and these words behind it
+-- the command with this first word and these words after it
 abbrev pub line_of_command : Text → List Text → Option CommandLine
 line_of_command first rest =
     if bytes_eq first (codes "serve") then serve_from (arguments serve_options None rest)

@@ -3,8 +3,8 @@
 
 ghost use Rattle.std.specs.Prelude.{◌≡◌, IfOk, IfSome, None, map, option_map, drop, codes};
 ghost use Rattle.command_line.specs.Arguments.{arguments};
-ghost use Rattle.command_line.specs.Commands.{IsInRange, IsSectorSize, line_of};
-ghost use Rattle.command_line.specs.Lines.{dump_from, dump_says, format_from, format_options, format_says, line_of_words, no_options, report_from, report_says, sector_size_in, serve_from, serve_options, serve_says};
+ghost use Rattle.command_line.specs.Commands.{IsFormatSize, IsInRange, line_of};
+ghost use Rattle.command_line.specs.Lines.{dump_from, dump_says, format_from, format_options, format_says, line_of_words, no_options, report_from, report_says, format_size_in, serve_from, serve_options, serve_says};
 ghost use Rattle.command_line.specs.Matches.{texts_of};
 
 mod number;
@@ -12,6 +12,7 @@ mod reading;
 
 use crate::reading::{number_given_to, only_image, read};
 use clap::ArgMatches;
+use flash_traits::is_sector_size;
 use std::alloc::{AllocError, Global};
 
 /// What a command line asks for.
@@ -84,12 +85,12 @@ fn serve<'a>(alloc: Global, words: &'a [&'a str]) -> Result<Option<Command<'a>>,
 
 static FORMAT_OPTIONS: [&str; 1] = ["sector"];
 
-/// The number, where it is one of the four sizes of a sector.
-fn sector_size(number: u32) -> Option<u32>
-    ensures value { result ≡ sector_size_in number }
-    ensures size { IfSome result IsSectorSize }
+/// The number, where it is a size with which an image is made.
+fn format_size(number: u32) -> Option<u32>
+    ensures value { result ≡ format_size_in number }
+    ensures size { IfSome result IsFormatSize }
 {
-    if number == 16384 || number == 32768 || number == 65536 || number == 131072 {
+    if is_sector_size(number) {
         Some(number)
     } else {
         None
@@ -108,7 +109,7 @@ fn format_said<'a>(matches: &ArgMatches<'a>) -> Option<Command<'a>>
     let Some(number) = number_given_to(matches, "sector", 16384, 131072, 131072) else {
         return None;
     };
-    let Some(sector) = sector_size(number) else {
+    let Some(sector) = format_size(number) else {
         return None;
     };
     Some(Command::Format { image, sector })
@@ -178,9 +179,9 @@ fn report<'a>(alloc: Global, words: &'a [&'a str]) -> Result<Option<Command<'a>>
 }
 
 /// The command that the words are, without the program's name, or `None` where they are no command
-/// line. The first word picks the command. Options stand before or behind IMAGE, each at most once,
+/// line. The first word picks the command. Options stand before or after IMAGE, each at most once,
 /// as `--name value` or `--name=value`. A word that begins with `-` and is not the single `-` is
-/// IMAGE only behind `--`. A number is one to ten ASCII digits.
+/// IMAGE only after `--`. A number is one to ten ASCII digits.
 ///
 /// # Errors
 ///

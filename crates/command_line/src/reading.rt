@@ -12,7 +12,7 @@ use clap::error::ErrorKind;
 use clap::{Arg, ArgAction, ArgMatches, Command, Error};
 use std::alloc::{AllocError, Global};
 
-/// What `clap` makes of the words behind the first, for options of these names. IMAGE and each
+/// What `clap` makes of the words after the first, for options of these names. IMAGE and each
 /// option may come any number of times, and none has to: the counts are tested by the caller.
 fn matches_with<'a>(
     alloc: Global,
@@ -22,7 +22,8 @@ fn matches_with<'a>(
     ensures kinds { FailsBy (fault_of (app_with (map (λ n. n.now) names.entry.now))
         (map (λ s. s.now) words.entry.now)) result }
     ensures matches { IfOk result (λ m. rows_of (found_of m)
-        ≡ matches_of (app_with (map (λ n. n.now) names.entry.now)) (map (λ s. s.now) words.entry.now)) }
+        ≡ matches_of (app_with (map (λ n. n.now) names.entry.now))
+        (map (λ s. s.now) words.entry.now)) }
 {
     let image = Arg::new(alloc, "IMAGE").action(ArgAction::Append);
     let mut command = Command::new(alloc, "command")
@@ -51,7 +52,7 @@ fn are_texts(words: &[&str])
     }
 }
 
-/// The matches of the words behind the first, or `None` where those words are not of the form of a
+/// The matches of the words after the first, or `None` where those words are not of the form of a
 /// command with options of these names.
 pub fn read<'a>(
     alloc: Global,
@@ -60,7 +61,8 @@ pub fn read<'a>(
 ) -> Result<Option<ArgMatches<'a>>, AllocError>
     requires apart { is_named (map (λ n. n.now) names.now) (codes "IMAGE") ≡ false }
     ensures { IfOk result (Reads (map (λ n. n.now) names.entry.now)
-        (arguments (map (λ n. n.now) names.entry.now) None (drop 1 (map (λ s. s.now) words.entry.now)))) }
+        (arguments (map (λ n. n.now) names.entry.now) None
+        (drop 1 (map (λ s. s.now) words.entry.now)))) }
 {
     are_texts(words);
     match matches_with(alloc, names, words) {

@@ -2,13 +2,12 @@
 use Rattle.std.proofs.Common.{◌≡◌, ℕ, [], refl}
 use Rattle.flash_traits.specs.Words.{Words}
 use Rattle.flash_traits.specs.declared.board.Board.{Ghosts}
-use Rattle.sector_image.specs.Stands.{Reading, Reads, count_in}
+use Rattle.sector_image.specs.Stands.{Reading, Reads, count_in, shape_of}
 use Rattle.sector_image.specs.Images.{Bytes}
 use Rattle.sector_image.specs.Fits.{FitsShape, reading_of}
 use Rattle.sector_image.specs.declared.kept.Kept.{Kept}
 use Rattle.sector_image.specs.declared.kept.Shape.{Shape}
 use Rattle.sector_image.specs.declared.kept.Shape.TheVariants as shape
-use Rattle.image_report.specs.Dumps.{shape_of}
 
 -- the words are an image of this state and this guard count
 pub record IsState (w : Words) (name : Shape) (count : ℕ) : Type 0 where

@@ -1,4 +1,3 @@
-pub mod Upper
 pub mod Writing
 pub mod Table
 pub mod Pieces

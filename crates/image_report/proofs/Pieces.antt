@@ -3,14 +3,14 @@ use Rattle.std.proofs.Common.{◌≡◌, ℕ, List, ◌++◌, ◌∙◌, sym, ap
 use Rattle.std.specs.Prelude.{Result, Ok, Err, IsErrAnd}
 use Rattle.flash_traits.specs.declared.stream.Sink.{Ghosts}
 use Rattle.sector_image.specs.declared.kept.Shape.{Shape}
-use Rattle.image_report.specs.Dumps.{head_line, param_lines, digest_line, dump_text}
-use Rattle.image_report.specs.Writes.{Writes}
+use Rattle.image_report.specs.Dumps.{head_line, stored_text, digest_line, dump_text}
+use Rattle.image_report.specs.Steps.Writes.{Writes}
 use Rattle.image_report.proofs.Writing.{writes_then, writes_cut, retext}
 
 -- the text in its three pieces
-pub in_pieces : (size count : ℕ) (shape : Shape) (bytes : List ℕ) → head_line size count shape ++ (param_lines bytes ++ digest_line bytes) ≡ dump_text size count shape bytes
+pub in_pieces : (size count : ℕ) (shape : Shape) (bytes : List ℕ) → head_line size count shape ++ (stored_text bytes ++ digest_line bytes) ≡ dump_text size count shape bytes
 unfolding dump_text
-in_pieces size count shape bytes = sym (append_assoc (head_line size count shape) (param_lines bytes) (digest_line bytes))
+in_pieces size count shape bytes = sym (append_assoc (head_line size count shape) (stored_text bytes) (digest_line bytes))
 
 module _ {K : Type 0} (g : Ghosts K) where
   -- the first piece is cut off

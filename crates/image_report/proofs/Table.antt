@@ -11,7 +11,7 @@ use Rattle.param_tree.specs.Rows.{vehicle_rows, basic_rows, single_rows, mission
 use Rattle.param_records.specs.declared.values.Value.{Value}
 use Rattle.param_records.specs.Values.{params_of}
 use Rattle.image_report.specs.Dumps.{param_text, param_line, param_lines}
-use Rattle.image_report.specs.Writes.{Writes}
+use Rattle.image_report.specs.Steps.Writes.{Writes}
 use Rattle.image_report.proofs.Writing.{writes_then, writes_cut, retext}
 
 length-vehicle_rows : length vehicle_rows ≡ 240

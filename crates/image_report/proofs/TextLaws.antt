@@ -13,7 +13,7 @@ use Rattle.sector_log.specs.Sector.{IsSector}
 use Rattle.sector_log.specs.Log.{IsLogOf, end_of, torn_of}
 use Rattle.sector_log.proofs.SectorLemmas as sectors
 use Rattle.sector_log.proofs.ValueLemmas as values
-use Rattle.sector_image.specs.Stands.{Reading, Stands, entries_in, count_in}
+use Rattle.sector_image.specs.Stands.{Reading, Stands, entries_in, count_in, shape_of}
 use Rattle.sector_image.specs.declared.kept.Shape.{Shape}
 use Rattle.sector_image.proofs.ImageLaws as image
 use Rattle.sector_image.proofs.Regions.{big, half_of}
@@ -22,7 +22,7 @@ use Rattle.image_report.specs.declared.findings.GuardFound.TheVariants as guard
 use Rattle.image_report.specs.declared.findings.SectorFound.{SectorFound}
 use Rattle.image_report.specs.declared.findings.SectorFound.TheVariants as found
 use Rattle.image_report.specs.declared.findings.Findings.{Findings}
-use Rattle.image_report.specs.Dumps.{IsDump, dump_text, shape_of}
+use Rattle.image_report.specs.Dumps.{IsDump, dump_text}
 use Rattle.image_report.specs.Reports.{IsGuardFound, IsSectorFound, IsStateFound, IsFound, IsReport, report_text, void_in}
 
 -- words have at most one dump

@@ -1,4 +1,4 @@
--- Texts that are written one behind the other.
+-- Texts that are written one after the other.
 use Rattle.std.proofs.Common.{◌≡◌, ◌≤◌, inl, inr, ℕ, ◌+◌, List, ◌++◌, [], take, length, sym, ◌∙◌, ap, subst, arith, append_assoc}
 use Rattle.std.specs.Prelude.{Result, Ok, Err, OnErr, IsErrAnd, MatchResult}
 use Rattle.std.proofs.lemmas.List.{take_all, take-append-le, append-nil}
@@ -6,13 +6,14 @@ use Rattle.std.proofs.lemmas.Bool.{cases_lt}
 use Rattle.std.proofs.Math.Seq.{take-append_seam, take-append-add}
 use Rattle.flash_traits.specs.declared.stream.Sink.{Ghosts}
 use Rattle.flash_traits.specs.Causes.{Rose, HasOneCause}
-use Rattle.image_report.specs.Writes.{Writes, WritesFirstPart}
+use Rattle.image_report.specs.Writes.{WritesPrefix}
+use Rattle.image_report.specs.Steps.Writes.{Writes}
 
--- a first part of a text is one of a longer text
+-- a prefix of a text is one of a longer text
 pub longer : (count : ℕ) (a b : List ℕ) → (n : ℕ) × (take n (a ++ b) ≡ take count a)
 longer count a b = elim (cases_lt count (length a)) [
   | inl within ↦ (count, take-append-le count a b (omega arith))
-  | inr behind ↦ (length a, take-append_seam a b ∙ sym (take_all count a (omega arith)))
+  | inr after ↦ (length a, take-append_seam a b ∙ sym (take_all count a (omega arith)))
 ]
 
 rose_later : (a b c : ℕ) → a ≤ b → Rose b c → Rose a c
@@ -72,12 +73,12 @@ module _ {K : Type 0} (g : Ghosts K) where
   pub writes_none : {S F : Type 0} (k : K) (x : S) → Writes {T = S} {E = F} g k k (Ok x) []
   writes_none k x = record { told = λ told. told; written = λ told. sym (append-nil (g.written k)); cause = record { later = omega arith; failed = tt } }
 
--- of the one text, a whole or a first part was written
+-- of the one text, a whole or a prefix was written
 pub part_of_one : {T E : Type 0} (IsText : List ℕ → Type 0) (r : Result T E) (old new text : List ℕ) → ((a b : List ℕ) → IsText a → IsText b → a ≡ b) → IsText text
-    → MatchResult r (λ _. new ≡ old ++ text) (λ _. (count : ℕ) × (new ≡ old ++ take count text)) → WritesFirstPart IsText old new
+    → MatchResult r (λ _. new ≡ old ++ text) (λ _. (count : ℕ) × (new ≡ old ++ take count text)) → WritesPrefix IsText old new
 part_of_one IsText (Ok x) old new text one is written = λ other is_other. (length text, written ∙ ap (λ (l : List ℕ). old ++ l) (one text other is is_other ∙ sym (take_all (length text) other (omega (arith, ap length (one text other is is_other))))))
 part_of_one IsText (Err e) old new text one is written = λ other is_other. (written.0, written.1 ∙ ap (λ (l : List ℕ). old ++ take written.0 l) (one text other is is_other))
 
 -- nothing was written
-pub part_of_none : (IsText : List ℕ → Type 0) (old new : List ℕ) → new ≡ old → WritesFirstPart IsText old new
+pub part_of_none : (IsText : List ℕ → Type 0) (old new : List ℕ) → new ≡ old → WritesPrefix IsText old new
 part_of_none IsText old new same = λ text is. (0, same ∙ sym (append-nil old))

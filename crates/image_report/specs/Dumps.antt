@@ -1,7 +1,7 @@
 -- The text of a dump: what an image stands for.
 --
 --     image 16384 guard 0 alone
---     param FORMAT_VERSION i16 121
+--     param FORMAT_VERSION i16 120
 --     param RTL_ALT i32 1500
 --     ..
 --     param FENCE_ALT_MAX f32 42C80000
@@ -16,11 +16,9 @@ use Rattle.std.specs.Int.{to_be_bytes, w32}
 use Rattle.hex.specs.Hex.{encode_upper, encode_lower}
 use Rattle.sha2.specs.Sha256.{sha256}
 use Rattle.flash_traits.specs.Words.{Words}
-use Rattle.flash_traits.specs.declared.board.Mark.TheVariants.{InUse, Full}
 use Rattle.sector_log.specs.Bytes.{IsValue}
-use Rattle.sector_image.specs.Stands.{Reading, Both, One, Reads, entries_in, count_in}
+use Rattle.sector_image.specs.Stands.{Reading, Reads, entries_in, count_in, shape_of}
 use Rattle.sector_image.specs.declared.kept.Shape.{Shape}
-use Rattle.sector_image.specs.declared.kept.Shape.TheVariants as shape
 use Rattle.param_tree.specs.declared.Kind.{Kind}
 use Rattle.param_tree.specs.declared.Kind.TheVariants.{I8, I16, I32, F32, Vec3}
 use Rattle.param_tree.specs.declared.Var.{Var}
@@ -29,7 +27,8 @@ use Rattle.param_tree.specs.Rows.{vehicle_rows}
 use Rattle.param_records.specs.declared.values.Value.{Value}
 use Rattle.param_records.specs.declared.values.Value.TheVariants.{Whole, Bits}
 use Rattle.param_records.specs.Values.{params_of}
-use Rattle.image_report.specs.Texts.{line_of, shape_name}
+use Rattle.printed_text.specs.Pieces.{with_newline}
+use Rattle.image_report.specs.Texts.{size_text, shape_name}
 
 -- the type of a row; each of three floats that are stored as one value is printed by itself
 abbrev pub kind_name : Kind → List ℕ
@@ -44,9 +43,10 @@ abbrev pub value_text : Value → List ℕ
 value_text (Whole number) = signed_decimal number
 value_text (Bits pattern) = encode_upper (to_be_bytes w32 pattern)
 
--- `param FORMAT_VERSION i16 121`, the name without the zeros behind it
+-- `param FORMAT_VERSION i16 120`, the name without the zeros after it
 abbrev pub param_text : Var → Value → List ℕ
-param_text row value = line_of (codes "param " ++ name_of row ++ codes " " ++ kind_name row.kind ++ codes " " ++ value_text value)
+param_text row value = with_newline (codes "param " ++ name_of row ++ codes " "
+    ++ kind_name row.kind ++ codes " " ++ value_text value)
 
 -- the line of a row by the storage bytes
 unfoldable pub param_line : List ℕ → Var → List ℕ
@@ -56,28 +56,23 @@ param_line bytes row = param_text row (params_of bytes row)
 unfoldable pub param_lines : List ℕ → List ℕ
 param_lines bytes = flat_map (param_line bytes) vehicle_rows
 
--- What the storage bytes hold, one part behind the other. The parameters are the only part so far.
+-- What the storage bytes hold, section after section. The parameters are the only section so far.
 abbrev pub stored_text : List ℕ → List ℕ
 stored_text bytes = param_lines bytes
 
 -- `image 16384 guard 0 alone`
 abbrev pub head_line : ℕ → ℕ → Shape → List ℕ
-head_line sector_bytes count shape = line_of (codes "image " ++ decimal sector_bytes ++ codes " guard " ++ decimal count ++ codes " " ++ shape_name shape)
+head_line sector_bytes count shape = with_newline (size_text sector_bytes ++ codes " guard "
+    ++ decimal count ++ codes " " ++ shape_name shape)
 
 -- `sha256 H`, the digest of the storage bytes
 unfoldable pub digest_line : List ℕ → List ℕ
-digest_line bytes = line_of (codes "sha256 " ++ encode_lower (sha256 bytes))
+digest_line bytes = with_newline (codes "sha256 " ++ encode_lower (sha256 bytes))
 
 -- the text of an image of this sector size, guard count and state that stands for these bytes
 unfoldable pub dump_text : ℕ → ℕ → Shape → List ℕ → List ℕ
-dump_text sector_bytes count shape bytes = head_line sector_bytes count shape ++ stored_text bytes ++ digest_line bytes
-
--- the state that a reading of the words is
-abbrev pub shape_of : Reading → Shape
-shape_of (Both count InUse n home other) = shape.Alone
-shape_of (Both count Full InUse home other) = shape.Spilled
-shape_of (Both count m n home other) = shape.Marked
-shape_of (One count entries) = shape.Voided
+dump_text sector_bytes count shape bytes = head_line sector_bytes count shape ++ stored_text bytes
+    ++ digest_line bytes
 
 -- The text of words that are an image: what they tell, and the bytes that they stand for.
 pub record IsDump (w : Words) (text : List ℕ) : Type 0 where

@@ -4,3 +4,4 @@ pub mod Reports
 pub mod Writes
 pub mod Refusals
 pub mod Laws
+pub mod Steps

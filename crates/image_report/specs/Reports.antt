@@ -17,15 +17,16 @@ use Rattle.sector_log.specs.declared.log.Log.{Log}
 use Rattle.sector_log.specs.Entries.{Entry}
 use Rattle.sector_log.specs.Sector as sector
 use Rattle.sector_log.specs.Log.{IsLogOf}
-use Rattle.sector_image.specs.Stands.{Reading, Reads}
+use Rattle.sector_image.specs.Stands.{Reading, Reads, shape_of}
 use Rattle.sector_image.specs.declared.kept.Shape.{Shape}
 use Rattle.image_report.specs.declared.findings.GuardFound.{GuardFound}
 use Rattle.image_report.specs.declared.findings.GuardFound.TheVariants as guard
 use Rattle.image_report.specs.declared.findings.SectorFound.{SectorFound}
 use Rattle.image_report.specs.declared.findings.SectorFound.TheVariants as found
 use Rattle.image_report.specs.declared.findings.Findings.{Findings}
-use Rattle.image_report.specs.Texts.{line_of, region_name, mark_name, shape_name, foreign_text}
-use Rattle.image_report.specs.Dumps.{shape_of}
+use Rattle.printed_text.specs.Names.{region_name, mark_name}
+use Rattle.printed_text.specs.Pieces.{with_newline}
+use Rattle.image_report.specs.Texts.{size_text, shape_name, foreign_text}
 
 -- the guard row has this count, or this is its first failing place
 abbrev pub IsGuardFound : List ℕ → GuardFound → Type 0
@@ -40,8 +41,11 @@ void_in (guard.Foreign offset word) = None
 -- A void sector isn't looked at. Any other one has this log, or this is its first failing place.
 abbrev pub IsSectorFound : Option Region → Region → List ℕ → SectorFound → Type 0
 IsSectorFound void region halfwords found.Void = void ≡ Some region
-IsSectorFound void region halfwords (found.Log log) = (void ≢ Some region) × ((entries : List Entry) × sector.IsSector halfwords log.mark entries × IsLogOf log region log.mark entries)
-IsSectorFound void region halfwords (found.Foreign offset word) = (void ≢ Some region) × sector.FirstBad halfwords offset word
+IsSectorFound void region halfwords (found.Log log) = (void ≢ Some region)
+    × ((entries : List Entry) × sector.IsSector halfwords log.mark entries
+    × IsLogOf log region log.mark entries)
+IsSectorFound void region halfwords (found.Foreign offset word) = (void ≢ Some region)
+    × sector.FirstBad halfwords offset word
 
 -- the words are in this state, or in none
 abbrev pub IsStateFound : Words → Option Shape → Type 0
@@ -57,37 +61,40 @@ pub record IsFound (w : Words) (findings : Findings) : Type 0 where
 
 -- `image 16384`
 abbrev pub image_line : ℕ → List ℕ
-image_line sector_bytes = line_of (codes "image " ++ decimal sector_bytes)
+image_line sector_bytes = with_newline (size_text sector_bytes)
 
 -- `guard 0` or `guard foreign 1 00FF`
 abbrev pub guard_line : GuardFound → List ℕ
-guard_line (guard.Count count) = line_of (codes "guard " ++ decimal count)
-guard_line (guard.Foreign offset word) = line_of (codes "guard " ++ foreign_text offset word)
+guard_line (guard.Count count) = with_newline (codes "guard " ++ decimal count)
+guard_line (guard.Foreign offset word) = with_newline (codes "guard " ++ foreign_text offset word)
 
--- the bytes behind the last entry
+-- the bytes after the last entry
 abbrev pub free_of : ℕ → Log → ℕ
 free_of sector_bytes log = sector_bytes - 2 * log.end
 
--- what is said of a sector behind its name
+-- what is said of a sector after its name
 abbrev pub sector_text : ℕ → SectorFound → List ℕ
 sector_text sector_bytes found.Void = codes "void"
 sector_text sector_bytes (found.Log log) =
-    mark_name log.mark ++ codes " entries " ++ decimal log.valid ++ codes " torn " ++ decimal log.gaps ++ codes " free " ++ decimal (free_of sector_bytes log)
+    mark_name log.mark ++ codes " entries " ++ decimal log.valid ++ codes " torn "
+    ++ decimal log.gaps ++ codes " free " ++ decimal (free_of sector_bytes log)
 sector_text sector_bytes (found.Foreign offset word) = foreign_text offset word
 
 -- `s0 inuse entries 0 torn 0 free 16380`, `s0 foreign 2 000E` or `s0 void`
 abbrev pub sector_line : ℕ → Region → SectorFound → List ℕ
-sector_line sector_bytes region sector = line_of (region_name region ++ codes " " ++ sector_text sector_bytes sector)
+sector_line sector_bytes region sector = with_newline (region_name region ++ codes " "
+    ++ sector_text sector_bytes sector)
 
 -- `state alone` or `state foreign`
 abbrev pub state_line : Option Shape → List ℕ
-state_line (Some shape) = line_of (codes "state " ++ shape_name shape)
-state_line None = line_of (codes "state foreign")
+state_line (Some shape) = with_newline (codes "state " ++ shape_name shape)
+state_line None = with_newline (codes "state foreign")
 
 -- the text of what is found at this sector size
 unfoldable pub report_text : ℕ → Findings → List ℕ
 report_text sector_bytes findings =
-    image_line sector_bytes ++ guard_line findings.guard ++ sector_line sector_bytes S0 findings.s0 ++ sector_line sector_bytes S1 findings.s1 ++ state_line findings.state
+    image_line sector_bytes ++ guard_line findings.guard ++ sector_line sector_bytes S0 findings.s0
+    ++ sector_line sector_bytes S1 findings.s1 ++ state_line findings.state
 
 -- the text of any words: what is found in them
 pub record IsReport (w : Words) (text : List ℕ) : Type 0 where

@@ -1,5 +1,11 @@
 //! Why an image isn't printed.
-use flash_traits::{Fault, Region};
+ghost use Rattle.std.specs.Prelude.{◌≡◌};
+ghost use Rattle.image_report.specs.declared.errors.ReportError.TheVariants as errors;
+ghost use Rattle.image_report.specs.Steps.Errors.{error_of_survey};
+
+use flash_traits::{Failed, Fault, Region};
+use sector_image::SurveyError;
+use std::alloc::AllocError;
 use thiserror::Error;
 
 /// Why an image isn't printed.
@@ -18,7 +24,51 @@ pub enum ReportError {
         offset: u32,
         word: u16,
     },
-    /// The sink failed; a first part of the text was written.
+    /// The sink failed; a prefix of the text was written.
     #[error("the output failed")]
     Output,
+}
+
+impl From<AllocError> for ReportError {
+    ghost from_gives = { λ _ error. error ≡ errors.Memory };
+
+    fn from(_: AllocError) -> ReportError {
+        ReportError::Memory
+    }
+}
+
+impl From<Fault> for ReportError {
+    ghost from_gives = { λ kind error. error ≡ errors.Fault kind };
+
+    fn from(kind: Fault) -> ReportError {
+        ReportError::Fault(kind)
+    }
+}
+
+impl From<SurveyError> for ReportError {
+    ghost from_gives = { λ refusal error. error ≡ error_of_survey refusal };
+
+    fn from(refusal: SurveyError) -> ReportError {
+        match refusal {
+            SurveyError::Fault(kind) => ReportError::Fault(kind),
+            SurveyError::Foreign {
+                region,
+                offset,
+                word,
+            } => ReportError::Foreign {
+                region,
+                offset,
+                word,
+            },
+        }
+    }
+}
+
+/// A failed call here is one of the sink.
+impl From<Failed> for ReportError {
+    ghost from_gives = { λ _ error. error ≡ errors.Output };
+
+    fn from(_: Failed) -> ReportError {
+        ReportError::Output
+    }
 }

@@ -1,16 +1,14 @@
-// What is found in the words of a board, region by region.
-ghost use Rattle.std.specs.Prelude.{◌≡◌, length, IfOk, IfErr};
-ghost use Rattle.flash_traits.specs.declared.board.Fault.TheVariants.{Read};
+//! What is found in the words of a board, region by region.
+ghost use Rattle.std.specs.Prelude.{◌≡◌, length, IfOk};
 ghost use Rattle.flash_traits.specs.Words.{halfwords_in, IsSectorRegion, IsSectorSize};
-ghost use Rattle.flash_traits.specs.Causes.{Rose};
 ghost use Rattle.sector_log.specs.Storage.{storage_bytes};
-ghost use Rattle.flash_traits.specs.Calls.{OnlyReads};
 ghost use Rattle.image_report.specs.Reports.{IsGuardFound, IsSectorFound, IsStateFound, IsFound, void_in};
+ghost use Rattle.image_report.specs.Steps.Looks.{Looks};
 
 use flash_traits::{Board, Fault, LogError, Region};
 use guard_row::{GuardError, count, void_of};
+use sector_image::{Images, Shape, SurveyError, survey};
 use sector_log::{Log, scan};
-use sector_switch::{Images, Shape, SurveyError, survey};
 
 /// What the guard row says.
 #[derive(Clone, Copy, Debug, PartialEq, Eq)]
@@ -40,11 +38,12 @@ pub(crate) struct Findings {
     pub(crate) state: Option<Shape>,
 }
 
+/// The guard row by itself.
 fn guard_found<B: Board>(board: &mut B) -> Result<GuardFound, Fault>
     requires attached { IsSectorSize (B.sector_bytes board.old) }
-    ensures found { IfOk result (λ guard. B.tells board.new → IsGuardFound (B.words board.old).guard guard) }
-    ensures fault { IfErr result (λ kind. (kind ≡ Read) × Rose (B.faults board.old Read) (B.faults board.new Read)) }
-    ensures reads { OnlyReads B.Board board.old board.new }
+    ensures found { IfOk result (λ guard. B.tells board.new
+        → IsGuardFound (B.words board.old).guard guard) }
+    ensures looks { Looks B.Board board.old board.new result }
 {
     match count(board) {
         Ok(count) => Ok(GuardFound::Count(count)),
@@ -73,9 +72,9 @@ fn sector_found<B: Board>(
     requires attached { IsSectorSize (B.sector_bytes board.old) }
     requires sector { IsSectorRegion region }
     requires storage { length buffer.old ≡ storage_bytes }
-    ensures found { IfOk result (λ sector. B.tells board.new → IsSectorFound void region (halfwords_in (B.words board.old) region) sector) }
-    ensures fault { IfErr result (λ kind. (kind ≡ Read) × Rose (B.faults board.old Read) (B.faults board.new Read)) }
-    ensures reads { OnlyReads B.Board board.old board.new }
+    ensures found { IfOk result (λ sector. B.tells board.new
+        → IsSectorFound void region (halfwords_in (B.words board.old) region) sector) }
+    ensures looks { Looks B.Board board.old board.new result }
 {
     if void == Some(region) {
         return Ok(SectorFound::Void);
@@ -90,9 +89,9 @@ fn sector_found<B: Board>(
 /// The state of the whole image.
 fn state_found<B: Board>(board: &mut B, images: &mut Images) -> Result<Option<Shape>, Fault>
     requires attached { IsSectorSize (B.sector_bytes board.old) }
-    ensures found { IfOk result (λ state. B.tells board.new → IsStateFound (B.words board.old) state) }
-    ensures fault { IfErr result (λ kind. (kind ≡ Read) × Rose (B.faults board.old Read) (B.faults board.new Read)) }
-    ensures reads { OnlyReads B.Board board.old board.new }
+    ensures found { IfOk result (λ state. B.tells board.new
+        → IsStateFound (B.words board.old) state) }
+    ensures looks { Looks B.Board board.old board.new result }
 {
     match survey(board, images) {
         Ok(survey) => Ok(Some(survey.shape)),
@@ -109,9 +108,9 @@ pub(crate) fn findings_of<B: Board>(
 ) -> Result<Findings, Fault>
     requires attached { IsSectorSize (B.sector_bytes board.old) }
     requires storage { length buffer.old ≡ storage_bytes }
-    ensures found { IfOk result (λ findings. B.tells board.new → IsFound (B.words board.old) findings) }
-    ensures fault { IfErr result (λ kind. (kind ≡ Read) × Rose (B.faults board.old Read) (B.faults board.new Read)) }
-    ensures reads { OnlyReads B.Board board.old board.new }
+    ensures found { IfOk result (λ findings. B.tells board.new
+        → IsFound (B.words board.old) findings) }
+    ensures looks { Looks B.Board board.old board.new result }
 {
     let guard = guard_found(board)?;
     let void = void_in(guard);

@@ -1,5 +1,5 @@
-// One piece of a text.
-ghost use Rattle.image_report.specs.Writes.{Writes};
+//! One piece of a text, on its way out.
+ghost use Rattle.image_report.specs.Steps.Writes.{Writes};
 
 use flash_traits::{Failed, Sink};
 

@@ -2,7 +2,7 @@ use Rattle.std.proofs.Common.{◌+◌, arith}
 use Rattle.std.specs.Prelude.{Err, Ok}
 use Rattle.image_report.proofs.Table.{lines_to, params_step, params_cut, params_all}
 use Rattle.image_report.proofs.Writing.{writes_none}
-use Rattle.image_report.proofs.dumping.write_params.Goals as goal
+use Rattle.image_report.proofs.params.write_params.Goals as goal
 
 pub loop-index-init : goal.loop-index-init
 unfolding lines_to

@@ -1,7 +1,7 @@
 use Rattle.std.proofs.Common.{◌∙◌}
 use Rattle.image_report.proofs.Table.{line_is}
 use Rattle.image_report.proofs.Writing.{retext}
-use Rattle.image_report.proofs.dumping.write_param.Goals as goal
+use Rattle.image_report.proofs.params.write_param.Goals as goal
 
 pub returns : goal.returns
 returns g c = (
