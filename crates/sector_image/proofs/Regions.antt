@@ -1,5 +1,5 @@
 -- The two sectors: the words with other halfwords in one of them.
-use Rattle.std.proofs.Common.{◌≡◌, ◌≤◌, ◌⊎◌, inl, inr, ℕ, ◌+◌, ◌*◌, ◌/◌, ◌%◌, Bool, List, length, refl, sym, ◌∙◌, ap, subst, arith}
+use Rattle.std.proofs.Common.{◌≡◌, ◌≤◌, inl, inr, ℕ, ◌*◌, ◌/◌, List, length, refl, sym, ◌∙◌, ap, arith}
 use Rattle.flash_traits.specs.Words.{Words, halfwords_in, with_halfwords, IsSectorRegion, IsSectorSize, region_length}
 use Rattle.flash_traits.specs.declared.board.Region.{Region}
 use Rattle.flash_traits.specs.declared.board.Region.TheVariants.{S0, S1, Guard}

@@ -1,5 +1,5 @@
 -- What a survey reads, and what it says of the words.
-use Rattle.std.proofs.Common.{◌≡◌, ◌≢◌, ◌⊎◌, inl, inr, ℕ, ◌+◌, ◌-◌, ◌*◌, ◌/◌, ◌%◌, ◌<◌, ◌≤◌, Bool, true, false, Option, Some, None, List, [], ◌∷◌, ◌++◌, length, get_or, take, drop, refl, sym, ◌∙◌, ap, subst, arith, eq-eqb}
+use Rattle.std.proofs.Common.{◌≡◌, ◌≢◌, ◌⊎◌, inl, inr, ℕ, ◌+◌, ◌-◌, ◌*◌, ◌/◌, ◌%◌, ◌<◌, ◌≤◌, Bool, true, false, Option, Some, None, List, [], ◌∷◌, ◌++◌, length, take, drop, refl, sym, ◌∙◌, ap, subst, arith, eq-eqb}
 use Rattle.std.specs.Prelude.{All, IsTrue, if◌then◌else◌, ◌==◌, ◌&&◌, Result, Ok, Err, IfErr}
 use Rattle.std.specs.Result.{IsErrAnd}
 use Rattle.std.specs.Option.{option_and_then, is_some}
@@ -15,7 +15,6 @@ use Rattle.sector_log.specs.declared.log.Torn.{Torn}
 use Rattle.sector_log.specs.Storage.{storage_bytes}
 use Rattle.sector_log.specs.Entries.{Entry, IsEntry, entry_words}
 use Rattle.sector_log.specs.Sector.{IsSector, HasHead, BadHead, BadLog}
-use Rattle.flash_traits.specs.Marks.{mark_word}
 use Rattle.sector_log.specs.Bytes.{apply, applied, IsValue, programmable}
 use Rattle.sector_log.specs.Log.{end_of, last_of, torn_at, torn_of, IsLogOf}
 use Rattle.sector_log.specs.Appends.{entry_of, IsTornLast, IsLogIn}

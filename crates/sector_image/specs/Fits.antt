@@ -1,9 +1,8 @@
 -- When what a state keeps fits a board and the bytes in memory.
-use Rattle.std.specs.Prelude.{◌≡◌, ℕ, ◌+◌, ◌-◌, ◌*◌, ◌/◌, ◌%◌, ◌≤◌, List, [], ◌++◌, length, All, if◌then◌else◌, Bool, true, false, Option, Some, None, IsSome, IfSome}
-use Rattle.std.specs.Option.{option_map, option_and_then, option_map_or, is_some}
-use Rattle.flash_traits.specs.Words.{Words, halfwords_in, IsSectorSize}
+use Rattle.std.specs.Prelude.{◌≡◌, ℕ, ◌+◌, ◌-◌, ◌*◌, ◌/◌, ◌%◌, ◌≤◌, List, [], ◌++◌, length, Bool, true, false, Option, Some, None, IsSome, IfSome}
+use Rattle.std.specs.Option.{option_map, option_and_then, is_some}
+use Rattle.flash_traits.specs.Words.{Words, IsSectorSize}
 use Rattle.flash_traits.specs.declared.board.Board.{Ghosts}
-use Rattle.flash_traits.specs.declared.board.Region.{Region}
 use Rattle.flash_traits.specs.declared.board.Mark.{Mark}
 use Rattle.flash_traits.specs.declared.board.Mark.TheVariants.{Available, InUse, Full}
 use Rattle.sector_log.specs.Storage.{storage_bytes}
@@ -27,7 +26,8 @@ mark_of shape.Marked = Full
 mark_of shape.Spilled = Full
 mark_of shape.Voided = InUse
 
--- the other sector in use where the image is spilled, and else available; a void one isn't looked at
+-- the other sector in use where the image is spilled, and else available; a void one isn't looked
+-- at
 abbrev pub other_mark_of : Shape → Mark
 other_mark_of shape.Alone = Available
 other_mark_of shape.Marked = Available
@@ -48,8 +48,9 @@ reading_of shape.Marked count home other = Both count Full Available home other
 reading_of shape.Spilled count home other = Both count Full InUse home other
 reading_of shape.Voided count home other = One count home
 
--- What holds of every state whether the words are told or not: the sector size is the board's, the guard count is
--- of the row and of the state's parity, and home's log is of the sector that this count names and ends inside it.
+-- What holds of every state whether the words are told or not: the sector size is the board's, the
+-- guard count is of the row and of the state's parity, and home's log is of the sector that this
+-- count names and ends inside it.
 pub record IsKept (name : Shape) (sector_bytes : ℕ) (kept : Kept) (images : Bytes) : Type 0 where
   pub attached : IsSectorSize sector_bytes
   pub size : kept.sector_bytes ≡ sector_bytes
@@ -62,13 +63,14 @@ pub record IsKept (name : Shape) (sector_bytes : ℕ) (kept : Kept) (images : By
   pub upper_size : length images.upper ≡ storage_bytes
 
 -- alone, marked and voided: there is one log
-pub record OneLogRules (name : Shape) (sector_bytes : ℕ) (kept : Kept) (images : Bytes) : Type 0 where
+pub record OneLogRules (name : Shape) (sector_bytes : ℕ) (kept : Kept)
+    (images : Bytes) : Type 0 where
   pub home : IsKept name sector_bytes kept images
   pub none : kept.other ≡ None
   pub plain : kept.completable ≡ false
 
--- What they keep of words that are told: the words are in the state of this name with this count and this log, and
--- where home is in use `upper` is its bytes.
+-- What they keep of words that are told: the words are in the state of this name with this count
+-- and this log, and where home is in use `upper` is its bytes.
 pub record OneLogWords (name : Shape) (kept : Kept) (images : Bytes) (w : Words) : Type 0 where
   pub entries : List Entry
   pub reads : Reads w (reading_of name kept.guard entries [])
@@ -77,7 +79,8 @@ pub record OneLogWords (name : Shape) (kept : Kept) (images : Bytes) (w : Words)
   pub upper : mark_of name ≡ InUse → IsValue entries images.upper
 
 abbrev pub FitsOneLog : Shape → {B : Type 0} → Ghosts B → B → Kept → Bytes → Type 0
-FitsOneLog name g b kept images = OneLogRules name (g.sector_bytes b) kept images × (g.tells b → OneLogWords name kept images (g.words b))
+FitsOneLog name g b kept images = OneLogRules name (g.sector_bytes b) kept images
+    × (g.tells b → OneLogWords name kept images (g.words b))
 
 abbrev pub FitsAlone : {B : Type 0} → Ghosts B → B → Kept → Bytes → Type 0
 FitsAlone g b kept images = FitsOneLog shape.Alone g b kept images
@@ -93,16 +96,20 @@ abbrev pub torn_chunk : Bool → Log → Option ℕ
 torn_chunk false log = None
 torn_chunk true log = option_map (λ torn. torn.line / 8) log.torn
 
--- Spilled, whether the words are told or not: there is the log of the other sector too. Where its torn last entry is
--- completable it has eight lines from a chunk's start on, and the room rule holds of the logs and the bytes.
+-- Spilled, whether the words are told or not: there is the log of the other sector too. Where its
+-- torn last entry is completable it has eight lines from a chunk's start on, and the room rule
+-- holds of the logs and the bytes.
 pub record TwoLogRules (sector_bytes : ℕ) (kept : Kept) (log : Log) (images : Bytes) : Type 0 where
   pub home : IsKept shape.Spilled sector_bytes kept images
   pub other : kept.other ≡ Some log
   pub region : log.region ≡ second_of kept.guard
   pub mark : log.mark ≡ InUse
   pub other_log : IsLogIn (sector_bytes / 2) log
-  pub chunk : kept.completable ≡ true → IsSome log.torn × IfSome log.torn (λ torn. (torn.lines ≡ 8) × (torn.line % 8 ≡ 0))
-  pub room : 66 * left_to_copy images.whole images.upper (torn_chunk kept.completable log) + 2 * log.end ≤ sector_bytes
+  pub chunk : kept.completable ≡ true → IsSome log.torn
+      × IfSome log.torn (λ torn. (torn.lines ≡ 8) × (torn.line % 8 ≡ 0))
+  pub room :
+      66 * left_to_copy images.whole images.upper (torn_chunk kept.completable log) + 2 * log.end
+      ≤ sector_bytes
 
 -- What it keeps of words that are told: both logs, the bytes of both, and of the other alone.
 pub record TwoLogWords (kept : Kept) (log : Log) (images : Bytes) (w : Words) : Type 0 where
@@ -116,7 +123,8 @@ pub record TwoLogWords (kept : Kept) (log : Log) (images : Bytes) (w : Words) : 
   pub completable : kept.completable ≡ is_some (finishing images.whole other)
 
 abbrev pub FitsSpilled : {B : Type 0} → Ghosts B → B → Kept → Bytes → Type 0
-FitsSpilled g b kept images = (log : Log) × TwoLogRules (g.sector_bytes b) kept log images × (g.tells b → TwoLogWords kept log images (g.words b))
+FitsSpilled g b kept images = (log : Log) × TwoLogRules (g.sector_bytes b) kept log images
+    × (g.tells b → TwoLogWords kept log images (g.words b))
 
 -- the chunk of the completable torn last entry
 abbrev pub state_chunk : Kept → Option ℕ

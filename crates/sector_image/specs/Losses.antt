@@ -10,7 +10,8 @@ abbrev pub RaisesGuard : ℕ → List ℕ → List ℕ → Type 0
 RaisesGuard most old new =
     (c : ℕ) → IsGuardRow old c → (d : ℕ) × IsGuardRow new d × (c ≤ d) × (d ≤ c + most)
 
--- Old words that stand for bytes b become words that stand for f b, and the guard count rises by at most so much.
+-- Old words that stand for bytes b become words that stand for f b, and the guard count rises by at
+-- most so much.
 pub record Moves (most : ℕ) (f : List ℕ → List ℕ) (old new : Words) : Type 0 where
   pub bytes : (b : List ℕ) → Stands old b → Stands new (f b)
   pub guard : RaisesGuard most old.guard new.guard

@@ -20,7 +20,8 @@ abbrev pub is_chunk : Option ℕ → ℕ → Bool
 is_chunk None chunk = false
 is_chunk (Some n) chunk = n == chunk
 
--- The chunk is to be copied: it isn't covered, and it isn't the one of a completable torn last entry.
+-- The chunk is to be copied: it isn't covered, and it isn't the one of a completable torn last
+-- entry.
 abbrev pub is_left : List ℕ → List ℕ → Option ℕ → ℕ → Bool
 is_left whole upper finishing chunk = not (is_covered whole upper chunk || is_chunk finishing chunk)
 
@@ -36,10 +37,12 @@ left_below n whole upper finishing = count_below n (is_left whole upper finishin
 abbrev pub left_to_copy : List ℕ → List ℕ → Option ℕ → ℕ
 left_to_copy whole upper finishing = left_below chunks whole upper finishing
 
--- The entry is torn, has eight lines from a chunk's start on, and can be completed with the bytes that the image has
--- there: each halfword w of it and the new one d satisfy w AND d = d.
+-- The entry is torn, has eight lines from a chunk's start on, and can be completed with the bytes
+-- that the image has there: each halfword w of it and the new one d satisfy w AND d = d.
 abbrev pub is_completable : List ℕ → Entry → Bool
-is_completable whole e = (e.header.state == 1) && (e.header.lines == 8) && (e.header.line % 8 == 0) && programmable e.content (halfwords_of (chunk_at whole (e.header.line / 8)))
+is_completable whole e =
+    (e.header.state == 1) && (e.header.lines == 8) && (e.header.line % 8 == 0)
+    && programmable e.content (halfwords_of (chunk_at whole (e.header.line / 8)))
 
 unfoldable pub chunk_to_finish : List ℕ → Entry → Option ℕ
 chunk_to_finish whole e = if is_completable whole e then Some (e.header.line / 8) else None
@@ -48,8 +51,8 @@ chunk_to_finish whole e = if is_completable whole e then Some (e.header.line / 8
 abbrev pub finishing : List ℕ → List Entry → Option ℕ
 finishing whole entries = option_and_then (chunk_to_finish whole) (last_of entries)
 
--- How far a whole copy fills the other sector, in bytes: its entries, and one of 66 bytes for each chunk that is to be
--- copied.
+-- How far a whole copy fills the other sector, in bytes: its entries, and one of 66 bytes for each
+-- chunk that is to be copied.
 unfoldable pub copied_end : List Entry → List Entry → ℕ
 copied_end home other =
     let whole = value_of (home ++ other) in

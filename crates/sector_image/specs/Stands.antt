@@ -44,14 +44,16 @@ room_kept InUse halfwords home other = has_room halfwords home other
 room_kept Available halfwords home other = true
 room_kept Full halfwords home other = true
 
--- What the words of an image tell: the guard count, with the marks and entries of home and of the other sector where
--- the count is even, or with the entries of the sector that isn't void where it is odd.
+-- What the words of an image tell: the guard count, with the marks and entries of home and of the
+-- other sector where the count is even, or with the entries of the sector that isn't void where it
+-- is odd.
 pub data Reading : Type 0 where
   Both : (count : ℕ) (home_mark other_mark : Mark) (home other : List Entry) → Reading
   One : (count : ℕ) (entries : List Entry) → Reading
 
--- No sector is void. Home in use beside an available sector stands alone; home full beside an available sector is
--- marked; home full beside a sector in use is spilled, and then the room rule holds.
+-- No sector is void. Home in use beside an available sector stands alone; home full beside an
+-- available sector is marked; home full beside a sector in use is spilled, and then the room rule
+-- holds.
 pub record IsBoth (w : Words) (count : ℕ) (m n : Mark) (home other : List Entry) : Type 0 where
   pub guard : IsGuardRow w.guard count
   pub even : count % 2 ≡ 0

@@ -21,7 +21,8 @@ pub record AreHeads (w : Words) (count : ℕ) (m n : Mark) : Type 0 where
   pub second : HasHead (halfwords_in w (second_of count)) n
 
 -- both sectors are of the grammar, and these are their logs and the bytes of each alone
-pub record AreLogs (w : Words) (count : ℕ) (m n : Mark) (home other : Log) (whole upper : List ℕ) : Type 0 where
+pub record AreLogs (w : Words) (count : ℕ) (m n : Mark) (home other : Log)
+    (whole upper : List ℕ) : Type 0 where
   pub home_entries : List Entry
   pub other_entries : List Entry
   pub heads : AreHeads w count m n

@@ -1,4 +1,5 @@
-// Chunks of 64 bytes: which are covered, and how many are left to copy.
+//! Chunks of 64 bytes, the unit in which a sector is copied: which are covered, and how many are
+//! left to copy.
 ghost use Rattle.std.specs.Prelude.{◌≡◌, ◌*◌, ◌<◌, ◌≤◌, ◌+◌, ℕ, true, false, length, slice_index, IfSome, IfNone, None};
 ghost use Rattle.sector_log.specs.Storage.{storage_bytes};
 ghost use Rattle.flash_traits.specs.Values.{put};
@@ -47,8 +48,10 @@ fn is_left(whole: &[u8], upper: &[u8], finishing: Option<usize>, chunk: usize) -
 pub(crate) fn first_left(whole: &[u8], upper: &[u8]) -> Option<usize>
     requires whole { length whole.now ≡ storage_bytes }
     requires upper { length upper.now ≡ storage_bytes }
-    ensures some { IfSome result (λ chunk. (chunk < chunks) × (room.is_left whole.now upper.now None chunk ≡ true)) }
-    ensures first { IfSome result (λ chunk. (c : ℕ) → c < chunk → room.is_left whole.now upper.now None c ≡ false) }
+    ensures some { IfSome result (λ chunk. (chunk < chunks)
+        × (room.is_left whole.now upper.now None chunk ≡ true)) }
+    ensures first { IfSome result (λ chunk. (c : ℕ) → c < chunk →
+        room.is_left whole.now upper.now None c ≡ false) }
     ensures none { IfNone result (left_to_copy whole.now upper.now None ≡ 0) }
 {
     for chunk in 0..CHUNKS {

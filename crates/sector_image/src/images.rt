@@ -1,4 +1,5 @@
-// The two lists of storage bytes in memory.
+//! The two lists of storage bytes in memory: those of the image, and those that the sector in use
+//! gives alone.
 ghost use Rattle.std.specs.Prelude.{◌≡◌, ◌+◌, ◌*◌, ◌<◌, ◌≤◌, IfOk, IfSome, IfNone, All, ℕ, None, length, slice_index};
 ghost use Rattle.sector_log.specs.Storage.{storage_bytes};
 ghost use Rattle.flash_traits.specs.Values.{put};
@@ -13,7 +14,8 @@ use std::marker::Model;
 /// The bytes of the storage.
 const BYTES: usize = 15360;
 
-/// The bytes of the storage, 15,360 each: those of the image, and those of the entries of the sector in use alone.
+/// The bytes of the storage, 15,360 each: those of the image, and those of the entries of the
+/// sector in use alone.
 #[derive(Debug, Drop)]
 pub struct Images {
     pub(crate) whole: Vec<u8>,
@@ -29,7 +31,8 @@ impl Model for Images {
 
     ghost view = { λ images. record { whole = images.whole.items; upper = images.upper.items } };
 
-    ghost invariant = { λ images. (length images.whole.items ≡ storage_bytes) × (length images.upper.items ≡ storage_bytes) };
+    ghost invariant = { λ images. (length images.whole.items ≡ storage_bytes)
+        × (length images.upper.items ≡ storage_bytes) };
 }
 
 impl Images {

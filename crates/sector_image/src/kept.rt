@@ -1,4 +1,4 @@
-// What a state of the image keeps.
+//! What a state keeps of an image, and what a survey answers.
 
 use flash_traits::{Fault, Region};
 use sector_log::Log;

@@ -1,7 +1,7 @@
 //! Two sectors and a guard row as one image of the storage.
 //!
-//! An image stands for 15,360 bytes in each of four states, or has a first foreign word. A survey tells which, and reads
-//! the bytes.
+//! An image stands for 15,360 bytes in each of four states, or has a first foreign word. A survey
+//! tells which, and reads the bytes.
 #![tactic(auto)]
 
 mod chunks;

@@ -1,4 +1,4 @@
-// The logs behind the heads, and the bytes of their entries.
+//! The head of a sector, the log behind it, and the bytes of its entries.
 ghost use Rattle.std.specs.Prelude.{◌≡◌, ◌/◌, ◌%◌, ◌*◌, List, ℕ, true, length, IfOk, OnOk, IfErr, IsTrue, IsSome, IfSome};
 ghost use Rattle.std.specs.Option.{is_some};
 ghost use Rattle.flash_traits.specs.declared.board.Fault.TheVariants.{Read};
@@ -31,7 +31,8 @@ pub(crate) fn head_at<B: Board>(
     requires attached { IsSectorSize (B.sector_bytes board.old) }
     requires sector { IsSectorRegion region }
     ensures may { IfOk result (λ mark. IsTrue (may_stand marks mark)) }
-    ensures head { IfOk result (λ mark. B.tells board.new → HasHead (halfwords_in (B.words board.old) region) mark) }
+    ensures head { IfOk result (λ mark. B.tells board.new →
+        HasHead (halfwords_in (B.words board.old) region) mark) }
     ensures foreign { IfErr result (λ e. OnForeign e (λ place. B.tells board.new →
         At region (BadHead (may_stand marks) (halfwords_in (B.words board.old) region)) place)) }
     ensures fault { IfErr result (λ e. OnSurveyFault e (λ kind. (kind ≡ Read)
@@ -60,11 +61,16 @@ pub(crate) fn log_at<B: Board>(
     requires sector { IsSectorRegion region }
     requires head { B.tells board.old → HasHead (halfwords_in (B.words board.old) region) mark }
     requires storage { length into.old ≡ storage_bytes }
-    ensures every { IfOk result (λ log. IsLogIn (B.sector_bytes board.old / 2) log × (log.region ≡ region) × (log.mark ≡ mark)) }
-    ensures log { IfOk result (λ log. B.tells board.new → (entries : List Entry) × IsSector (halfwords_in (B.words board.old) region) mark entries
+    ensures every { IfOk result (λ log. IsLogIn (B.sector_bytes board.old / 2) log
+        × (log.region ≡ region) × (log.mark ≡ mark)) }
+    ensures log { IfOk result (λ log. B.tells board.new → (entries : List Entry)
+        × IsSector (halfwords_in (B.words board.old) region) mark entries
         × IsLogOf log region mark entries × (into.new ≡ applied into.old entries)) }
-    ensures foreign { IfErr result (λ e. OnForeign e (λ place. B.tells board.new → At region (BadLog (halfwords_in (B.words board.old) region)) place)) }
-    ensures fault { IfErr result (λ e. OnSurveyFault e (λ kind. (kind ≡ Read) × Rose (B.faults board.old Read) (B.faults board.new Read))) }
+    ensures foreign { IfErr result (λ e. OnForeign e
+        (λ place. B.tells board.new → At region
+        (BadLog (halfwords_in (B.words board.old) region)) place)) }
+    ensures fault { IfErr result (λ e. OnSurveyFault e
+        (λ kind. (kind ≡ Read) × Rose (B.faults board.old Read) (B.faults board.new Read))) }
     ensures reads { OnlyReads B.Board board.old board.new }
 {
     match scan(board, region, into) {
@@ -89,11 +95,16 @@ pub(crate) fn bytes_at<B: Board>(
     requires sector { IsSectorRegion region }
     requires head { B.tells board.old → HasHead (halfwords_in (B.words board.old) region) mark }
     requires storage { length into.old ≡ storage_bytes }
-    ensures every { IfOk result (λ log. IsLogIn (B.sector_bytes board.old / 2) log × (log.region ≡ region) × (log.mark ≡ mark)) }
-    ensures log { IfOk result (λ log. B.tells board.new → (entries : List Entry) × IsSector (halfwords_in (B.words board.old) region) mark entries
+    ensures every { IfOk result (λ log. IsLogIn (B.sector_bytes board.old / 2) log
+        × (log.region ≡ region) × (log.mark ≡ mark)) }
+    ensures log { IfOk result (λ log. B.tells board.new → (entries : List Entry)
+        × IsSector (halfwords_in (B.words board.old) region) mark entries
         × IsLogOf log region mark entries × IsValue entries into.new) }
-    ensures foreign { IfErr result (λ e. OnForeign e (λ place. B.tells board.new → At region (BadLog (halfwords_in (B.words board.old) region)) place)) }
-    ensures fault { IfErr result (λ e. OnSurveyFault e (λ kind. (kind ≡ Read) × Rose (B.faults board.old Read) (B.faults board.new Read))) }
+    ensures foreign { IfErr result (λ e. OnForeign e
+        (λ place. B.tells board.new → At region
+        (BadLog (halfwords_in (B.words board.old) region)) place)) }
+    ensures fault { IfErr result (λ e. OnSurveyFault e
+        (λ kind. (kind ≡ Read) × Rose (B.faults board.old Read) (B.faults board.new Read))) }
     ensures reads { OnlyReads B.Board board.old board.new }
 {
     clear(into);
@@ -109,11 +120,15 @@ pub(crate) fn is_completable<B: Board>(
     requires attached { IsSectorSize (B.sector_bytes board.old) }
     requires log { IsLogIn (B.sector_bytes board.old / 2) log }
     requires whole { length whole.now ≡ storage_bytes }
-    ensures chunk { IfOk result (λ completable. completable ≡ true → IsSome log.torn × IfSome log.torn (λ torn. (torn.lines ≡ 8) × (torn.line % 8 ≡ 0))) }
-    ensures known { IfOk result (λ completable. B.tells board.new → (mark : Mark) (entries : List Entry) → IsLogOf log log.region mark entries
-        → IsSector (halfwords_in (B.words board.old) log.region) mark entries → completable ≡ is_some (finishing whole.now entries)) }
+    ensures chunk { IfOk result (λ completable. completable ≡ true → IsSome log.torn
+        × IfSome log.torn (λ torn. (torn.lines ≡ 8) × (torn.line % 8 ≡ 0))) }
+    ensures known { IfOk result (λ completable. B.tells board.new →
+        (mark : Mark) (entries : List Entry) → IsLogOf log log.region mark entries
+        → IsSector (halfwords_in (B.words board.old) log.region) mark entries →
+        completable ≡ is_some (finishing whole.now entries)) }
     ensures not_foreign { IfErr result (λ e. OnForeign e (λ place. ⊥)) }
-    ensures fault { IfErr result (λ e. OnSurveyFault e (λ kind. (kind ≡ Read) × Rose (B.faults board.old Read) (B.faults board.new Read))) }
+    ensures fault { IfErr result (λ e. OnSurveyFault e
+        (λ kind. (kind ≡ Read) × Rose (B.faults board.old Read) (B.faults board.new Read))) }
     ensures reads { OnlyReads B.Board board.old board.new }
 {
     let Some(torn) = log.torn else {

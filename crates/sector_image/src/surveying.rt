@@ -1,4 +1,5 @@
-// Which image the words of a board are.
+//! Which image the words of a board are: the guard row, then the heads, the logs and the room rule,
+//! in this order.
 ghost use Rattle.std.specs.Prelude.{◌≡◌, ◌%◌, ◌/◌, ◌≤◌, IsTrue, length, IfOk, OnOk, IfErr};
 ghost use Rattle.flash_traits.specs.declared.board.Fault.TheVariants.{Read};
 ghost use Rattle.flash_traits.specs.declared.board.Mark.TheVariants.{Available, InUse, Full};
@@ -29,10 +30,13 @@ use sector_log::{Log, Marks};
 /// Each halfword is read at most four times.
 pub fn survey<B: Board>(board: &mut B, images: &mut Images) -> Result<Survey, SurveyError>
     requires attached { IsSectorSize (B.sector_bytes board.old) }
-    ensures fits { IfOk result (λ survey. FitsShape survey.shape B.Board board.new survey.kept images.new) }
+    ensures fits { IfOk result
+        (λ survey. FitsShape survey.shape B.Board board.new survey.kept images.new) }
     ensures stands { OnOk result (B.tells board.new → Stands (B.words board.old) images.new.whole) }
-    ensures foreign { IfErr result (λ e. OnForeign e (λ place. B.tells board.new → FirstBad (B.words board.old) place)) }
-    ensures fault { IfErr result (λ e. OnSurveyFault e (λ kind. (kind ≡ Read) × Rose (B.faults board.old Read) (B.faults board.new Read))) }
+    ensures foreign { IfErr result (λ e. OnForeign e
+        (λ place. B.tells board.new → FirstBad (B.words board.old) place)) }
+    ensures fault { IfErr result (λ e. OnSurveyFault e
+        (λ kind. (kind ≡ Read) × Rose (B.faults board.old Read) (B.faults board.new Read))) }
     ensures reads { OnlyReads B.Board board.old board.new }
 {
     let guard = guard_count(board)?;
@@ -43,9 +47,12 @@ pub fn survey<B: Board>(board: &mut B, images: &mut Images) -> Result<Survey, Su
 fn guard_count<B: Board>(board: &mut B) -> Result<u16, SurveyError>
     requires attached { IsSectorSize (B.sector_bytes board.old) }
     ensures most { IfOk result (λ guard. guard ≤ 8192) }
-    ensures count { IfOk result (λ guard. B.tells board.new → IsGuardRow (B.words board.old).guard guard) }
-    ensures foreign { IfErr result (λ e. OnForeign e (λ place. B.tells board.new → FirstBad (B.words board.old) place)) }
-    ensures fault { IfErr result (λ e. OnSurveyFault e (λ kind. (kind ≡ Read) × Rose (B.faults board.old Read) (B.faults board.new Read))) }
+    ensures count { IfOk result (λ guard. B.tells board.new →
+        IsGuardRow (B.words board.old).guard guard) }
+    ensures foreign { IfErr result (λ e. OnForeign e
+        (λ place. B.tells board.new → FirstBad (B.words board.old) place)) }
+    ensures fault { IfErr result (λ e. OnSurveyFault e
+        (λ kind. (kind ≡ Read) × Rose (B.faults board.old Read) (B.faults board.new Read))) }
     ensures reads { OnlyReads B.Board board.old board.new }
 {
     match count(board) {
@@ -71,10 +78,13 @@ fn survey_sectors<B: Board>(
     requires row { B.tells board.old → IsGuardRow (B.words board.old).guard guard }
     requires whole { length whole.old ≡ storage_bytes }
     requires upper { length upper.old ≡ storage_bytes }
-    ensures fits { IfOk result (λ survey. FitsShape survey.shape B.Board board.new survey.kept (both_bytes whole.new upper.new)) }
+    ensures fits { IfOk result (λ survey. FitsShape survey.shape B.Board board.new survey.kept
+        (both_bytes whole.new upper.new)) }
     ensures stands { OnOk result (B.tells board.new → Stands (B.words board.old) whole.new) }
-    ensures foreign { IfErr result (λ e. OnForeign e (λ place. B.tells board.new → FirstBad (B.words board.old) place)) }
-    ensures fault { IfErr result (λ e. OnSurveyFault e (λ kind. (kind ≡ Read) × Rose (B.faults board.old Read) (B.faults board.new Read))) }
+    ensures foreign { IfErr result (λ e. OnForeign e
+        (λ place. B.tells board.new → FirstBad (B.words board.old) place)) }
+    ensures fault { IfErr result (λ e. OnSurveyFault e
+        (λ kind. (kind ≡ Read) × Rose (B.faults board.old Read) (B.faults board.new Read))) }
     ensures reads { OnlyReads B.Board board.old board.new }
 {
     if guard % 2 == 1 {
@@ -101,10 +111,13 @@ fn survey_voided<B: Board>(
     requires row { B.tells board.old → IsGuardRow (B.words board.old).guard guard }
     requires whole { length whole.old ≡ storage_bytes }
     requires upper { length upper.old ≡ storage_bytes }
-    ensures fits { IfOk result (λ survey. FitsShape survey.shape B.Board board.new survey.kept (both_bytes whole.new upper.new)) }
+    ensures fits { IfOk result (λ survey. FitsShape survey.shape B.Board board.new survey.kept
+        (both_bytes whole.new upper.new)) }
     ensures stands { OnOk result (B.tells board.new → Stands (B.words board.old) whole.new) }
-    ensures foreign { IfErr result (λ e. OnForeign e (λ place. B.tells board.new → FirstBad (B.words board.old) place)) }
-    ensures fault { IfErr result (λ e. OnSurveyFault e (λ kind. (kind ≡ Read) × Rose (B.faults board.old Read) (B.faults board.new Read))) }
+    ensures foreign { IfErr result (λ e. OnForeign e
+        (λ place. B.tells board.new → FirstBad (B.words board.old) place)) }
+    ensures fault { IfErr result (λ e. OnSurveyFault e
+        (λ kind. (kind ≡ Read) × Rose (B.faults board.old Read) (B.faults board.new Read))) }
     ensures reads { OnlyReads B.Board board.old board.new }
 {
     let region = first_sector(guard);
@@ -172,9 +185,12 @@ fn heads_of<B: Board>(board: &mut B, guard: u16) -> Result<Shape, SurveyError>
     requires even { guard % 2 ≡ 0 }
     requires row { B.tells board.old → IsGuardRow (B.words board.old).guard guard }
     ensures even { IfOk result (λ shape. parity_of shape ≡ 0) }
-    ensures heads { IfOk result (λ shape. B.tells board.new → AreHeads (B.words board.old) guard (mark_of shape) (other_mark_of shape)) }
-    ensures foreign { IfErr result (λ e. OnForeign e (λ place. B.tells board.new → FirstBad (B.words board.old) place)) }
-    ensures fault { IfErr result (λ e. OnSurveyFault e (λ kind. (kind ≡ Read) × Rose (B.faults board.old Read) (B.faults board.new Read))) }
+    ensures heads { IfOk result (λ shape. B.tells board.new →
+        AreHeads (B.words board.old) guard (mark_of shape) (other_mark_of shape)) }
+    ensures foreign { IfErr result (λ e. OnForeign e
+        (λ place. B.tells board.new → FirstBad (B.words board.old) place)) }
+    ensures fault { IfErr result (λ e. OnSurveyFault e
+        (λ kind. (kind ≡ Read) × Rose (B.faults board.old Read) (B.faults board.new Read))) }
     ensures reads { OnlyReads B.Board board.old board.new }
 {
     let marks = Marks {
@@ -207,11 +223,16 @@ fn logs_of<B: Board>(
     requires heads { B.tells board.old → AreHeads (B.words board.old) guard first second }
     requires whole { length whole.old ≡ storage_bytes }
     requires upper { length upper.old ≡ storage_bytes }
-    ensures home { IfOk result (λ logs. IsLogIn (B.sector_bytes board.old / 2) logs.home × (logs.home.region ≡ first_of guard) × (logs.home.mark ≡ first)) }
-    ensures other { IfOk result (λ logs. IsLogIn (B.sector_bytes board.old / 2) logs.other × (logs.other.region ≡ second_of guard) × (logs.other.mark ≡ second)) }
-    ensures logs { IfOk result (λ logs. B.tells board.new → AreLogs (B.words board.old) guard first second logs.home logs.other whole.new upper.new) }
-    ensures foreign { IfErr result (λ e. OnForeign e (λ place. B.tells board.new → FirstBad (B.words board.old) place)) }
-    ensures fault { IfErr result (λ e. OnSurveyFault e (λ kind. (kind ≡ Read) × Rose (B.faults board.old Read) (B.faults board.new Read))) }
+    ensures home { IfOk result (λ logs. IsLogIn (B.sector_bytes board.old / 2) logs.home
+        × (logs.home.region ≡ first_of guard) × (logs.home.mark ≡ first)) }
+    ensures other { IfOk result (λ logs. IsLogIn (B.sector_bytes board.old / 2) logs.other
+        × (logs.other.region ≡ second_of guard) × (logs.other.mark ≡ second)) }
+    ensures logs { IfOk result (λ logs. B.tells board.new →
+        AreLogs (B.words board.old) guard first second logs.home logs.other whole.new upper.new) }
+    ensures foreign { IfErr result (λ e. OnForeign e
+        (λ place. B.tells board.new → FirstBad (B.words board.old) place)) }
+    ensures fault { IfErr result (λ e. OnSurveyFault e
+        (λ kind. (kind ≡ Read) × Rose (B.faults board.old Read) (B.faults board.new Read))) }
     ensures reads { OnlyReads B.Board board.old board.new }
 {
     let home = bytes_at(board, first_sector(guard), first, whole)?;
@@ -232,10 +253,13 @@ fn survey_alone<B: Board>(
     requires heads { B.tells board.old → AreHeads (B.words board.old) guard InUse Available }
     requires whole { length whole.old ≡ storage_bytes }
     requires upper { length upper.old ≡ storage_bytes }
-    ensures fits { IfOk result (λ survey. FitsShape survey.shape B.Board board.new survey.kept (both_bytes whole.new upper.new)) }
+    ensures fits { IfOk result (λ survey. FitsShape survey.shape B.Board board.new survey.kept
+        (both_bytes whole.new upper.new)) }
     ensures stands { OnOk result (B.tells board.new → Stands (B.words board.old) whole.new) }
-    ensures foreign { IfErr result (λ e. OnForeign e (λ place. B.tells board.new → FirstBad (B.words board.old) place)) }
-    ensures fault { IfErr result (λ e. OnSurveyFault e (λ kind. (kind ≡ Read) × Rose (B.faults board.old Read) (B.faults board.new Read))) }
+    ensures foreign { IfErr result (λ e. OnForeign e
+        (λ place. B.tells board.new → FirstBad (B.words board.old) place)) }
+    ensures fault { IfErr result (λ e. OnSurveyFault e
+        (λ kind. (kind ≡ Read) × Rose (B.faults board.old Read) (B.faults board.new Read))) }
     ensures reads { OnlyReads B.Board board.old board.new }
 {
     let logs = logs_of(board, guard, Mark::InUse, Mark::Available, whole, upper)?;
@@ -265,10 +289,13 @@ fn survey_marked<B: Board>(
     requires heads { B.tells board.old → AreHeads (B.words board.old) guard Full Available }
     requires whole { length whole.old ≡ storage_bytes }
     requires upper { length upper.old ≡ storage_bytes }
-    ensures fits { IfOk result (λ survey. FitsShape survey.shape B.Board board.new survey.kept (both_bytes whole.new upper.new)) }
+    ensures fits { IfOk result (λ survey. FitsShape survey.shape B.Board board.new survey.kept
+        (both_bytes whole.new upper.new)) }
     ensures stands { OnOk result (B.tells board.new → Stands (B.words board.old) whole.new) }
-    ensures foreign { IfErr result (λ e. OnForeign e (λ place. B.tells board.new → FirstBad (B.words board.old) place)) }
-    ensures fault { IfErr result (λ e. OnSurveyFault e (λ kind. (kind ≡ Read) × Rose (B.faults board.old Read) (B.faults board.new Read))) }
+    ensures foreign { IfErr result (λ e. OnForeign e
+        (λ place. B.tells board.new → FirstBad (B.words board.old) place)) }
+    ensures fault { IfErr result (λ e. OnSurveyFault e
+        (λ kind. (kind ≡ Read) × Rose (B.faults board.old Read) (B.faults board.new Read))) }
     ensures reads { OnlyReads B.Board board.old board.new }
 {
     let logs = logs_of(board, guard, Mark::Full, Mark::Available, whole, upper)?;
@@ -297,10 +324,13 @@ fn survey_spilled<B: Board>(
     requires heads { B.tells board.old → AreHeads (B.words board.old) guard Full InUse }
     requires whole { length whole.old ≡ storage_bytes }
     requires upper { length upper.old ≡ storage_bytes }
-    ensures fits { IfOk result (λ survey. FitsShape survey.shape B.Board board.new survey.kept (both_bytes whole.new upper.new)) }
+    ensures fits { IfOk result (λ survey. FitsShape survey.shape B.Board board.new survey.kept
+        (both_bytes whole.new upper.new)) }
     ensures stands { OnOk result (B.tells board.new → Stands (B.words board.old) whole.new) }
-    ensures foreign { IfErr result (λ e. OnForeign e (λ place. B.tells board.new → FirstBad (B.words board.old) place)) }
-    ensures fault { IfErr result (λ e. OnSurveyFault e (λ kind. (kind ≡ Read) × Rose (B.faults board.old Read) (B.faults board.new Read))) }
+    ensures foreign { IfErr result (λ e. OnForeign e
+        (λ place. B.tells board.new → FirstBad (B.words board.old) place)) }
+    ensures fault { IfErr result (λ e. OnSurveyFault e
+        (λ kind. (kind ≡ Read) × Rose (B.faults board.old Read) (B.faults board.new Read))) }
     ensures reads { OnlyReads B.Board board.old board.new }
 {
     let logs = logs_of(board, guard, Mark::Full, Mark::InUse, whole, upper)?;

@@ -24,7 +24,7 @@ use Rattle.flash_traits.proofs.ValueLemmas.{length_put}
 use Rattle.sector_image.specs.declared.kept.Kept.{Kept}
 use Rattle.sector_image.specs.declared.kept.Shape.TheVariants as shape
 use Rattle.sector_image.specs.Images.{Bytes, both_bytes}
-use Rattle.sector_image.specs.Stands.{Both, One, IsBoth, Stands}
+use Rattle.sector_image.specs.Stands.{IsBoth, Stands}
 use Rattle.guard_row.specs.Home.{first_of, second_of}
 use Rattle.sector_image.specs.Losses.{Puts, MayPut}
 use Rattle.sector_image.specs.Fits.{OneLogRules, OneLogWords, TwoLogRules, TwoLogWords}

@@ -1,11 +1,10 @@
 -- The calls of a spilled state on a board that tells its words or doesn't.
 use Rattle.std.proofs.Common.{◌≡◌, inr, ℕ, ◌+◌, ◌*◌, ◌/◌, ◌<◌, ◌≤◌, true, false, Some, None, List, length, get_or, sym, ◌∙◌, ap, subst, arith}
-use Rattle.std.specs.Prelude.{Result, Ok, Err, IsErr}
 use Rattle.flash_traits.specs.Words.{Words, HasShape, IsSectorSize}
-use Rattle.flash_traits.specs.Losses.{Outcome, ByResult}
+use Rattle.flash_traits.specs.Losses.{Outcome}
 use Rattle.flash_traits.specs.declared.board.Board.{Ghosts}
 use Rattle.flash_traits.specs.Calls.{Changes}
-use Rattle.flash_traits.proofs.Moments.{first_words, started_words, chained_words}
+use Rattle.flash_traits.proofs.Moments.{first_words}
 use Rattle.sector_log.specs.declared.log.Log.{Log}
 use Rattle.flash_traits.specs.Values.{put}
 use Rattle.sector_log.specs.Appends.{AppendMayLeave, Appends, appended, FinishMayLeave, Finishes, finished}
@@ -15,7 +14,6 @@ use Rattle.sector_image.specs.Room.{chunk_at, is_left, left_to_copy}
 use Rattle.sector_image.specs.Losses.{KeepsBytes, Puts, MayPut}
 use Rattle.sector_image.specs.Fits.{TwoLogRules, TwoLogWords, FitsSpilled, torn_chunk}
 use Rattle.sector_switch.specs.States.{with_other}
-use Rattle.sector_image.proofs.Standing.{keeps_all, keeps_then, keeps_more}
 use Rattle.sector_image.proofs.ChunkLemmas.{length_chunk}
 use Rattle.sector_switch.proofs.SpilledLemmas.{lost_copy, done_copy, lost_finish, done_finish, lost_put, done_put, puts_now, rules_copy, rules_finish, rules_put, copy_fits}
 

@@ -23,11 +23,13 @@ IsErased halfwords = All (λ word. word ≡ 65535) halfwords
 
 -- voided, with the void sector erased
 abbrev pub FitsErased : {B : Type 0} → Ghosts B → B → Kept → Bytes → Type 0
-FitsErased g b kept images = FitsVoided g b kept images × (g.tells b → IsErased (halfwords_in (g.words b) (second_of kept.guard)))
+FitsErased g b kept images = FitsVoided g b kept images
+    × (g.tells b → IsErased (halfwords_in (g.words b) (second_of kept.guard)))
 
 -- spilled, with every chunk covered and no completable torn last entry
 abbrev pub FitsCopied : {B : Type 0} → Ghosts B → B → Kept → Bytes → Type 0
-FitsCopied g b kept images = FitsSpilled g b kept images × (kept.completable ≡ false) × (left_to_copy images.whole images.upper None ≡ 0)
+FitsCopied g b kept images = FitsSpilled g b kept images × (kept.completable ≡ false)
+    × (left_to_copy images.whole images.upper None ≡ 0)
 
 -- the chunks that are left to copy, and one for a completable torn last entry
 abbrev pub left_in : Kept → Bytes → ℕ
@@ -35,7 +37,8 @@ left_in kept images = left_chunks kept images + (if kept.completable then 1 else
 
 -- the bytes of the other sector that are written, and 66 for each chunk that is left to copy
 abbrev pub taken_of : Kept → Bytes → ℕ
-taken_of kept images = option_map_or (λ log. 2 * log.end + 66 * left_chunks kept images) kept.other 0
+taken_of kept images = option_map_or
+    (λ log. 2 * log.end + 66 * left_chunks kept images) kept.other 0
 
 -- the guard count once a state of this name stands alone again
 abbrev pub guard_after : Shape → ℕ → ℕ
@@ -51,14 +54,24 @@ is_full shape.Marked = true
 is_full shape.Spilled = true
 is_full shape.Voided = false
 
--- How large a caller's entry may be, in bytes: the other sector's free bytes, less 66 for each chunk that is left to
--- copy, and less 66 more. The caller's entry may be torn behind a completable torn one, whose chunk then counts again.
+-- How large a caller's entry may be, in bytes: the other sector's free bytes, less 66 for each
+-- chunk that is left to copy, and less 66 more. The caller's entry may be torn behind a completable
+-- torn one, whose chunk then counts again.
 abbrev pub room_of : Kept → Bytes → ℕ
-room_of kept images = option_map_or (λ log. kept.sector_bytes - 2 * log.end - 66 * left_chunks kept images - 66) kept.other 0
+room_of kept images = option_map_or
+    (λ log. kept.sector_bytes - 2 * log.end - 66 * left_chunks kept images - 66) kept.other 0
 
 -- What the calls make of what a state keeps. Home's log with the mark full:
 abbrev pub full_log : Log → Log
-full_log log = record { region = log.region; mark = Full; end = log.end; torn = log.torn; valid = log.valid; gaps = log.gaps }
+full_log log = record {
+  region = log.region;
+  mark = Full;
+  end = log.end;
+  torn = log.torn;
+  valid =
+      log.valid;
+  gaps = log.gaps;
+}
 
 -- the log of a sector that has just been marked in use
 abbrev pub new_log : Region → Log
@@ -74,7 +87,11 @@ with_other kept log = record kept { other = Some log; completable = false }
 
 -- a spilled state with one more entry of so many lines
 abbrev pub with_appended : Kept → ℕ → Kept
-with_appended kept lines = record kept { other = option_map (λ log. appended log lines) kept.other; completable = false }
+with_appended kept lines = record kept {
+  other =
+      option_map (λ log. appended log lines) kept.other;
+  completable = false;
+}
 
 -- the marked state that one alone becomes
 abbrev pub marked_from : Kept → Kept
@@ -86,7 +103,13 @@ spilled_from kept = with_other kept (new_log (second_of kept.guard))
 
 -- the voided state that a copied one becomes
 abbrev pub voided_from : Kept → Log → Kept
-voided_from kept log = record kept { guard = kept.guard + 1; home = log; other = None; completable = false }
+voided_from kept log = record kept {
+  guard = kept.guard + 1;
+  home = log;
+  other = None;
+  completable =
+      false;
+}
 
 -- the state alone that an erased one becomes
 abbrev pub alone_from : Kept → Kept
@@ -103,8 +126,9 @@ pub record FilledFromZeros (whole : List ℕ) (home : Log) : Type 0 where
   pub each : All (λ byte. byte ≡ 0) zeros
   pub most : 2 * home.end ≤ 2 * 2 + 66 * left_to_copy whole zeros None
 
--- What home has once the image stands alone, by what the words told. From marked and spilled the other sector has no more
--- than its entries and one copy of each chunk that was to be copied; else the log is the one that was read.
+-- What home has once the image stands alone, by what the words told. From marked and spilled the
+-- other sector has no more than its entries and one copy of each chunk that was to be copied; else
+-- the log is the one that was read.
 abbrev pub HomeAfter : Reading → Log → Type 0
 HomeAfter (Both count Full n home other) log = 2 * log.end ≤ copied_end home other
 HomeAfter (Both count m n home other) log = IsLogOf log (first_of count) m home

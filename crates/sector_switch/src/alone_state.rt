@@ -1,4 +1,4 @@
-// The image in one sector alone.
+//! The image in one sector alone, which takes entries until it is full.
 ghost use Rattle.std.specs.Prelude.{◌≡◌, ◌+◌, ◌*◌, ◌/◌, ◌<◌, ◌≤◌, ◌↔◌, ℕ, List, length, IsTrue, IfOk, OnOk, OnErr, IfErr};
 ghost use Rattle.flash_traits.specs.declared.board.Fault.TheVariants.{Flash};
 ghost use Rattle.flash_traits.specs.Losses.{ByResult};
@@ -12,10 +12,9 @@ ghost use Rattle.sector_image.specs.Losses.{KeepsBytes, Puts, MayPut};
 ghost use Rattle.sector_image.specs.Fits.{FitsAlone, FitsMarked, free_of};
 ghost use Rattle.sector_switch.specs.States.{with_home, marked_from};
 
-use crate::flash::program;
 use crate::{Images, Kept, Marked};
 use flash_traits::{Board, Fault, Mark};
-use sector_log::{Log, append};
+use sector_log::{Log, append, set_mark};
 use std::marker::Model;
 
 /// One sector is in use and has all bytes, and the other is available.
@@ -48,8 +47,8 @@ impl Alone {
         2 + 8 * lines as u32 <= self.free()
     }
 
-    /// Puts an entry of 1 to 8 whole lines, from the line `first` on. A loss inside leaves the bytes of before or those
-    /// with this entry.
+    /// Puts an entry of 1 to 8 whole lines, from the line `first` on. A loss inside leaves the
+    /// bytes of before or those with this entry.
     pub fn append<B: Board>(
         self,
         board: &mut B,
@@ -61,12 +60,15 @@ impl Alone {
         requires lines { AreLines first bytes.now }
         requires room { 2 + length bytes.now ≤ free_of self }
         ensures fits { IfOk result (λ alone. FitsAlone B.Board board.new alone images.new) }
-        ensures kept { IfOk result (λ alone. alone ≡ with_home self (appended self.home (length bytes.now / 8))) }
+        ensures kept { IfOk result (λ alone. alone ≡ with_home self
+            (appended self.home (length bytes.now / 8))) }
         ensures put { OnOk result (images.new.whole ≡ put (8 * first) bytes.now images.old.whole) }
         ensures err { OnErr result (images.new ≡ images.old) }
-        ensures changes { Changes B.Board board.old board.new (MayPut first bytes.now) (ByResult result (Puts first bytes.now) (MayPut first bytes.now)) }
+        ensures changes { Changes B.Board board.old board.new (MayPut first bytes.now)
+            (ByResult result (Puts first bytes.now) (MayPut first bytes.now)) }
         ensures erases { ErasesNothing B.Board board.old board.new }
-        ensures programs { (B.moment board.new).programs ≤ raised_by (2 + length bytes.now / 2) (B.moment board.old).programs }
+        ensures programs { (B.moment board.new).programs ≤ raised_by (2 + length bytes.now / 2)
+            (B.moment board.old).programs }
         ensures cause { HasCause Flash (B.faults board.old) (B.faults board.new) result }
         ensures kind { IfErr result (λ kind. kind ≡ Flash) }
     {
@@ -77,11 +79,13 @@ impl Alone {
     /// Marks home full. A loss inside leaves the bytes of before.
     pub fn spill<B: Board>(self, board: &mut B) -> Result<Marked, Fault>
         requires fits { (images : Bytes) × FitsAlone B.Board board.old self images }
-        ensures fits { IfOk result (λ marked. (images : Bytes) → FitsAlone B.Board board.old self images → FitsMarked B.Board board.new marked images) }
+        ensures fits { IfOk result (λ marked. (images : Bytes) →
+            FitsAlone B.Board board.old self images → FitsMarked B.Board board.new marked images) }
         ensures kept { IfOk result (λ marked. marked ≡ marked_from self) }
         ensures changes { Changes B.Board board.old board.new (KeepsBytes 0) (KeepsBytes 0) }
         ensures erases { ErasesNothing B.Board board.old board.new }
-        ensures programs { (B.moment board.new).programs ≤ raised_by 1 (B.moment board.old).programs }
+        ensures programs { (B.moment board.new).programs ≤ raised_by 1
+            (B.moment board.old).programs }
         ensures cause { HasCause Flash (B.faults board.old) (B.faults board.new) result }
         ensures kind { IfErr result (λ kind. kind ≡ Flash) }
     {
@@ -102,12 +106,15 @@ fn put_alone<B: Board>(
     requires lines { AreLines first bytes.now }
     requires room { 2 + length bytes.now ≤ free_of kept }
     ensures fits { IfOk result (λ new. FitsAlone B.Board board.new new images.new) }
-    ensures kept { IfOk result (λ new. new ≡ with_home kept (appended kept.home (length bytes.now / 8))) }
+    ensures kept { IfOk result (λ new. new ≡ with_home kept
+        (appended kept.home (length bytes.now / 8))) }
     ensures put { OnOk result (images.new.whole ≡ put (8 * first) bytes.now images.old.whole) }
     ensures err { OnErr result (images.new ≡ images.old) }
-    ensures changes { Changes B.Board board.old board.new (MayPut first bytes.now) (ByResult result (Puts first bytes.now) (MayPut first bytes.now)) }
+    ensures changes { Changes B.Board board.old board.new (MayPut first bytes.now)
+        (ByResult result (Puts first bytes.now) (MayPut first bytes.now)) }
     ensures erases { ErasesNothing B.Board board.old board.new }
-    ensures programs { (B.moment board.new).programs ≤ raised_by (2 + length bytes.now / 2) (B.moment board.old).programs }
+    ensures programs { (B.moment board.new).programs ≤ raised_by (2 + length bytes.now / 2)
+        (B.moment board.old).programs }
     ensures cause { HasCause Flash (B.faults board.old) (B.faults board.new) result }
     ensures kind { IfErr result (λ kind. kind ≡ Flash) }
 {
@@ -119,7 +126,8 @@ fn put_alone<B: Board>(
 /// Marks home full.
 fn mark_full<B: Board>(board: &mut B, kept: Kept) -> Result<Kept, Fault>
     requires fits { (images : Bytes) × FitsAlone B.Board board.old kept images }
-    ensures fits { IfOk result (λ new. (images : Bytes) → FitsAlone B.Board board.old kept images → FitsMarked B.Board board.new new images) }
+    ensures fits { IfOk result (λ new. (images : Bytes) → FitsAlone B.Board board.old kept images →
+        FitsMarked B.Board board.new new images) }
     ensures kept { IfOk result (λ new. new ≡ marked_from kept) }
     ensures changes { Changes B.Board board.old board.new (KeepsBytes 0) (KeepsBytes 0) }
     ensures erases { ErasesNothing B.Board board.old board.new }
@@ -127,7 +135,7 @@ fn mark_full<B: Board>(board: &mut B, kept: Kept) -> Result<Kept, Fault>
     ensures cause { HasCause Flash (B.faults board.old) (B.faults board.new) result }
     ensures kind { IfErr result (λ kind. kind ≡ Flash) }
 {
-    program(board, kept.home.region, 0, 0x5BFC)?;
+    set_mark(board, kept.home.region, Mark::Full)?;
     let home = Log {
         mark: Mark::Full,
         ..kept.home

@@ -1,4 +1,4 @@
-// The image in both sectors, with the other one whole.
+//! The image in both sectors, with the other one whole: home is voided, erased and made available.
 ghost use Rattle.std.specs.Prelude.{◌≡◌, ◌+◌, ◌<◌, ◌≤◌, IfOk, IfErr, IfSome};
 ghost use Rattle.flash_traits.specs.declared.board.Fault.{Fault};
 ghost use Rattle.flash_traits.specs.declared.board.Fault.TheVariants.{Flash};
@@ -43,14 +43,19 @@ impl Copied {
     /// Makes home void. A loss inside leaves the bytes of before.
     pub fn void<B: Board>(self, board: &mut B) -> Result<Voided, VoidError>
         requires fits { (images : Bytes) × FitsCopied B.Board board.old self images }
-        ensures fits { IfOk result (λ voided. (images : Bytes) → FitsCopied B.Board board.old self images → FitsVoided B.Board board.new voided images) }
-        ensures kept { IfOk result (λ voided. IfSome self.other (λ log. voided ≡ voided_from self log)) }
-        ensures worn { IfErr result (λ e. OnVoidWorn e (λ copied. (copied ≡ self) × (self.guard ≡ 8192) × (board.new ≡ board.old))) }
+        ensures fits { IfOk result (λ voided. (images : Bytes) →
+            FitsCopied B.Board board.old self images → FitsVoided B.Board board.new voided images) }
+        ensures kept { IfOk result (λ voided. IfSome self.other
+            (λ log. voided ≡ voided_from self log)) }
+        ensures worn { IfErr result (λ e. OnVoidWorn e
+            (λ copied. (copied ≡ self) × (self.guard ≡ 8192) × (board.new ≡ board.old))) }
         ensures used_up { self.guard ≡ 8192 → IfOk result (λ _. ⊥) }
         ensures changes { Changes B.Board board.old board.new (KeepsBytes 1) (KeepsBytes 1) }
         ensures erases { ErasesNothing B.Board board.old board.new }
-        ensures programs { (B.moment board.new).programs ≤ raised_by 1 (B.moment board.old).programs }
-        ensures fault { IfErr result (λ e. OnVoidFault e (λ kind. (kind ≡ Flash) × Rose (B.faults board.old Flash) (B.faults board.new Flash))) }
+        ensures programs { (B.moment board.new).programs ≤ raised_by 1
+            (B.moment board.old).programs }
+        ensures fault { IfErr result (λ e. OnVoidFault e
+            (λ kind. (kind ≡ Flash) × Rose (B.faults board.old Flash) (B.faults board.new Flash))) }
         ensures counts { (k : Fault) → B.faults board.old k ≤ B.faults board.new k }
     {
         let kept = self.kept;
@@ -63,13 +68,14 @@ impl Copied {
         }
     }
 
-    /// Makes home void, erases it and makes it available, beside the other sector as home. A loss inside leaves the bytes
-    /// of before.
+    /// Makes home void, erases it and makes it available, beside the other sector as home. A loss
+    /// inside leaves the bytes of before.
     pub fn settle<B: Board>(self, board: &mut B) -> Result<Alone, VoidError>
         requires fits { (images : Bytes) × FitsCopied B.Board board.old self images }
         ensures fits { IfOk result (λ alone. (images : Bytes) →
             FitsCopied B.Board board.old self images → FitsAlone B.Board board.new alone images) }
-        ensures kept { IfOk result (λ alone. IfSome self.other (λ log. alone ≡ settled_from self log)) }
+        ensures kept { IfOk result (λ alone. IfSome self.other
+            (λ log. alone ≡ settled_from self log)) }
         ensures worn { IfErr result (λ e. OnVoidWorn e (λ copied. (copied ≡ self)
             × (self.guard ≡ 8192) × (board.new ≡ board.old))) }
         ensures used_up { self.guard ≡ 8192 → IfOk result (λ _. ⊥) }
@@ -90,11 +96,12 @@ impl Copied {
     }
 }
 
-/// Programs the next guard halfword, behind which home is void.
+/// Programs the next guard halfword, after which home is void.
 fn void_home<B: Board>(board: &mut B, kept: Kept) -> Result<Kept, Fault>
     requires fits { (images : Bytes) × FitsCopied B.Board board.old kept images }
     requires left { kept.guard < 8192 }
-    ensures fits { IfOk result (λ new. (images : Bytes) → FitsCopied B.Board board.old kept images → FitsVoided B.Board board.new new images) }
+    ensures fits { IfOk result (λ new. (images : Bytes) → FitsCopied B.Board board.old kept images →
+        FitsVoided B.Board board.new new images) }
     ensures kept { IfOk result (λ new. IfSome kept.other (λ log. new ≡ voided_from kept log)) }
     ensures changes { Changes B.Board board.old board.new (KeepsBytes 1) (KeepsBytes 1) }
     ensures erases { ErasesNothing B.Board board.old board.new }

@@ -1,4 +1,5 @@
-// The image in one sector, with the other one erased.
+//! The image in one sector, with the other one erased: its header is programmed before the guard
+//! row says so.
 ghost use Rattle.std.specs.Prelude.{◌≡◌, ◌≤◌, IfOk, IfErr};
 ghost use Rattle.flash_traits.specs.Counts.{raised_by};
 ghost use Rattle.flash_traits.specs.declared.board.Fault.TheVariants.{Flash};
@@ -10,8 +11,9 @@ ghost use Rattle.sector_switch.specs.States.{FitsErased, alone_from};
 ghost use Rattle.sector_image.specs.Fits.{FitsAlone};
 
 use crate::{Alone, Kept};
-use flash_traits::{Board, Fault, program_pair};
+use flash_traits::{Board, Fault, Mark};
 use guard_row::{second_sector, step};
+use sector_log::begin_sector;
 use std::marker::Model;
 
 /// One sector is in use and has all bytes, and every halfword of the void one is FFFF.
@@ -29,14 +31,17 @@ impl Model for Erased {
 }
 
 impl Erased {
-    /// Makes the erased sector available, and then the other one home. A loss inside leaves the bytes of before.
+    /// Makes the erased sector available, and then the other one home. A loss inside leaves the
+    /// bytes of before.
     pub fn open<B: Board>(self, board: &mut B) -> Result<Alone, Fault>
         requires fits { (images : Bytes) × FitsErased B.Board board.old self images }
-        ensures fits { IfOk result (λ alone. (images : Bytes) → FitsErased B.Board board.old self images → FitsAlone B.Board board.new alone images) }
+        ensures fits { IfOk result (λ alone. (images : Bytes) →
+            FitsErased B.Board board.old self images → FitsAlone B.Board board.new alone images) }
         ensures kept { IfOk result (λ alone. alone ≡ alone_from self) }
         ensures changes { Changes B.Board board.old board.new (KeepsBytes 1) (KeepsBytes 1) }
         ensures erases { ErasesNothing B.Board board.old board.new }
-        ensures programs { (B.moment board.new).programs ≤ raised_by 3 (B.moment board.old).programs }
+        ensures programs { (B.moment board.new).programs ≤ raised_by 3
+            (B.moment board.old).programs }
         ensures cause { HasCause Flash (B.faults board.old) (B.faults board.new) result }
         ensures kind { IfErr result (λ kind. kind ≡ Flash) }
     {
@@ -48,7 +53,8 @@ impl Erased {
 /// Makes the erased sector available, and the other one home.
 fn open_erased<B: Board>(board: &mut B, kept: Kept) -> Result<Kept, Fault>
     requires fits { (images : Bytes) × FitsErased B.Board board.old kept images }
-    ensures fits { IfOk result (λ new. (images : Bytes) → FitsErased B.Board board.old kept images → FitsAlone B.Board board.new new images) }
+    ensures fits { IfOk result (λ new. (images : Bytes) → FitsErased B.Board board.old kept images →
+        FitsAlone B.Board board.new new images) }
     ensures kept { IfOk result (λ new. new ≡ alone_from kept) }
     ensures changes { Changes B.Board board.old board.new (KeepsBytes 1) (KeepsBytes 1) }
     ensures erases { ErasesNothing B.Board board.old board.new }
@@ -56,9 +62,7 @@ fn open_erased<B: Board>(board: &mut B, kept: Kept) -> Result<Kept, Fault>
     ensures cause { HasCause Flash (B.faults board.old) (B.faults board.new) result }
     ensures kind { IfErr result (λ kind. kind ≡ Flash) }
 {
-    let Ok(()) = program_pair(board, second_sector(kept.guard), 0, 0x5BFF, 0x5168) else {
-        return Err(Fault::Flash);
-    };
+    begin_sector(board, second_sector(kept.guard), Mark::Available)?;
     let guard = step(board, kept.guard)?;
     Ok(Kept { guard, ..kept })
 }

@@ -1,4 +1,4 @@
-// The image with home full, and the other sector available.
+//! The image with home full, and the other sector available.
 ghost use Rattle.std.specs.Prelude.{◌≡◌, ◌≤◌, All, length, IfOk, IfErr};
 ghost use Rattle.flash_traits.specs.declared.board.Fault.TheVariants.{Flash};
 ghost use Rattle.flash_traits.specs.Calls.{Changes, ErasesNothing};
@@ -10,11 +10,10 @@ ghost use Rattle.sector_image.specs.Losses.{KeepsBytes};
 ghost use Rattle.sector_image.specs.Fits.{FitsMarked, FitsSpilled, left_chunks};
 ghost use Rattle.sector_switch.specs.States.{spilled_from};
 
-use crate::flash::program;
 use crate::{Images, Kept, Spilled};
 use flash_traits::{Board, Fault, Mark};
 use guard_row::second_sector;
-use sector_log::Log;
+use sector_log::{Log, set_mark};
 use std::marker::Model;
 
 /// Home is full and has all bytes, and the other sector is available.
@@ -43,7 +42,8 @@ impl Marked {
         ensures left { IfOk result (λ spilled. left_chunks spilled images.new ≤ chunks) }
         ensures changes { Changes B.Board board.old board.new (KeepsBytes 0) (KeepsBytes 0) }
         ensures erases { ErasesNothing B.Board board.old board.new }
-        ensures programs { (B.moment board.new).programs ≤ raised_by 1 (B.moment board.old).programs }
+        ensures programs { (B.moment board.new).programs ≤ raised_by 1
+            (B.moment board.old).programs }
         ensures cause { HasCause Flash (B.faults board.old) (B.faults board.new) result }
         ensures kind { IfErr result (λ kind. kind ≡ Flash) }
     {
@@ -69,7 +69,7 @@ fn begin_copy<B: Board>(board: &mut B, kept: Kept, images: &mut Images) -> Resul
 {
     let region = second_sector(kept.guard);
     images.clear_upper();
-    program(board, region, 0, 0x5BFE)?;
+    set_mark(board, region, Mark::InUse)?;
     let log = Log {
         region,
         mark: Mark::InUse,

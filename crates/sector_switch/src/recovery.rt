@@ -1,4 +1,4 @@
-// The way back to one sector alone.
+//! The way back to one sector alone, from each state in which a loss may leave the image.
 ghost use Rattle.std.specs.Prelude.{◌≡◌, ◌⊎◌, ◌≤◌, ◌+◌, ◌*◌, IsTrue, IfOk, OnOk, IfErr};
 ghost use Rattle.flash_traits.specs.declared.board.Fault.{Fault};
 ghost use Rattle.flash_traits.specs.declared.board.Fault.TheVariants.{Read, Flash};
@@ -29,7 +29,8 @@ pub enum RecoverError {
         offset: u32,
         word: u16,
     },
-    /// A sector is to be voided and the guard row is used up. The copy is whole, and the words still stand for the bytes.
+    /// A sector is to be voided and the guard row is used up. The copy is whole, and the words
+    /// still stand for the bytes.
     Worn {
         count: u16,
     },
@@ -45,8 +46,8 @@ impl From<Fault> for RecoverError {
     }
 }
 
-/// Brings the image into one sector alone, from each of its four states, and reads its bytes into `images`. A loss
-/// inside leaves the bytes of before.
+/// Brings the image into one sector alone, from each of its four states, and reads its bytes into
+/// `images`. A loss inside leaves the bytes of before.
 ///
 /// Nothing is programmed where the image stands alone or the words are no image.
 pub fn recover<B: Board>(board: &mut B, images: &mut Images) -> Result<Alone, RecoverError>
@@ -58,26 +59,38 @@ pub fn recover<B: Board>(board: &mut B, images: &mut Images) -> Result<Alone, Re
     ensures changes { Changes B.Board board.old board.new (KeepsBytes 2) (KeepsBytes 2) }
 
     // the guard count rises by two from marked and spilled, and by one from voided
-    ensures guard { IfOk result (λ alone. B.tells board.new → (reading : Reading) → Reads (B.words board.old) reading → alone.guard ≡ count_after reading) }
+    ensures guard { IfOk result (λ alone. B.tells board.new → (reading : Reading) →
+        Reads (B.words board.old) reading → alone.guard ≡ count_after reading) }
     ensures copied { IfOk result (λ alone. B.tells board.new → (reading : Reading) →
         Reads (B.words board.old) reading → HomeAfter reading alone.home) }
-    ensures idle { B.tells board.new → (reading : Reading) → Reads (B.words board.old) reading → IsTrue (is_alone reading) → B.moment board.new ≡ B.moment board.old }
+    ensures idle { B.tells board.new → (reading : Reading) → Reads (B.words board.old) reading →
+        IsTrue (is_alone reading) → B.moment board.new ≡ B.moment board.old }
 
     // no image
-    ensures foreign { IfErr result (λ e. OnRecoverForeign e (λ place. B.tells board.new → FirstBad (B.words board.old) place)) }
-    ensures foreign_idle { IfErr result (λ e. OnRecoverForeign e (λ place. B.moment board.new ≡ B.moment board.old)) }
+    ensures foreign { IfErr result (λ e. OnRecoverForeign e
+        (λ place. B.tells board.new → FirstBad (B.words board.old) place)) }
+    ensures foreign_idle { IfErr result
+        (λ e. OnRecoverForeign e (λ place. B.moment board.new ≡ B.moment board.old)) }
     ensures foreign_words { IfErr result (λ e. OnRecoverForeign e (λ place.
         B.tells board.new → B.words board.new ≡ B.words board.old)) }
     ensures left_alone { B.tells board.new → (place : Place) → FirstBad (B.words board.old) place →
         LeftAlone B.Board board.old board.new result }
 
-    // the guard row is used up: exactly where home is full and the count is 8,192, once the copy is whole
-    ensures worn { IfErr result (λ e. OnWorn e (λ count. (count ≡ 8192) × (B.tells board.new → (reading : Reading) × Reads (B.words board.old) reading
+    // the guard row is used up: exactly where home is full and the count is 8,192, once the copy is
+    // whole
+    ensures worn { IfErr result (λ e. OnWorn e
+        (λ count. (count ≡ 8192) × (B.tells board.new → (reading : Reading)
+        × Reads (B.words board.old) reading
         × IsTrue (is_due reading) × (count_in reading ≡ 8192)))) }
-    ensures worn_copied { IfErr result (λ e. OnWorn e (λ count. (kept : Kept) × FitsCopied B.Board board.new kept images.new × (kept.guard ≡ 8192))) }
-    ensures used_up { B.tells board.new → (reading : Reading) → Reads (B.words board.old) reading → IsTrue (is_due reading) → count_in reading ≡ 8192 → IfOk result (λ _. ⊥) }
+    ensures worn_copied { IfErr result
+        (λ e. OnWorn e (λ count. (kept : Kept) × FitsCopied B.Board board.new kept images.new
+        × (kept.guard ≡ 8192))) }
+    ensures used_up { B.tells board.new → (reading : Reading) → Reads (B.words board.old) reading →
+        IsTrue (is_due reading) → count_in reading ≡ 8192 → IfOk result (λ _. ⊥) }
 
-    ensures fault { IfErr result (λ e. OnRecoverFault e (λ kind. (kind ≡ Read ⊎ kind ≡ Flash) × Rose (B.faults board.old kind) (B.faults board.new kind))) }
+    ensures fault { IfErr result (λ e. OnRecoverFault e
+        (λ kind. (kind ≡ Read ⊎ kind ≡ Flash)
+        × Rose (B.faults board.old kind) (B.faults board.new kind))) }
     ensures counts { (k : Fault) → B.faults board.old k ≤ B.faults board.new k }
 {
     match survey(board, images) {
@@ -110,15 +123,21 @@ fn settle<B: Board>(
     ensures changes { Changes B.Board board.old board.new (KeepsBytes 2) (KeepsBytes 2) }
     ensures guard { IfOk result (λ alone. alone.guard ≡ guard_after shape kept.guard) }
     ensures home_alone { shape ≡ Shape.Alone → IfOk result (λ alone. alone.home ≡ kept.home) }
-    ensures home_marked { shape ≡ Shape.Marked → IfOk result (λ alone. FilledFromZeros images.old.whole alone.home) }
-    ensures home_spilled { shape ≡ Shape.Spilled → IfOk result (λ alone. 2 * alone.home.end ≤ taken_of kept images.old) }
+    ensures home_marked { shape ≡ Shape.Marked →
+        IfOk result (λ alone. FilledFromZeros images.old.whole alone.home) }
+    ensures home_spilled { shape ≡ Shape.Spilled →
+        IfOk result (λ alone. 2 * alone.home.end ≤ taken_of kept images.old) }
     ensures home_voided { shape ≡ Shape.Voided → IfOk result (λ alone. alone.home ≡ kept.home) }
     ensures idle { shape ≡ Shape.Alone → board.new ≡ board.old }
     ensures not_foreign { IfErr result (λ e. OnRecoverForeign e (λ place. ⊥)) }
-    ensures worn { IfErr result (λ e. OnWorn e (λ count. (count ≡ 8192) × (kept.guard ≡ 8192) × IsTrue (is_full shape))) }
-    ensures worn_copied { IfErr result (λ e. OnWorn e (λ count. (kept : Kept) × FitsCopied B.Board board.new kept images.new × (kept.guard ≡ 8192))) }
+    ensures worn { IfErr result (λ e. OnWorn e
+        (λ count. (count ≡ 8192) × (kept.guard ≡ 8192) × IsTrue (is_full shape))) }
+    ensures worn_copied { IfErr result
+        (λ e. OnWorn e (λ count. (kept : Kept) × FitsCopied B.Board board.new kept images.new
+        × (kept.guard ≡ 8192))) }
     ensures used_up { IsTrue (is_full shape) → kept.guard ≡ 8192 → IfOk result (λ _. ⊥) }
-    ensures fault { IfErr result (λ e. OnRecoverFault e (λ kind. (kind ≡ Flash) × Rose (B.faults board.old Flash) (B.faults board.new Flash))) }
+    ensures fault { IfErr result (λ e. OnRecoverFault e
+        (λ kind. (kind ≡ Flash) × Rose (B.faults board.old Flash) (B.faults board.new Flash))) }
     ensures counts { (k : Fault) → B.faults board.old k ≤ B.faults board.new k }
 {
     match shape {
@@ -146,9 +165,12 @@ fn finish_marked<B: Board>(
     ensures filled { IfOk result (λ alone. FilledFromZeros images.old.whole alone.home) }
     ensures not_foreign { IfErr result (λ e. OnRecoverForeign e (λ place. ⊥)) }
     ensures worn { IfErr result (λ e. OnWorn e (λ count. (count ≡ 8192) × (marked.guard ≡ 8192))) }
-    ensures worn_copied { IfErr result (λ e. OnWorn e (λ count. (kept : Kept) × FitsCopied B.Board board.new kept images.new × (kept.guard ≡ 8192))) }
+    ensures worn_copied { IfErr result
+        (λ e. OnWorn e (λ count. (kept : Kept) × FitsCopied B.Board board.new kept images.new
+        × (kept.guard ≡ 8192))) }
     ensures used_up { marked.guard ≡ 8192 → IfOk result (λ _. ⊥) }
-    ensures fault { IfErr result (λ e. OnRecoverFault e (λ kind. (kind ≡ Flash) × Rose (B.faults board.old Flash) (B.faults board.new Flash))) }
+    ensures fault { IfErr result (λ e. OnRecoverFault e
+        (λ kind. (kind ≡ Flash) × Rose (B.faults board.old Flash) (B.faults board.new Flash))) }
     ensures counts { (k : Fault) → B.faults board.old k ≤ B.faults board.new k }
 {
     match marked.open(board, images) {
@@ -171,9 +193,12 @@ fn finish_spilled<B: Board>(
     ensures filled { IfOk result (λ alone. 2 * alone.home.end ≤ taken_of spilled images.old) }
     ensures not_foreign { IfErr result (λ e. OnRecoverForeign e (λ place. ⊥)) }
     ensures worn { IfErr result (λ e. OnWorn e (λ count. (count ≡ 8192) × (spilled.guard ≡ 8192))) }
-    ensures worn_copied { IfErr result (λ e. OnWorn e (λ count. (kept : Kept) × FitsCopied B.Board board.new kept images.new × (kept.guard ≡ 8192))) }
+    ensures worn_copied { IfErr result
+        (λ e. OnWorn e (λ count. (kept : Kept) × FitsCopied B.Board board.new kept images.new
+        × (kept.guard ≡ 8192))) }
     ensures used_up { spilled.guard ≡ 8192 → IfOk result (λ _. ⊥) }
-    ensures fault { IfErr result (λ e. OnRecoverFault e (λ kind. (kind ≡ Flash) × Rose (B.faults board.old Flash) (B.faults board.new Flash))) }
+    ensures fault { IfErr result (λ e. OnRecoverFault e
+        (λ kind. (kind ≡ Flash) × Rose (B.faults board.old Flash) (B.faults board.new Flash))) }
     ensures counts { (k : Fault) → B.faults board.old k ≤ B.faults board.new k }
 {
     match spilled.switch(board, images) {

@@ -1,4 +1,4 @@
-// The image in both sectors, and the copy that makes the other sector whole.
+//! The image in both sectors: entries go to the other one, and the copy makes it whole.
 ghost use Rattle.std.specs.Prelude.{◌≡◌, ◌+◌, ◌-◌, ◌*◌, ◌/◌, ◌<◌, ◌≤◌, ◌↔◌, ℕ, List, true, false, length, IsTrue, IfOk, OnOk, OnErr, IfErr, IfSome, Some, None};
 ghost use Rattle.flash_traits.specs.declared.board.Fault.TheVariants.{Flash};
 ghost use Rattle.flash_traits.specs.Losses.{ByResult};
@@ -25,7 +25,8 @@ use sector_image::torn_chunk;
 use sector_log::{append, finish_torn};
 use std::marker::Model;
 
-/// Home is full, and the other sector takes the entries. What home has and the other hasn't is still to be copied.
+/// Home is full, and the other sector takes the entries. What home has and the other hasn't is
+/// still to be copied.
 #[derive(Debug, Drop)]
 pub struct Spilled {
     pub(crate) kept: Kept,
@@ -54,8 +55,8 @@ impl Spilled {
         room_in(&self.kept, images)
     }
 
-    /// Puts an entry of 1 to 8 whole lines, from the line `first` on. A loss inside leaves the bytes of before or those
-    /// with this entry.
+    /// Puts an entry of 1 to 8 whole lines, from the line `first` on. A loss inside leaves the
+    /// bytes of before or those with this entry.
     pub fn append<B: Board>(
         self,
         board: &mut B,
@@ -67,13 +68,17 @@ impl Spilled {
         requires lines { AreLines first bytes.now }
         requires room { 2 + length bytes.now ≤ room_of self images.old }
         ensures fits { IfOk result (λ spilled. FitsSpilled B.Board board.new spilled images.new) }
-        ensures kept { IfOk result (λ spilled. spilled ≡ with_appended self (length bytes.now / 8)) }
-        ensures left { IfOk result (λ spilled. left_chunks spilled images.new ≤ left_in self images.old) }
+        ensures kept { IfOk result (λ spilled. spilled ≡ with_appended self
+            (length bytes.now / 8)) }
+        ensures left { IfOk result
+            (λ spilled. left_chunks spilled images.new ≤ left_in self images.old) }
         ensures put { OnOk result (images.new.whole ≡ put (8 * first) bytes.now images.old.whole) }
         ensures err { OnErr result (images.new ≡ images.old) }
-        ensures changes { Changes B.Board board.old board.new (MayPut first bytes.now) (ByResult result (Puts first bytes.now) (MayPut first bytes.now)) }
+        ensures changes { Changes B.Board board.old board.new (MayPut first bytes.now)
+            (ByResult result (Puts first bytes.now) (MayPut first bytes.now)) }
         ensures erases { ErasesNothing B.Board board.old board.new }
-        ensures programs { (B.moment board.new).programs ≤ raised_by (2 + length bytes.now / 2) (B.moment board.old).programs }
+        ensures programs { (B.moment board.new).programs ≤ raised_by (2 + length bytes.now / 2)
+            (B.moment board.old).programs }
         ensures cause { HasCause Flash (B.faults board.old) (B.faults board.new) result }
         ensures kind { IfErr result (λ kind. kind ≡ Flash) }
     {
@@ -81,29 +86,35 @@ impl Spilled {
         Ok(Spilled { kept })
     }
 
-    /// Completes the completable torn last entry, or else copies the first chunk that isn't covered. A loss inside
-    /// leaves the bytes of before.
+    /// Completes the completable torn last entry, or else copies the first chunk that isn't
+    /// covered. A loss inside leaves the bytes of before.
     ///
-    /// The chunks that are left, and one for a completable torn last entry, fall unless they are 0, and Whole comes
-    /// exactly where they are then 0. Where they were 0 before nothing is programmed. A chunk takes no more bytes than were
-    /// kept for it.
+    /// The chunks that are left, and one for a completable torn last entry, fall unless they are 0,
+    /// and Whole comes exactly where they are then 0. Where they were 0 before nothing is
+    /// programmed. A chunk takes no more bytes than were kept for it.
     pub fn copy_chunk<B: Board>(self, board: &mut B, images: &mut Images) -> Result<CopyStep, Fault>
         requires fits { FitsSpilled B.Board board.old self images.old }
         ensures whole { images.new.whole ≡ images.old.whole }
-        ensures fits { IfOk result (λ step. FitsSpilled B.Board board.new (kept_in step) images.new) }
-        ensures falls { IfOk result (λ step. left_in (kept_in step) images.new ≤ left_in self images.old - 1) }
-        ensures last { IfOk result (λ step. IsTrue (is_whole step) ↔ (left_in (kept_in step) images.new ≡ 0)) }
-        ensures copied { IfOk result (λ step. IsTrue (is_whole step) → FitsCopied B.Board board.new (kept_in step) images.new) }
+        ensures fits { IfOk result (λ step. FitsSpilled B.Board board.new
+            (kept_in step) images.new) }
+        ensures falls { IfOk result (λ step. left_in
+            (kept_in step) images.new ≤ left_in self images.old - 1) }
+        ensures last { IfOk result (λ step. IsTrue (is_whole step)
+            ↔ (left_in (kept_in step) images.new ≡ 0)) }
+        ensures copied { IfOk result (λ step. IsTrue (is_whole step) →
+            FitsCopied B.Board board.new (kept_in step) images.new) }
         ensures ascending { self.completable ≡ false → (chunk : ℕ) → IsFirstLeft images.old chunk →
             OnOk result (images.new ≡ with_chunk images.old chunk) }
-        ensures taken { IfOk result (λ step. taken_of (kept_in step) images.new ≤ taken_of self images.old) }
+        ensures taken { IfOk result (λ step. taken_of
+            (kept_in step) images.new ≤ taken_of self images.old) }
         ensures guard { IfOk result (λ step. (kept_in step).guard ≡ self.guard) }
         ensures home { IfOk result (λ step. (kept_in step).home ≡ self.home) }
         ensures size { IfOk result (λ step. (kept_in step).sector_bytes ≡ self.sector_bytes) }
         ensures idle { left_in self images.old ≡ 0 → board.new ≡ board.old }
         ensures changes { Changes B.Board board.old board.new (KeepsBytes 0) (KeepsBytes 0) }
         ensures erases { ErasesNothing B.Board board.old board.new }
-        ensures programs { (B.moment board.new).programs ≤ raised_by 34 (B.moment board.old).programs }
+        ensures programs { (B.moment board.new).programs ≤ raised_by 34
+            (B.moment board.old).programs }
         ensures cause { HasCause Flash (B.faults board.old) (B.faults board.new) result }
         ensures kind { IfErr result (λ kind. kind ≡ Flash) }
     {
@@ -116,7 +127,8 @@ impl Spilled {
         requires fits { FitsSpilled B.Board board.old self images.old }
         ensures whole { images.new.whole ≡ images.old.whole }
         ensures fits { IfOk result (λ copied. FitsCopied B.Board board.new copied images.new) }
-        ensures taken { IfOk result (λ copied. taken_of copied images.new ≤ taken_of self images.old) }
+        ensures taken { IfOk result
+            (λ copied. taken_of copied images.new ≤ taken_of self images.old) }
         ensures guard { IfOk result (λ copied. copied.guard ≡ self.guard) }
         ensures home { IfOk result (λ copied. copied.home ≡ self.home) }
         ensures size { IfOk result (λ copied. copied.sector_bytes ≡ self.sector_bytes) }
@@ -134,19 +146,21 @@ impl Spilled {
         }
     }
 
-    /// Copies all that is left, and makes the other sector home and the one that was home available. A loss inside leaves
-    /// the bytes of before.
+    /// Copies all that is left, and makes the other sector home and the one that was home
+    /// available. A loss inside leaves the bytes of before.
     pub fn switch<B: Board>(self, board: &mut B, images: &mut Images) -> Result<Alone, SwitchError>
         requires fits { FitsSpilled B.Board board.old self images.old }
         ensures whole { images.new.whole ≡ images.old.whole }
         ensures fits { IfOk result (λ alone. FitsAlone B.Board board.new alone images.new) }
         ensures guard { IfOk result (λ alone. alone.guard ≡ self.guard + 2) }
         ensures filled { IfOk result (λ alone. 2 * alone.home.end ≤ taken_of self images.old) }
-        ensures free { IfOk result (λ alone. self.sector_bytes - taken_of self images.old ≤ free_of alone) }
+        ensures free { IfOk result
+            (λ alone. self.sector_bytes - taken_of self images.old ≤ free_of alone) }
         ensures changes { Changes B.Board board.old board.new (KeepsBytes 2) (KeepsBytes 2) }
 
         // the guard row is used up: the copy is whole, and home is as it was
-        ensures worn { IfErr result (λ e. OnSwitchWorn e (λ count. (count ≡ 8192) × (self.guard ≡ 8192))) }
+        ensures worn { IfErr result (λ e. OnSwitchWorn e
+            (λ count. (count ≡ 8192) × (self.guard ≡ 8192))) }
         ensures worn_copied { IfErr result (λ e. OnSwitchWorn e (λ count. (kept : Kept)
             × FitsCopied B.Board board.new kept images.new × (kept.guard ≡ 8192)
             × (kept.home ≡ self.home) × (kept.sector_bytes ≡ self.sector_bytes))) }
@@ -215,9 +229,11 @@ fn put_spilled<B: Board>(
     ensures left { IfOk result (λ new. left_chunks new images.new ≤ left_in kept images.old) }
     ensures put { OnOk result (images.new.whole ≡ put (8 * first) bytes.now images.old.whole) }
     ensures err { OnErr result (images.new ≡ images.old) }
-    ensures changes { Changes B.Board board.old board.new (MayPut first bytes.now) (ByResult result (Puts first bytes.now) (MayPut first bytes.now)) }
+    ensures changes { Changes B.Board board.old board.new (MayPut first bytes.now)
+        (ByResult result (Puts first bytes.now) (MayPut first bytes.now)) }
     ensures erases { ErasesNothing B.Board board.old board.new }
-    ensures programs { (B.moment board.new).programs ≤ raised_by (2 + length bytes.now / 2) (B.moment board.old).programs }
+    ensures programs { (B.moment board.new).programs ≤ raised_by (2 + length bytes.now / 2)
+        (B.moment board.old).programs }
     ensures cause { HasCause Flash (B.faults board.old) (B.faults board.new) result }
     ensures kind { IfErr result (λ kind. kind ≡ Flash) }
 {
@@ -252,7 +268,8 @@ fn copy_one<B: Board>(
     ensures size { IfOk result (λ new. new.sector_bytes ≡ kept.sector_bytes) }
     ensures taken { IfOk result (λ new. taken_of new images.new ≤ taken_of kept images.old) }
     ensures fits { IfOk result (λ new. FitsSpilled B.Board board.new new images.new) }
-    ensures falls { OnOk result (left_to_copy images.new.whole images.new.upper None < left_to_copy images.old.whole images.old.upper None) }
+    ensures falls { OnOk result (left_to_copy images.new.whole images.new.upper None
+        < left_to_copy images.old.whole images.old.upper None) }
     ensures changes { Changes B.Board board.old board.new (KeepsBytes 0) (KeepsBytes 0) }
     ensures erases { ErasesNothing B.Board board.old board.new }
     ensures programs { (B.moment board.new).programs ≤ raised_by 34 (B.moment board.old).programs }
@@ -282,7 +299,8 @@ fn finish_one<B: Board>(board: &mut B, kept: Kept, images: &mut Images) -> Resul
     ensures size { IfOk result (λ new. new.sector_bytes ≡ kept.sector_bytes) }
     ensures taken { IfOk result (λ new. taken_of new images.new ≤ taken_of kept images.old) }
     ensures fits { IfOk result (λ new. FitsSpilled B.Board board.new new images.new) }
-    ensures falls { OnOk result (left_to_copy images.new.whole images.new.upper None ≤ left_chunks kept images.old) }
+    ensures falls { OnOk result
+        (left_to_copy images.new.whole images.new.upper None ≤ left_chunks kept images.old) }
     ensures changes { Changes B.Board board.old board.new (KeepsBytes 0) (KeepsBytes 0) }
     ensures erases { ErasesNothing B.Board board.old board.new }
     ensures programs { (B.moment board.new).programs ≤ raised_by 34 (B.moment board.old).programs }
@@ -315,7 +333,8 @@ fn copy_step<B: Board>(board: &mut B, kept: Kept, images: &mut Images) -> Result
     ensures size { IfOk result (λ new. new.sector_bytes ≡ kept.sector_bytes) }
     ensures taken { IfOk result (λ new. taken_of new images.new ≤ taken_of kept images.old) }
     ensures fits { IfOk result (λ new. FitsSpilled B.Board board.new new images.new) }
-    ensures falls { OnOk result (left_to_copy images.new.whole images.new.upper None ≤ left_in kept images.old - 1) }
+    ensures falls { OnOk result
+        (left_to_copy images.new.whole images.new.upper None ≤ left_in kept images.old - 1) }
     ensures idle { left_in kept images.old ≡ 0 → board.new ≡ board.old }
     ensures changes { Changes B.Board board.old board.new (KeepsBytes 0) (KeepsBytes 0) }
     ensures erases { ErasesNothing B.Board board.old board.new }
@@ -339,7 +358,8 @@ fn step_of(kept: Kept, images: &Images) -> CopyStep
     requires whole { length images.now.whole ≡ storage_bytes }
     requires upper { length images.now.upper ≡ storage_bytes }
     ensures kept { kept_in result ≡ kept }
-    ensures last { IsTrue (is_whole result) ↔ (left_to_copy images.now.whole images.now.upper None ≡ 0) }
+    ensures last { IsTrue (is_whole result)
+        ↔ (left_to_copy images.now.whole images.now.upper None ≡ 0) }
 {
     match images.first_left() {
         Some(_) => CopyStep::More(Spilled { kept }),

@@ -1,4 +1,4 @@
-// The image in one sector, with the other one void.
+//! The image in one sector, with the other one void until it is erased.
 ghost use Rattle.std.specs.Prelude.{◌≡◌, IfOk, IfErr};
 ghost use Rattle.flash_traits.specs.declared.board.Fault.TheVariants.{Flash};
 ghost use Rattle.flash_traits.specs.Losses.{after_erase};
@@ -32,7 +32,8 @@ impl Voided {
     /// Erases the void sector. A loss inside leaves the bytes of before.
     pub fn erase<B: Board>(self, board: &mut B) -> Result<Erased, Fault>
         requires fits { (images : Bytes) × FitsVoided B.Board board.old self images }
-        ensures fits { IfOk result (λ erased. (images : Bytes) → FitsVoided B.Board board.old self images → FitsErased B.Board board.new erased images) }
+        ensures fits { IfOk result (λ erased. (images : Bytes) →
+            FitsVoided B.Board board.old self images → FitsErased B.Board board.new erased images) }
         ensures kept { IfOk result (λ erased. erased ≡ self) }
         ensures changes { Changes B.Board board.old board.new (KeepsBytes 0) (KeepsBytes 0) }
         ensures moment { B.moment board.new ≡ after_erase (B.moment board.old) }
@@ -43,8 +44,8 @@ impl Voided {
         Ok(Erased { kept })
     }
 
-    /// Erases the void sector and makes it available, beside the other one as home. A loss inside leaves the bytes of
-    /// before.
+    /// Erases the void sector and makes it available, beside the other one as home. A loss inside
+    /// leaves the bytes of before.
     pub fn settle<B: Board>(self, board: &mut B) -> Result<Alone, Fault>
         requires fits { (images : Bytes) × FitsVoided B.Board board.old self images }
         ensures fits { IfOk result (λ alone. (images : Bytes) →
@@ -63,7 +64,8 @@ impl Voided {
 /// Erases the void sector.
 fn erase_void<B: Board>(board: &mut B, kept: Kept) -> Result<Kept, Fault>
     requires fits { (images : Bytes) × FitsVoided B.Board board.old kept images }
-    ensures fits { IfOk result (λ new. (images : Bytes) → FitsVoided B.Board board.old kept images → FitsErased B.Board board.new new images) }
+    ensures fits { IfOk result (λ new. (images : Bytes) → FitsVoided B.Board board.old kept images →
+        FitsErased B.Board board.new new images) }
     ensures kept { IfOk result (λ new. new ≡ kept) }
     ensures changes { Changes B.Board board.old board.new (KeepsBytes 0) (KeepsBytes 0) }
     ensures moment { B.moment board.new ≡ after_erase (B.moment board.old) }

@@ -1,5 +1,4 @@
 use Rattle.std.proofs.Common.{ℕ, ◌<◌, List, sym, subst, arith, get_or}
-use Rattle.sector_image.specs.Room.{chunk_at}
 use Rattle.sector_image.proofs.ChunkLemmas.{chunk_slice, chunk_small}
 use Rattle.sector_image.proofs.chunks.chunk_of.Goals as goal
 

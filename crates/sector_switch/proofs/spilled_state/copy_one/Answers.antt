@@ -1,10 +1,9 @@
-use Rattle.std.proofs.Common.{◌≡◌, ℕ, ◌*◌, ◌/◌, ◌<◌, None, List, sym, ◌∙◌, ap, subst, arith, ◌+◌, ◌≤◌, length}
+use Rattle.std.proofs.Common.{◌≡◌, ◌*◌, ◌/◌, ◌<◌, None, sym, ◌∙◌, ap, subst, arith, ◌+◌, ◌≤◌, length}
 use Rattle.flash_traits.specs.Words.{region_length}
 use Rattle.sector_image.specs.Room.{left_to_copy}
 use Rattle.sector_image.specs.Images.{Bytes}
 use Rattle.sector_log.specs.declared.log.Log.{Log}
 use Rattle.sector_switch.specs.States.{taken_of}
-use Rattle.sector_image.specs.Fits.{left_chunks}
 use Rattle.sector_switch.proofs.Left.{taken_is, left_of_plain}
 use Rattle.sector_image.proofs.Rooms.{copied_falls}
 use Rattle.sector_image.proofs.Regions.{length_second}

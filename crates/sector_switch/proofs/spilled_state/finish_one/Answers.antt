@@ -1,4 +1,4 @@
-use Rattle.std.proofs.Common.{◌≡◌, ℕ, ◌/◌, ◌<◌, ◌≤◌, Bool, true, Option, Some, None, List, refl, sym, ◌∙◌, ap, subst, arith, ◌+◌, ◌*◌}
+use Rattle.std.proofs.Common.{◌≡◌, ℕ, ◌/◌, ◌<◌, ◌≤◌, Bool, true, Option, Some, None, refl, sym, ◌∙◌, ap, subst, arith, ◌+◌, ◌*◌}
 use Rattle.std.specs.Option.{option_map}
 use Rattle.std.specs.Prelude.{IsSome, IfSome}
 use Rattle.sector_log.specs.declared.log.Log.{Log}

@@ -1,9 +1,8 @@
 use Rattle.std.proofs.Common.{◌≡◌, ℕ, ◌+◌, ◌-◌, ◌*◌, ◌≤◌, ◌/◌, Option, Some, None, List, length, sym, ap, subst, arith}
 use Rattle.std.specs.Option.{option_map_or}
 use Rattle.sector_log.specs.declared.log.Log.{Log}
-use Rattle.flash_traits.specs.Values.{put}
 use Rattle.sector_image.specs.declared.kept.Kept.{Kept}
-use Rattle.sector_image.specs.Images.{Bytes, both_bytes}
+use Rattle.sector_image.specs.Images.{Bytes}
 use Rattle.sector_image.specs.Room.{left_to_copy}
 use Rattle.sector_image.specs.Losses.{Puts}
 use Rattle.sector_image.specs.Fits.{torn_chunk, left_chunks}

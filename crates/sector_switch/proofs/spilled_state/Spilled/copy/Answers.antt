@@ -1,7 +1,7 @@
 use Rattle.std.proofs.Common.{◌≤◌, refl, sym, ◌∙◌, ap, subst, arith}
 use Rattle.flash_traits.proofs.Moments.{chained_erases_nothing}
 use Rattle.sector_switch.specs.declared.spilled_state.CopyStep.{CopyStep}
-use Rattle.sector_image.specs.Fits.{FitsSpilled, left_chunks}
+use Rattle.sector_image.specs.Fits.{FitsSpilled}
 use Rattle.sector_switch.specs.States.{taken_of}
 use Rattle.sector_switch.specs.Refusals.{kept_in}
 use Rattle.sector_image.proofs.Keeping.{still_keeps, then_keeps}
