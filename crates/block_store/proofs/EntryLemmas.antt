@@ -8,7 +8,7 @@ use Rattle.storage_lines.proofs.LineLemmas.{after-append, length-after, put_writ
 use Rattle.flash_traits.specs.Values.{put}
 use Rattle.flash_traits.proofs.ValueLemmas.{put_both}
 use Rattle.block_store.specs.Store.{Ascend, IsEntry, entry_bytes}
-use Rattle.block_store.specs.Entries.{first_line, IsEntryOf}
+use Rattle.block_store.specs.Steps.Entries.{first_line, IsEntryOf}
 
 pub ascends : (first : ℕ) (writes : List LineWrite) (i : ℕ) (d : LineWrite) → Ascend first writes → i < length writes → (get_or writes i d).line ≡ first + i
 ascends first [] i d is lt = absurd (omega arith)

@@ -1,5 +1,5 @@
 -- A put as a call that keeps the bytes, and one that puts an entry.
-use Rattle.std.proofs.Common.{◌≡◌, inl, inr, ⊎_elim, ℕ, Bool, true, false, List, Result, Ok, Err, sym, ◌∙◌, ap, subst}
+use Rattle.std.proofs.Common.{◌≡◌, inl, inr, ⊎_elim, ℕ, Bool, true, false, List, Result, Ok, Err, sym, ◌∙◌, ap, subst, arith}
 use Rattle.flash_traits.specs.Words.{Words}
 use Rattle.flash_traits.specs.Losses.{Outcome, ByResult}
 use Rattle.flash_traits.specs.declared.board.Board.{Ghosts}
@@ -9,12 +9,12 @@ use Rattle.storage_lines.specs.declared.lines.LineWrite.{LineWrite}
 use Rattle.sector_image.specs.Stands.{Stands}
 use Rattle.sector_image.specs.Losses.{RaisesGuard, KeepsBytes, Puts, MayPut}
 use Rattle.block_store.specs.Losses.{PutsLines, MayPutLines}
-use Rattle.block_store.specs.Store.{Store, State, raise}
-use Rattle.block_store.specs.Inside.{due_in}
-use Rattle.block_store.specs.Entries.{IsEntryOf, PutsEntry, MayPutEntry}
+use Rattle.block_store.specs.Store.{Store, State, entry_bytes, raise}
+use Rattle.block_store.specs.Steps.Inside.{due_in}
+use Rattle.block_store.specs.Steps.Entries.{IsEntryOf, PutsEntry, MayPutEntry}
 
-guard_then : (most : ℕ) (a b c : List ℕ) → RaisesGuard most a b → c ≡ b → RaisesGuard most a c
-guard_then most a b c raised same = subst (λ (l : List ℕ). RaisesGuard most a l) (sym same) raised
+guard_then : (most : ℕ) (a b c : List ℕ) → RaisesGuard most a b → RaisesGuard 0 b c → RaisesGuard most a c
+guard_then most a b c raised same = λ n is. let d = raised n is in let e = same d.0 d.1 in (e.0, e.1, omega (arith, d.2, e.2), omega (arith, d.3, e.3))
 
 kept_entry : (most first : ℕ) (entry : List ℕ) (u v : Words) → KeepsBytes most u v → MayPutEntry most first entry u v
 kept_entry most first entry u v kept = record { bytes = λ b is. inl (kept.bytes b is); guard = kept.guard }
@@ -81,15 +81,10 @@ module _ {B : Type 0} (g : Ghosts B) (reads : (b : B) (o : Outcome) → g.now b 
       subst (λ (x : B). Changes g a x (MayPutLines most lines) (PutsLines most lines)) (sym at)
       (subst (λ (n : ℕ). Changes g a b (MayPutLines n lines) (PutsLines n lines)) same (puts_lines m first entry lines of changes))
 
--- no answer is both
-pub never_both : {T E : Type 0} (r : Result T E) (v : T) (e : E) → r ≡ Ok v → r ≡ Err e → ⊥
-never_both (Ok u) v e p q = absurd (cc)
-never_both (Err f) v e p q = absurd (cc)
-
 -- how much the guard count may rise
-pub armed_raise : (armed : Bool) (store : Store) (size : ℕ) → armed ≡ true → 0 ≡ raise armed store size
-armed_raise armed store size is = sym (ap (λ (b : Bool). raise b store size) is)
+pub armed_raise : (armed : Bool) (store : Store) (lines : List LineWrite) → armed ≡ true → 0 ≡ raise armed store lines
+armed_raise armed store lines is = sym (ap (λ (b : Bool). raise b store lines) is)
 
-pub unarmed_raise : (armed : Bool) (store : Store) (state : State) (m size : ℕ) → armed ≡ false → state ≡ store.state → m ≡ size → due_in state m ≡ raise armed store size
-unarmed_raise armed store state m size is at same =
-    ap (λ (s : State). due_in s m) at ∙ ap (λ (n : ℕ). due_in store.state n) same ∙ sym (ap (λ (b : Bool). raise b store size) is)
+pub unarmed_raise : (armed : Bool) (store : Store) (state : State) (m : ℕ) (lines : List LineWrite) → armed ≡ false → state ≡ store.state → m ≡ entry_bytes lines → due_in state m ≡ raise armed store lines
+unarmed_raise armed store state m lines is at same =
+    ap (λ (s : State). due_in s m) at ∙ ap (λ (n : ℕ). due_in store.state n) same ∙ sym (ap (λ (b : Bool). raise b store lines) is)

@@ -1,11 +1,14 @@
 -- What the refusals say.
-use Rattle.std.specs.Prelude.{◌≡◌, ℕ}
+use Rattle.std.specs.Prelude.{◌≡◌, ℕ, Result, IfOk, IfErr}
+use Rattle.flash_traits.specs.declared.numbers.TheConstants.{GUARD_HALFWORDS}
 use Rattle.flash_traits.specs.declared.board.Board.{Ghosts}
 use Rattle.flash_traits.specs.declared.board.Fault.{Fault}
+use Rattle.flash_traits.specs.declared.board.Fault.TheVariants.{Read}
 use Rattle.sector_image.specs.declared.kept.Kept.{Kept}
 use Rattle.sector_image.specs.FirstBad.{Place, place_of}
 use Rattle.sector_image.specs.Images.{Bytes}
 use Rattle.sector_switch.specs.States.{FitsCopied}
+use Rattle.sector_image.specs.Fits.{free_of}
 use Rattle.block_store.specs.declared.OpenError.{OpenError}
 use Rattle.block_store.specs.declared.OpenError.TheVariants as open_error
 use Rattle.block_store.specs.declared.PutError.{PutError}
@@ -63,4 +66,18 @@ OnSpending (put_error.Worn count) P = P
 
 -- The image is spilled with every chunk copied, and the guard row is used up.
 abbrev pub IsWorn : {B : Type 0} → Ghosts B → B → Bytes → Type 0
-IsWorn g b bytes = (kept : Kept) × FitsCopied g b kept bytes × (kept.guard ≡ 8192)
+IsWorn g b bytes = (kept : Kept) × FitsCopied g b kept bytes × (kept.guard ≡ GUARD_HALFWORDS)
+
+-- the same, where home has so many free bytes
+abbrev pub IsWornWith : {B : Type 0} → Ghosts B → B → Bytes → ℕ → Type 0
+IsWornWith g b bytes free =
+    (kept : Kept) × FitsCopied g b kept bytes × (kept.guard ≡ GUARD_HALFWORDS)
+    × (free_of kept ≡ free)
+
+-- Moment and words are as they were, nothing is opened, and a fault is one of reading.
+pub record OpenLeavesAlone {B T : Type 0} (g : Ghosts B) (old new : B) (result : Result T OpenError)
+    : Type 0 where
+  pub moment : g.moment new ≡ g.moment old
+  pub words : g.words new ≡ g.words old
+  pub refused : IfOk result (λ answer. ⊥)
+  pub read : IfErr result (λ e. OnOpenFault e (λ kind. kind ≡ Read))

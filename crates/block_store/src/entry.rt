@@ -1,7 +1,7 @@
-// The bytes of an entry.
+//! The bytes of an entry.
 ghost use Rattle.std.specs.Prelude.{◌≡◌, ◌*◌, length, take};
 ghost use Rattle.block_store.specs.Store.{IsEntry};
-ghost use Rattle.block_store.specs.Entries.{first_line, IsEntryOf};
+ghost use Rattle.block_store.specs.Steps.Entries.{first_line, IsEntryOf};
 
 use storage_lines::LineWrite;
 
@@ -9,7 +9,8 @@ use storage_lines::LineWrite;
 pub(crate) fn bytes_of(lines: &[LineWrite]) -> [u8; 64]
     requires entry { IsEntry lines.now }
     ensures size { length result ≡ 64 }
-    ensures lines { IsEntryOf (first_line lines.now) (take (8 * length lines.now) result) lines.now }
+    ensures lines { IsEntryOf (first_line lines.now)
+        (take (8 * length lines.now) result) lines.now }
 {
     let mut bytes = [0; 64];
     for (i, write) in lines.iter().enumerate() {

@@ -1,8 +1,10 @@
-//! The storage as a store of entries: each put is in the image whole or not at all, whatever power losses come.
+//! The storage as a store of entries: each put is in the image whole or not at all, whatever power
+//! losses come.
 #![tactic(auto)]
 
 ghost use Rattle.std.specs.Prelude.{◌≡◌, ◌⊎◌, ◌+◌, ◌*◌, ◌<◌, ◌≤◌, ◌↔◌, length, true, false, IsTrue, IsFalse, IsOk, IfOk, IfErr, OnOk, OnErr, IsErrOf};
-ghost use Rattle.flash_traits.specs.Words.{IsSectorSize};
+ghost use Rattle.flash_traits.specs.Budget.{line_bytes};
+ghost use Rattle.flash_traits.specs.declared.numbers.TheConstants.{GUARD_HALFWORDS};
 ghost use Rattle.flash_traits.specs.declared.board.Fault.{Fault};
 ghost use Rattle.flash_traits.specs.declared.board.Fault.TheVariants.{Read, Flash};
 ghost use Rattle.flash_traits.specs.Losses.{ByResult};
@@ -13,10 +15,11 @@ ghost use Rattle.storage_lines.specs.Lines.{after};
 ghost use Rattle.sector_image.specs.FirstBad.{FirstBad};
 ghost use Rattle.sector_image.specs.Stands.{Stands, Reads, is_alone as reads_alone, is_due, count_in, count_after};
 ghost use Rattle.sector_image.specs.Losses.{KeepsBytes};
+ghost use Rattle.sector_switch.specs.States.{CanServe, HomeAfter};
 ghost use Rattle.block_store.specs.declared.PutError.TheVariants.{NoRoom};
-ghost use Rattle.block_store.specs.Store.{Store, Fits, IsEntry, durable_of, is_alone, is_spilled, is_spent, guard_of, guard_ahead, room_of, free_of, spare_of, entry_bytes, lacks_room, raise};
+ghost use Rattle.block_store.specs.Store.{Store, Fits, IsEntry, durable_of, is_alone, is_spilled, is_spent, guard_of, guard_ahead, room_of, free_of, spare_of, home_free, switch_leaves, OnHome, entry_bytes, lacks_room, Voids, raise};
 ghost use Rattle.block_store.specs.Losses.{PutsLines, MayPutLines};
-ghost use Rattle.block_store.specs.Refusals.{OnMemory, OnOpenFault, OnOpenForeign, OnOpenWorn, OnFault, OnWorn, OnNoRoom, OnSpending, IsWorn};
+ghost use Rattle.block_store.specs.Refusals.{OnMemory, OnOpenFault, OnOpenForeign, OnOpenWorn, OnFault, OnWorn, OnNoRoom, OnSpending, OpenLeavesAlone, IsWorn, IsWornWith};
 
 mod entry;
 mod moves;
@@ -70,6 +73,16 @@ pub enum PutError {
     Worn { count: u16 },
 }
 
+impl From<Fault> for PutError {
+    ghost use Rattle.block_store.specs.declared.PutError.TheVariants as put_error;
+
+    ghost from_gives = { λ kind e. e ≡ put_error.Fault kind };
+
+    fn from(kind: Fault) -> PutError {
+        PutError::Fault(kind)
+    }
+}
+
 /// The state of the image.
 #[derive(Debug, Drop)]
 enum State {
@@ -79,7 +92,8 @@ enum State {
     Spent,
 }
 
-/// A store of entries over a board. Every call takes the board of the opening, which nobody else changes in between.
+/// A store of entries over a board. Every call takes the board of the opening, which nobody else
+/// changes in between.
 #[derive(Debug, Drop)]
 pub struct BlockStore {
     state: State,
@@ -88,7 +102,7 @@ pub struct BlockStore {
 
 impl Model for BlockStore {
     ghost use Rattle.block_store.specs.Store.{Store};
-    ghost use Rattle.block_store.specs.Inside.{state_of, IsInside};
+    ghost use Rattle.block_store.specs.Steps.Inside.{state_of, IsInside};
 
     ghost Value = { Store };
 
@@ -100,28 +114,46 @@ impl Model for BlockStore {
 impl BlockStore {
     /// Recovers the image and opens it. All memory is taken before the first call of the board.
     pub fn open<B: Board>(alloc: Global, board: &mut B) -> Result<BlockStore, OpenError>
-        requires attached { IsSectorSize (B.sector_bytes board.old) }
+        requires attached { CanServe (B.sector_bytes board.old) }
         ensures fits { IfOk result (λ store. Fits B.Board board.new store) }
         ensures alone { IfOk result (λ store. IsTrue (is_alone store)) }
-        ensures stands { IfOk result (λ store. B.tells board.new → Stands (B.words board.old) (durable_of store)) }
+        ensures stands { IfOk result (λ store. B.tells board.new
+            → Stands (B.words board.old) (durable_of store)) }
         ensures size { IfOk result (λ store. length (durable_of store) ≡ STORAGE_BYTES) }
         ensures changes { Changes B.Board board.old board.new (KeepsBytes 2) (KeepsBytes 2) }
 
-        // the guard count rises by two where home is full, and by one where a sector is void; nothing is done to an image that stands alone
-        ensures guard { IfOk result (λ store. B.tells board.new → (reading : _) → Reads (B.words board.old) reading → guard_of store ≡ count_after reading) }
-        ensures idle { B.tells board.new → (reading : _) → Reads (B.words board.old) reading → IsTrue (reads_alone reading) → B.moment board.new ≡ B.moment board.old }
+        // the guard count rises by two where home is full, and by one where a sector is void;
+        // nothing is done to an image that stands alone
+        ensures guard { IfOk result (λ store. B.tells board.new → (reading : _)
+            → Reads (B.words board.old) reading → guard_of store ≡ count_after reading) }
+        ensures idle { B.tells board.new → (reading : _) → Reads (B.words board.old) reading
+            → IsTrue (reads_alone reading) → B.moment board.new ≡ B.moment board.old }
 
-        ensures foreign { IfErr result (λ e. OnOpenForeign e (λ place. B.tells board.new → FirstBad (B.words board.old) place)) }
-        ensures foreign_idle { IfErr result (λ e. OnOpenForeign e (λ place. B.moment board.new ≡ B.moment board.old)) }
+        // home has the log that was read, or no more than its entries and a copy of each chunk that
+        // was left to copy
+        ensures copied { IfOk result (λ store. B.tells board.new → (reading : _)
+            → Reads (B.words board.old) reading → OnHome store (HomeAfter reading)) }
+
+        // words that are no image are left alone
+        ensures left_alone { B.tells board.new → (place : _) → FirstBad (B.words board.old) place
+            → OpenLeavesAlone B.Board board.old board.new result }
+        ensures foreign { IfErr result (λ e. OnOpenForeign e (λ place. B.tells board.new
+            → FirstBad (B.words board.old) place)) }
+        ensures foreign_idle { IfErr result (λ e. OnOpenForeign e
+            (λ place. B.moment board.new ≡ B.moment board.old)) }
 
         // exactly where home is full and the count is 8,192
-        ensures worn { IfErr result (λ e. OnOpenWorn e (λ count. (count ≡ 8192) × (B.tells board.new → (reading : _) × Reads (B.words board.old) reading
-            × IsTrue (is_due reading) × (count_in reading ≡ 8192)))) }
-        ensures worn_copied { IfErr result (λ e. OnOpenWorn e (λ count. (bytes : _) × IsWorn B.Board board.new bytes)) }
-        ensures used_up { B.tells board.new → (reading : _) → Reads (B.words board.old) reading → IsTrue (is_due reading) → count_in reading ≡ 8192 → IfOk result (λ _. ⊥) }
+        ensures worn { IfErr result (λ e. OnOpenWorn e (λ count. (count ≡ GUARD_HALFWORDS)
+            × (B.tells board.new → (reading : _) × Reads (B.words board.old) reading
+            × IsTrue (is_due reading) × (count_in reading ≡ GUARD_HALFWORDS)))) }
+        ensures worn_copied { IfErr result (λ e. OnOpenWorn e (λ count. (bytes : _)
+            × IsWorn B.Board board.new bytes)) }
+        ensures used_up { B.tells board.new → (reading : _) → Reads (B.words board.old) reading
+            → IsTrue (is_due reading) → count_in reading ≡ GUARD_HALFWORDS → IfOk result (λ _. ⊥) }
 
         ensures memory { IfErr result (λ e. OnMemory e (board.new ≡ board.old)) }
-        ensures fault { IfErr result (λ e. OnOpenFault e (λ kind. (kind ≡ Read ⊎ kind ≡ Flash) × Rose (B.faults board.old kind) (B.faults board.new kind))) }
+        ensures fault { IfErr result (λ e. OnOpenFault e (λ kind. (kind ≡ Read ⊎ kind ≡ Flash)
+            × Rose (B.faults board.old kind) (B.faults board.new kind))) }
         ensures counts { (k : Fault) → B.faults board.old k ≤ B.faults board.new k }
     {
         let Ok(mut images) = Images::new(alloc) else {
@@ -156,8 +188,8 @@ impl BlockStore {
         self.images.whole()
     }
 
-    /// The bytes that an entry may take: home's free bytes, and where the store is spilled the other sector's less what
-    /// is kept for the copy; 0 where the store is spent.
+    /// The bytes that an entry may take: home's free bytes, and where the store is spilled the
+    /// other sector's less what is kept for the copy; 0 where the store is spent.
     pub fn room(&self) -> u32
         ensures { result ≡ room_of self.now }
     {
@@ -185,11 +217,11 @@ impl BlockStore {
         }
     }
 
-    /// Puts one entry of 1 to 8 adjacent lines. A loss inside leaves the bytes of before or those with all of these
-    /// lines.
+    /// Puts one entry of 1 to 8 adjacent lines. A loss inside leaves the bytes of before or those
+    /// with all of these lines.
     ///
-    /// A store that isn't armed switches sectors first where it has no room, and stands alone at the end. An armed one
-    /// goes on in the other sector and erases nothing.
+    /// A store that isn't armed switches sectors first where it has no room, and stands alone at
+    /// the end. An armed one goes on in the other sector and erases nothing.
     pub fn put<B: Board>(
         &mut self,
         board: &mut B,
@@ -203,28 +235,51 @@ impl BlockStore {
         ensures put { OnOk result (durable_of self.new ≡ after (durable_of self.old) lines.now) }
         ensures kept { OnErr result (durable_of self.new ≡ durable_of self.old) }
         ensures alone { OnOk result (armed ≡ false → IsTrue (is_alone self.new)) }
-        ensures stays { OnOk result (IsFalse (lacks_room self.old (entry_bytes lines.now)) → IsTrue (is_alone self.new)) }
-        ensures spills { OnOk result (armed ≡ true → IsTrue (lacks_room self.old (entry_bytes lines.now)) → IsTrue (is_spilled self.new)) }
-        ensures guard { OnOk result (guard_of self.new ≡ guard_of self.old + raise armed self.old (entry_bytes lines.now)) }
+        ensures stays { OnOk result (IsFalse (lacks_room self.old lines.now)
+            → IsTrue (is_alone self.new)) }
+        ensures spills { OnOk result (armed ≡ true → IsTrue (lacks_room self.old lines.now)
+            → IsTrue (is_spilled self.new)) }
+        ensures guard { OnOk result (guard_of self.new
+            ≡ guard_of self.old + raise armed self.old lines.now) }
         ensures ahead { OnOk result (guard_ahead self.new ≤ guard_ahead self.old + 2) }
-        ensures free { OnOk result (guard_of self.new ≡ guard_of self.old → free_of self.new + entry_bytes lines.now ≡ free_of self.old) }
-        ensures spare { OnOk result (armed ≡ true → spare_of self.old ≤ spare_of self.new + 10 * length lines.now) }
-        ensures changes { Changes B.Board board.old board.new (MayPutLines (raise armed self.old (entry_bytes lines.now)) lines.now)
-            (ByResult result (PutsLines (raise armed self.old (entry_bytes lines.now)) lines.now) (MayPutLines (raise armed self.old (entry_bytes lines.now)) lines.now)) }
-        ensures erases { raise armed self.old (entry_bytes lines.now) ≡ 0 → ErasesNothing B.Board board.old board.new }
 
-        // exactly where the store is armed and spilled and the entry's bytes exceed the room; nothing changes
-        ensures no_room { IfErr result (λ e. OnNoRoom e (λ room. (armed ≡ true) × IsTrue (is_spilled self.old) × (room ≡ room_of self.old) × (room < entry_bytes lines.now)
+        // the entry takes its bytes once, and nothing else does but the copy of a switch
+        ensures free { OnOk result (guard_of self.new ≡ guard_of self.old
+            → free_of self.new + entry_bytes lines.now ≡ free_of self.old) }
+        ensures copied { OnOk result (armed ≡ false → IsTrue (lacks_room self.old lines.now)
+            → switch_leaves self.old ≤ room_of self.new + entry_bytes lines.now) }
+        ensures spare { OnOk result (armed ≡ true
+            → spare_of self.old ≤ spare_of self.new + line_bytes * length lines.now) }
+
+        ensures changes { Changes B.Board board.old board.new
+            (MayPutLines (raise armed self.old lines.now) lines.now)
+            (ByResult result (PutsLines (raise armed self.old lines.now) lines.now)
+            (MayPutLines (raise armed self.old lines.now) lines.now)) }
+        ensures erases { raise armed self.old lines.now ≡ 0
+            → ErasesNothing B.Board board.old board.new }
+
+        // exactly where the store is armed and spilled and the entry's bytes exceed the room;
+        // nothing changes
+        ensures no_room { IfErr result (λ e. OnNoRoom e (λ room. (armed ≡ true)
+            × IsTrue (is_spilled self.old) × (room ≡ room_of self.old)
+            × (room < entry_bytes lines.now)
             × (self.new ≡ self.old) × (board.new ≡ board.old))) }
-        ensures too_large { armed ≡ true → IsTrue (is_spilled self.old) → room_of self.old < entry_bytes lines.now → IfErr result (λ e. e ≡ NoRoom (room_of self.old)) × IfOk result (λ _. ⊥) }
+        ensures too_large { armed ≡ true → IsTrue (is_spilled self.old)
+            → room_of self.old < entry_bytes lines.now
+            → IfErr result (λ e. e ≡ NoRoom (room_of self.old)) × IfOk result (λ _. ⊥) }
 
-        // exactly where a switch is due and the guard count is 8,192
-        ensures worn { IfErr result (λ e. OnWorn e (λ count. (count ≡ 8192) × (guard_of self.old ≡ 8192) × (armed ≡ false) × IsTrue (lacks_room self.old (entry_bytes lines.now)))) }
-        ensures worn_copied { IfErr result (λ e. OnWorn e (λ count. IsWorn B.Board board.new self.new.bytes)) }
-        ensures used_up { armed ≡ false → IsTrue (lacks_room self.old (entry_bytes lines.now)) → guard_of self.old ≡ 8192 → IfOk result (λ _. ⊥) }
+        // exactly where a sector is to be voided and the guard count is 8,192; home has the free
+        // bytes of before
+        ensures worn { IfErr result (λ e. OnWorn e (λ count. (count ≡ GUARD_HALFWORDS)
+            × (guard_of self.old ≡ GUARD_HALFWORDS) × Voids armed self.old lines.now)) }
+        ensures worn_copied { IfErr result (λ e. OnWorn e (λ count.
+            IsWornWith B.Board board.new self.new.bytes (home_free self.old))) }
+        ensures used_up { Voids armed self.old lines.now → guard_of self.old ≡ GUARD_HALFWORDS
+            → IfOk result (λ _. ⊥) }
 
         ensures spent { IfErr result (λ e. OnSpending e (IsTrue (is_spent self.new))) }
-        ensures fault { IfErr result (λ e. OnFault e (λ kind. (kind ≡ Read ⊎ kind ≡ Flash) × Rose (B.faults board.old kind) (B.faults board.new kind))) }
+        ensures fault { IfErr result (λ e. OnFault e (λ kind. (kind ≡ Read ⊎ kind ≡ Flash)
+            × Rose (B.faults board.old kind) (B.faults board.new kind))) }
         ensures counts { (k : Fault) → B.faults board.old k ≤ B.faults board.new k }
     {
         if armed && self.is_full(2 + 8 * lines.len() as u32) {
@@ -235,37 +290,41 @@ impl BlockStore {
         let bytes = &entry[..8 * lines.len()];
         let state = replace(&mut self.state, State::Spent);
         let next = if armed {
-            match put_armed(state, board, &mut self.images, first, bytes) {
-                Ok(next) => Ok(next),
-                Err(kind) => Err(PutError::Fault(kind)),
-            }
+            put_armed(state, board, &mut self.images, first, bytes)?
         } else {
-            put_unarmed(state, board, &mut self.images, first, bytes)
+            put_unarmed(state, board, &mut self.images, first, bytes)?
         };
-        self.state = next?;
+        self.state = next;
         Ok(())
     }
 
-    /// Makes a spilled store stand alone by the switch that is due, and does nothing else. A loss inside leaves the bytes
-    /// of before.
+    /// Makes a spilled store stand alone by the switch that is due, and does nothing else. A loss
+    /// inside leaves the bytes of before.
     pub fn compact<B: Board>(&mut self, board: &mut B) -> Result<(), PutError>
         requires fits { Fits B.Board board.old self.old }
 
         ensures fits { OnOk result (Fits B.Board board.new self.new) }
         ensures alone { OnOk result (IsTrue (is_alone self.new)) }
         ensures durable { durable_of self.new ≡ durable_of self.old }
-        ensures idle { IsTrue (is_alone self.old) → IsOk result × (self.new ≡ self.old) × (board.new ≡ board.old) }
+        ensures idle { IsTrue (is_alone self.old) → IsOk result × (self.new ≡ self.old)
+            × (board.new ≡ board.old) }
         ensures guard { OnOk result (guard_of self.new ≡ guard_ahead self.old) }
+        ensures copied { OnOk result (IsTrue (is_spilled self.old)
+            → switch_leaves self.old ≤ room_of self.new) }
         ensures changes { Changes B.Board board.old board.new (KeepsBytes 2) (KeepsBytes 2) }
         ensures never_full { IfErr result (λ e. OnNoRoom e (λ room. ⊥)) }
 
         // exactly where the store is spilled and the guard count is 8,192
-        ensures worn { IfErr result (λ e. OnWorn e (λ count. (count ≡ 8192) × (guard_of self.old ≡ 8192) × IsTrue (is_spilled self.old))) }
-        ensures worn_copied { IfErr result (λ e. OnWorn e (λ count. IsWorn B.Board board.new self.new.bytes)) }
-        ensures used_up { IsTrue (is_spilled self.old) → guard_of self.old ≡ 8192 → IfOk result (λ _. ⊥) }
+        ensures worn { IfErr result (λ e. OnWorn e (λ count. (count ≡ GUARD_HALFWORDS)
+            × (guard_of self.old ≡ GUARD_HALFWORDS) × IsTrue (is_spilled self.old))) }
+        ensures worn_copied { IfErr result (λ e. OnWorn e (λ count.
+            IsWornWith B.Board board.new self.new.bytes (home_free self.old))) }
+        ensures used_up { IsTrue (is_spilled self.old) → guard_of self.old ≡ GUARD_HALFWORDS
+            → IfOk result (λ _. ⊥) }
 
         ensures spent { OnErr result (IsTrue (is_spent self.new)) }
-        ensures fault { IfErr result (λ e. OnFault e (λ kind. (kind ≡ Read ⊎ kind ≡ Flash) × Rose (B.faults board.old kind) (B.faults board.new kind))) }
+        ensures fault { IfErr result (λ e. OnFault e (λ kind. (kind ≡ Read ⊎ kind ≡ Flash)
+            × Rose (B.faults board.old kind) (B.faults board.new kind))) }
         ensures counts { (k : Fault) → B.faults board.old k ≤ B.faults board.new k }
     {
         match replace(&mut self.state, State::Spent) {
@@ -282,6 +341,3 @@ impl BlockStore {
         }
     }
 }
-
-#[cfg(test)]
-mod tests;

@@ -1,19 +1,19 @@
-// From one sector to the other.
-ghost use Rattle.std.specs.Prelude.{◌≡◌, ◌≤◌, ◌+◌, ◌-◌, IfOk, IfErr};
+//! From one sector to the other.
+ghost use Rattle.std.specs.Prelude.{◌≡◌, ◌≤◌, ◌+◌, ◌-◌, ◌*◌, IfOk, IfErr};
+ghost use Rattle.flash_traits.specs.declared.numbers.TheConstants.{GUARD_HALFWORDS};
 ghost use Rattle.flash_traits.specs.declared.board.Fault.{Fault};
 ghost use Rattle.flash_traits.specs.declared.board.Fault.TheVariants.{Flash};
 ghost use Rattle.flash_traits.specs.Calls.{Changes, ErasesNothing};
 ghost use Rattle.flash_traits.specs.Causes.{HasCause, Rose};
-ghost use Rattle.sector_image.specs.Images.{Bytes};
-ghost use Rattle.flash_traits.specs.Budget.{chunks};
+ghost use Rattle.flash_traits.specs.Budget.{header_bytes, copy_bytes, chunks};
 ghost use Rattle.sector_image.specs.Losses.{KeepsBytes};
-ghost use Rattle.sector_image.specs.Fits.{FitsAlone, FitsSpilled, FitsVoided, free_of, left_chunks};
-ghost use Rattle.sector_switch.specs.States.{taken_of, marked_from, spilled_from, alone_from};
-ghost use Rattle.block_store.specs.Refusals.{OnFault, OnWorn, OnNoRoom, IsWorn};
+ghost use Rattle.sector_image.specs.Fits.{FitsAlone, FitsSpilled, free_of, left_chunks};
+ghost use Rattle.sector_switch.specs.States.{taken_of, marked_from, spilled_from};
+ghost use Rattle.block_store.specs.Refusals.{OnFault, OnWorn, OnNoRoom, IsWornWith};
 
 use crate::PutError;
 use flash_traits::{Board, Fault};
-use sector_switch::{Alone, Images, Spilled, VoidError, Voided};
+use sector_switch::{Alone, Images, Spilled, SwitchError};
 
 /// Marks home full, and the other sector in use. A loss inside leaves the bytes of before.
 pub(crate) fn spill<B: Board>(
@@ -36,7 +36,8 @@ pub(crate) fn spill<B: Board>(
     Ok(spilled)
 }
 
-/// Makes the other sector home, and the one that was home available. A loss inside leaves the bytes of before.
+/// Makes the other sector home, and the one that was home available. A loss inside leaves the bytes
+/// of before.
 pub(crate) fn switch<B: Board>(
     spilled: Spilled,
     board: &mut B,
@@ -45,28 +46,24 @@ pub(crate) fn switch<B: Board>(
     requires fits { FitsSpilled B.Board board.old spilled images.old }
     ensures whole { images.new.whole ≡ images.old.whole }
     ensures fits { IfOk result (λ alone. FitsAlone B.Board board.new alone images.new) }
-    ensures free { IfOk result (λ alone. spilled.sector_bytes - taken_of spilled images.old ≤ free_of alone) }
+    ensures free { IfOk result (λ alone. spilled.sector_bytes - taken_of spilled images.old
+        ≤ free_of alone) }
     ensures guard { IfOk result (λ alone. alone.guard ≡ spilled.guard + 2) }
     ensures changes { Changes B.Board board.old board.new (KeepsBytes 2) (KeepsBytes 2) }
     ensures never_full { IfErr result (λ e. OnNoRoom e (λ room. ⊥)) }
-    ensures worn { IfErr result (λ e. OnWorn e (λ count. (count ≡ 8192) × (spilled.guard ≡ 8192))) }
-    ensures worn_copied { IfErr result (λ e. OnWorn e (λ count. IsWorn B.Board board.new images.new)) }
-    ensures used_up { spilled.guard ≡ 8192 → IfOk result (λ _. ⊥) }
-    ensures fault { IfErr result (λ e. OnFault e (λ kind. (kind ≡ Flash) × Rose (B.faults board.old Flash) (B.faults board.new Flash))) }
+    ensures worn { IfErr result (λ e. OnWorn e (λ count. (count ≡ GUARD_HALFWORDS)
+        × (spilled.guard ≡ GUARD_HALFWORDS))) }
+    ensures worn_copied { IfErr result (λ e. OnWorn e
+        (λ count. IsWornWith B.Board board.new images.new (free_of spilled))) }
+    ensures used_up { spilled.guard ≡ GUARD_HALFWORDS → IfOk result (λ _. ⊥) }
+    ensures fault { IfErr result (λ e. OnFault e (λ kind. (kind ≡ Flash)
+        × Rose (B.faults board.old Flash) (B.faults board.new Flash))) }
     ensures counts { (k : Fault) → B.faults board.old k ≤ B.faults board.new k }
 {
-    let copied = match spilled.copy(board, images) {
-        Ok(copied) => copied,
-        Err(kind) => return Err(PutError::Fault(kind)),
-    };
-    let voided = match copied.void(board) {
-        Ok(voided) => voided,
-        Err(VoidError::Fault(kind)) => return Err(PutError::Fault(kind)),
-        Err(VoidError::Worn(_)) => return Err(PutError::Worn { count: 8192 }),
-    };
-    match settle(voided, board) {
+    match spilled.switch(board, images) {
         Ok(alone) => Ok(alone),
-        Err(kind) => Err(PutError::Fault(kind)),
+        Err(SwitchError::Fault(kind)) => Err(PutError::Fault(kind)),
+        Err(SwitchError::Worn { count }) => Err(PutError::Worn { count }),
     }
 }
 
@@ -79,32 +76,21 @@ pub(crate) fn turn<B: Board>(
     requires fits { FitsAlone B.Board board.old alone images.old }
     ensures whole { images.new.whole ≡ images.old.whole }
     ensures fits { IfOk result (λ next. FitsAlone B.Board board.new next images.new) }
-    ensures free { IfOk result (λ next. 540 ≤ free_of next) }
+    ensures free { IfOk result (λ next. alone.sector_bytes - (header_bytes + copy_bytes * chunks)
+        ≤ free_of next) }
+    ensures room { IfOk result (λ next. copy_bytes ≤ free_of next) }
     ensures guard { IfOk result (λ next. next.guard ≡ alone.guard + 2) }
     ensures changes { Changes B.Board board.old board.new (KeepsBytes 2) (KeepsBytes 2) }
     ensures never_full { IfErr result (λ e. OnNoRoom e (λ room. ⊥)) }
-    ensures worn { IfErr result (λ e. OnWorn e (λ count. (count ≡ 8192) × (alone.guard ≡ 8192))) }
-    ensures worn_copied { IfErr result (λ e. OnWorn e (λ count. IsWorn B.Board board.new images.new)) }
-    ensures used_up { alone.guard ≡ 8192 → IfOk result (λ _. ⊥) }
-    ensures fault { IfErr result (λ e. OnFault e (λ kind. (kind ≡ Flash) × Rose (B.faults board.old Flash) (B.faults board.new Flash))) }
+    ensures worn { IfErr result (λ e. OnWorn e (λ count. (count ≡ GUARD_HALFWORDS)
+        × (alone.guard ≡ GUARD_HALFWORDS))) }
+    ensures worn_copied { IfErr result (λ e. OnWorn e
+        (λ count. IsWornWith B.Board board.new images.new (free_of alone))) }
+    ensures used_up { alone.guard ≡ GUARD_HALFWORDS → IfOk result (λ _. ⊥) }
+    ensures fault { IfErr result (λ e. OnFault e (λ kind. (kind ≡ Flash)
+        × Rose (B.faults board.old Flash) (B.faults board.new Flash))) }
     ensures counts { (k : Fault) → B.faults board.old k ≤ B.faults board.new k }
 {
-    match spill(alone, board, images) {
-        Ok(spilled) => switch(spilled, board, images),
-        Err(kind) => Err(PutError::Fault(kind)),
-    }
-}
-
-/// Erases the void sector and makes it available. A loss inside leaves the bytes of before.
-fn settle<B: Board>(voided: Voided, board: &mut B) -> Result<Alone, Fault>
-    requires fits { (images : Bytes) × FitsVoided B.Board board.old voided images }
-    ensures fits { IfOk result (λ alone. (images : Bytes) → FitsVoided B.Board board.old voided images → FitsAlone B.Board board.new alone images) }
-    ensures kept { IfOk result (λ alone. alone ≡ alone_from voided) }
-    ensures changes { Changes B.Board board.old board.new (KeepsBytes 1) (KeepsBytes 1) }
-    ensures cause { HasCause Flash (B.faults board.old) (B.faults board.new) result }
-    ensures kind { IfErr result (λ kind. kind ≡ Flash) }
-{
-    let erased = voided.erase(board)?;
-    let alone = erased.open(board)?;
-    Ok(alone)
+    let spilled = spill(alone, board, images)?;
+    switch(spilled, board, images)
 }

@@ -1,27 +1,29 @@
-// A state that has room for an entry, and the entry.
+//! A state that has room for an entry, and the entry.
 ghost use Rattle.std.specs.Prelude.{◌≡◌, ◌+◌, ◌-◌, ◌*◌, ◌≤◌, length, true, false, IsTrue, IsFalse, IfOk, IfErr, OnOk, OnErr};
+ghost use Rattle.flash_traits.specs.declared.numbers.TheConstants.{GUARD_HALFWORDS};
 ghost use Rattle.flash_traits.specs.declared.board.Fault.{Fault};
 ghost use Rattle.flash_traits.specs.declared.board.Fault.TheVariants.{Read, Flash};
 ghost use Rattle.flash_traits.specs.Losses.{ByResult};
 ghost use Rattle.flash_traits.specs.Calls.{Changes, ErasesNothing};
 ghost use Rattle.flash_traits.specs.Causes.{HasCause, Rose};
 ghost use Rattle.flash_traits.specs.Values.{put};
+ghost use Rattle.flash_traits.specs.Budget.{header_bytes, copy_bytes};
 ghost use Rattle.sector_log.specs.Appends.{AreLines};
 ghost use Rattle.sector_image.specs.Losses.{KeepsBytes, Puts, MayPut};
 ghost use Rattle.sector_image.specs.Fits as fits;
 ghost use Rattle.sector_image.specs.Fits.{FitsAlone};
-ghost use Rattle.block_store.specs.Store.{FitsState, alone, spilled, guard_in, room_in, free_in, spare_in, lacks_in};
-ghost use Rattle.block_store.specs.Inside.{state_of, IsInside, due_in};
-ghost use Rattle.block_store.specs.Entries.{PutsEntry, MayPutEntry};
-ghost use Rattle.block_store.specs.Refusals.{OnFault, OnWorn, OnNoRoom, IsWorn};
+ghost use Rattle.block_store.specs.Store.{FitsState, in_one_sector, in_both_sectors, guard_in, room_in, free_in, spare_in, lacks_in, switch_leaves_in, home_free_in};
+ghost use Rattle.block_store.specs.Steps.Inside.{state_of, IsInside, due_in};
+ghost use Rattle.block_store.specs.Steps.Entries.{PutsEntry, MayPutEntry};
+ghost use Rattle.block_store.specs.Refusals.{OnFault, OnWorn, OnNoRoom, IsWornWith};
 
 use crate::moves::{spill, switch, turn};
 use crate::{PutError, State};
 use flash_traits::{Board, Fault};
 use sector_switch::{Alone, Images};
 
-/// The state in which an armed store takes an entry of so many bytes: home where it has room, and else the other
-/// sector.
+/// The state in which an armed store takes an entry of so many bytes: home where it has room, and
+/// else the other sector.
 fn go_on<B: Board>(
     state: State,
     board: &mut B,
@@ -30,17 +32,21 @@ fn go_on<B: Board>(
 ) -> Result<State, Fault>
     requires fits { FitsState B.Board board.old (state_of state) images.old }
     requires inside { IsInside (state_of state) images.old }
-    requires size { size ≤ 66 }
-    requires room { IsTrue (spilled (state_of state)) → size ≤ room_in (state_of state) images.old }
+    requires size { size ≤ copy_bytes }
+    requires room { IsTrue (in_both_sectors (state_of state))
+        → size ≤ room_in (state_of state) images.old }
     ensures whole { images.new.whole ≡ images.old.whole }
     ensures fits { IfOk result (λ next. FitsState B.Board board.new (state_of next) images.new) }
     ensures inside { IfOk result (λ next. IsInside (state_of next) images.new) }
     ensures room { IfOk result (λ next. size ≤ room_in (state_of next) images.new) }
-    ensures stays { IfOk result (λ next. IsFalse (lacks_in (state_of state) size) → IsTrue (alone (state_of next))) }
-    ensures spills { IfOk result (λ next. IsTrue (lacks_in (state_of state) size) → IsTrue (spilled (state_of next))) }
+    ensures stays { IfOk result (λ next. IsFalse (lacks_in (state_of state) size)
+        → IsTrue (in_one_sector (state_of next))) }
+    ensures spills { IfOk result (λ next. IsTrue (lacks_in (state_of state) size)
+        → IsTrue (in_both_sectors (state_of next))) }
     ensures guard { IfOk result (λ next. guard_in (state_of next) ≡ guard_in (state_of state)) }
     ensures free { IfOk result (λ next. free_in (state_of next) ≡ free_in (state_of state)) }
-    ensures spare { IfOk result (λ next. spare_in (state_of state) images.old ≤ spare_in (state_of next) images.new) }
+    ensures spare { IfOk result (λ next. spare_in (state_of state) images.old
+        ≤ spare_in (state_of next) images.new) }
     ensures changes { Changes B.Board board.old board.new (KeepsBytes 0) (KeepsBytes 0) }
     ensures erases { ErasesNothing B.Board board.old board.new }
     ensures cause { HasCause Flash (B.faults board.old) (B.faults board.new) result }
@@ -60,7 +66,8 @@ fn go_on<B: Board>(
     }
 }
 
-/// One sector alone with room for an entry of so many bytes: home where it has room, and else the other sector as home.
+/// One sector alone with room for an entry of so many bytes: home where it has room, and else the
+/// other sector as home.
 fn free_home<B: Board>(
     state: State,
     board: &mut B,
@@ -69,19 +76,29 @@ fn free_home<B: Board>(
 ) -> Result<Alone, PutError>
     requires fits { FitsState B.Board board.old (state_of state) images.old }
     requires inside { IsInside (state_of state) images.old }
-    requires size { size ≤ 66 }
+    requires size { size ≤ copy_bytes }
     ensures whole { images.new.whole ≡ images.old.whole }
     ensures fits { IfOk result (λ alone. FitsAlone B.Board board.new alone images.new) }
     ensures room { IfOk result (λ alone. size ≤ fits.free_of alone) }
-    ensures guard { IfOk result (λ alone. alone.guard ≡ guard_in (state_of state) + due_in (state_of state) size) }
-    ensures free { IfOk result (λ alone. due_in (state_of state) size ≡ 0 → fits.free_of alone + (alone.sector_bytes - 4) ≡ free_in (state_of state)) }
-    ensures changes { Changes B.Board board.old board.new (KeepsBytes (due_in (state_of state) size)) (KeepsBytes (due_in (state_of state) size)) }
+    ensures guard { IfOk result (λ alone. alone.guard
+        ≡ guard_in (state_of state) + due_in (state_of state) size) }
+    ensures copied { IfOk result (λ alone. IsTrue (lacks_in (state_of state) size)
+        → switch_leaves_in (state_of state) images.old ≤ fits.free_of alone) }
+    ensures free { IfOk result (λ alone. due_in (state_of state) size ≡ 0
+        → fits.free_of alone + (alone.sector_bytes - header_bytes) ≡ free_in (state_of state)) }
+    ensures changes { Changes B.Board board.old board.new
+        (KeepsBytes (due_in (state_of state) size)) (KeepsBytes (due_in (state_of state) size)) }
     ensures erases { due_in (state_of state) size ≡ 0 → ErasesNothing B.Board board.old board.new }
     ensures never_full { IfErr result (λ e. OnNoRoom e (λ room. ⊥)) }
-    ensures worn { IfErr result (λ e. OnWorn e (λ count. (count ≡ 8192) × (guard_in (state_of state) ≡ 8192) × IsTrue (lacks_in (state_of state) size))) }
-    ensures worn_copied { IfErr result (λ e. OnWorn e (λ count. IsWorn B.Board board.new images.new)) }
-    ensures used_up { IsTrue (lacks_in (state_of state) size) → guard_in (state_of state) ≡ 8192 → IfOk result (λ _. ⊥) }
-    ensures fault { IfErr result (λ e. OnFault e (λ kind. (kind ≡ Flash) × Rose (B.faults board.old Flash) (B.faults board.new Flash))) }
+    ensures worn { IfErr result (λ e. OnWorn e (λ count. (count ≡ GUARD_HALFWORDS)
+        × (guard_in (state_of state) ≡ GUARD_HALFWORDS)
+        × IsTrue (lacks_in (state_of state) size))) }
+    ensures worn_copied { IfErr result (λ e. OnWorn e
+        (λ count. IsWornWith B.Board board.new images.new (home_free_in (state_of state)))) }
+    ensures used_up { IsTrue (lacks_in (state_of state) size)
+        → guard_in (state_of state) ≡ GUARD_HALFWORDS → IfOk result (λ _. ⊥) }
+    ensures fault { IfErr result (λ e. OnFault e (λ kind. (kind ≡ Flash)
+        × Rose (B.faults board.old Flash) (B.faults board.new Flash))) }
     ensures counts { (k : Fault) → B.faults board.old k ≤ B.faults board.new k }
 {
     match state {
@@ -113,12 +130,19 @@ fn append<B: Board>(
     ensures inside { IfOk result (λ next. IsInside (state_of next) images.new) }
     ensures put { OnOk result (images.new.whole ≡ put (8 * first) bytes.now images.old.whole) }
     ensures err { OnErr result (images.new ≡ images.old) }
-    ensures alone { IfOk result (λ next. alone (state_of next) ≡ alone (state_of state)) }
-    ensures spilled { IfOk result (λ next. spilled (state_of next) ≡ spilled (state_of state)) }
+    ensures alone { IfOk result (λ next. in_one_sector (state_of next)
+        ≡ in_one_sector (state_of state)) }
+    ensures spilled { IfOk result (λ next. in_both_sectors (state_of next)
+        ≡ in_both_sectors (state_of state)) }
     ensures guard { IfOk result (λ next. guard_in (state_of next) ≡ guard_in (state_of state)) }
-    ensures free { IfOk result (λ next. free_in (state_of next) + 2 + length bytes.now ≡ free_in (state_of state)) }
-    ensures spare { IfOk result (λ next. spare_in (state_of state) images.old ≤ spare_in (state_of next) images.new + 2 + length bytes.now) }
-    ensures changes { Changes B.Board board.old board.new (MayPut first bytes.now) (ByResult result (Puts first bytes.now) (MayPut first bytes.now)) }
+    ensures free { IfOk result (λ next. free_in (state_of next) + 2 + length bytes.now
+        ≡ free_in (state_of state)) }
+    ensures spare { IfOk result (λ next. spare_in (state_of state) images.old
+        ≤ spare_in (state_of next) images.new + 2 + length bytes.now) }
+    ensures room { IfOk result (λ next. room_in (state_of state) images.old
+        ≤ room_in (state_of next) images.new + 2 + length bytes.now) }
+    ensures changes { Changes B.Board board.old board.new (MayPut first bytes.now)
+        (ByResult result (Puts first bytes.now) (MayPut first bytes.now)) }
     ensures erases { ErasesNothing B.Board board.old board.new }
     ensures cause { HasCause Flash (B.faults board.old) (B.faults board.new) result }
     ensures kind { IfErr result (λ kind. kind ≡ Flash) }
@@ -147,17 +171,23 @@ pub(crate) fn put_armed<B: Board>(
     requires fits { FitsState B.Board board.old (state_of state) images.old }
     requires inside { IsInside (state_of state) images.old }
     requires lines { AreLines first bytes.now }
-    requires room { IsTrue (spilled (state_of state)) → 2 + length bytes.now ≤ room_in (state_of state) images.old }
+    requires room { IsTrue (in_both_sectors (state_of state))
+        → 2 + length bytes.now ≤ room_in (state_of state) images.old }
     ensures fits { IfOk result (λ next. FitsState B.Board board.new (state_of next) images.new) }
     ensures inside { IfOk result (λ next. IsInside (state_of next) images.new) }
     ensures put { OnOk result (images.new.whole ≡ put (8 * first) bytes.now images.old.whole) }
     ensures kept { OnErr result (images.new.whole ≡ images.old.whole) }
-    ensures stays { IfOk result (λ next. IsFalse (lacks_in (state_of state) (2 + length bytes.now)) → IsTrue (alone (state_of next))) }
-    ensures spills { IfOk result (λ next. IsTrue (lacks_in (state_of state) (2 + length bytes.now)) → IsTrue (spilled (state_of next))) }
+    ensures stays { IfOk result (λ next. IsFalse (lacks_in (state_of state) (2 + length bytes.now))
+        → IsTrue (in_one_sector (state_of next))) }
+    ensures spills { IfOk result (λ next. IsTrue (lacks_in (state_of state) (2 + length bytes.now))
+        → IsTrue (in_both_sectors (state_of next))) }
     ensures guard { IfOk result (λ next. guard_in (state_of next) ≡ guard_in (state_of state)) }
-    ensures free { IfOk result (λ next. free_in (state_of next) + 2 + length bytes.now ≡ free_in (state_of state)) }
-    ensures spare { IfOk result (λ next. spare_in (state_of state) images.old ≤ spare_in (state_of next) images.new + 2 + length bytes.now) }
-    ensures changes { Changes B.Board board.old board.new (MayPutEntry 0 first bytes.now) (ByResult result (PutsEntry 0 first bytes.now) (MayPutEntry 0 first bytes.now)) }
+    ensures free { IfOk result (λ next. free_in (state_of next) + 2 + length bytes.now
+        ≡ free_in (state_of state)) }
+    ensures spare { IfOk result (λ next. spare_in (state_of state) images.old
+        ≤ spare_in (state_of next) images.new + 2 + length bytes.now) }
+    ensures changes { Changes B.Board board.old board.new (MayPutEntry 0 first bytes.now)
+        (ByResult result (PutsEntry 0 first bytes.now) (MayPutEntry 0 first bytes.now)) }
     ensures erases { ErasesNothing B.Board board.old board.new }
     ensures cause { HasCause Flash (B.faults board.old) (B.faults board.new) result }
     ensures kind { IfErr result (λ kind. kind ≡ Flash) }
@@ -182,22 +212,34 @@ pub(crate) fn put_unarmed<B: Board>(
     ensures inside { IfOk result (λ next. IsInside (state_of next) images.new) }
     ensures put { OnOk result (images.new.whole ≡ put (8 * first) bytes.now images.old.whole) }
     ensures kept { OnErr result (images.new.whole ≡ images.old.whole) }
-    ensures alone { IfOk result (λ next. IsTrue (alone (state_of next))) }
-    ensures guard { IfOk result (λ next. guard_in (state_of next) ≡ guard_in (state_of state) + due_in (state_of state) (2 + length bytes.now)) }
-    ensures free { IfOk result (λ next. due_in (state_of state) (2 + length bytes.now) ≡ 0 → free_in (state_of next) + 2 + length bytes.now ≡ free_in (state_of state)) }
-    ensures changes { Changes B.Board board.old board.new (MayPutEntry (due_in (state_of state) (2 + length bytes.now)) first bytes.now)
-        (ByResult result (PutsEntry (due_in (state_of state) (2 + length bytes.now)) first bytes.now) (MayPutEntry (due_in (state_of state) (2 + length bytes.now)) first bytes.now)) }
-    ensures erases { due_in (state_of state) (2 + length bytes.now) ≡ 0 → ErasesNothing B.Board board.old board.new }
+    ensures alone { IfOk result (λ next. IsTrue (in_one_sector (state_of next))) }
+    ensures guard { IfOk result (λ next. guard_in (state_of next)
+        ≡ guard_in (state_of state) + due_in (state_of state) (2 + length bytes.now)) }
+    ensures copied { IfOk result (λ next. IsTrue (lacks_in (state_of state) (2 + length bytes.now))
+        → switch_leaves_in (state_of state) images.old
+        ≤ room_in (state_of next) images.new + 2 + length bytes.now) }
+    ensures free { IfOk result (λ next. due_in (state_of state) (2 + length bytes.now) ≡ 0
+        → free_in (state_of next) + 2 + length bytes.now ≡ free_in (state_of state)) }
+    ensures changes { Changes B.Board board.old board.new
+        (MayPutEntry (due_in (state_of state) (2 + length bytes.now)) first bytes.now)
+        (ByResult result (PutsEntry (due_in (state_of state)
+        (2 + length bytes.now)) first bytes.now)
+        (MayPutEntry (due_in (state_of state) (2 + length bytes.now)) first bytes.now)) }
+    ensures erases { due_in (state_of state) (2 + length bytes.now) ≡ 0
+        → ErasesNothing B.Board board.old board.new }
     ensures never_full { IfErr result (λ e. OnNoRoom e (λ room. ⊥)) }
-    ensures worn { IfErr result (λ e. OnWorn e (λ count. (count ≡ 8192) × (guard_in (state_of state) ≡ 8192) × IsTrue (lacks_in (state_of state) (2 + length bytes.now)))) }
-    ensures worn_copied { IfErr result (λ e. OnWorn e (λ count. IsWorn B.Board board.new images.new)) }
-    ensures used_up { IsTrue (lacks_in (state_of state) (2 + length bytes.now)) → guard_in (state_of state) ≡ 8192 → IfOk result (λ _. ⊥) }
-    ensures fault { IfErr result (λ e. OnFault e (λ kind. (kind ≡ Flash) × Rose (B.faults board.old Flash) (B.faults board.new Flash))) }
+    ensures worn { IfErr result (λ e. OnWorn e (λ count. (count ≡ GUARD_HALFWORDS)
+        × (guard_in (state_of state) ≡ GUARD_HALFWORDS)
+        × IsTrue (lacks_in (state_of state) (2 + length bytes.now)))) }
+    ensures worn_copied { IfErr result (λ e. OnWorn e
+        (λ count. IsWornWith B.Board board.new images.new (home_free_in (state_of state)))) }
+    ensures used_up { IsTrue (lacks_in (state_of state) (2 + length bytes.now))
+        → guard_in (state_of state) ≡ GUARD_HALFWORDS → IfOk result (λ _. ⊥) }
+    ensures fault { IfErr result (λ e. OnFault e (λ kind. (kind ≡ Flash)
+        × Rose (B.faults board.old Flash) (B.faults board.new Flash))) }
     ensures counts { (k : Fault) → B.faults board.old k ≤ B.faults board.new k }
 {
     let home = free_home(state, board, images, 2 + bytes.len() as u32)?;
-    match append(State::Alone(home), board, images, first, bytes) {
-        Ok(next) => Ok(next),
-        Err(kind) => Err(PutError::Fault(kind)),
-    }
+    let next = append(State::Alone(home), board, images, first, bytes)?;
+    Ok(next)
 }

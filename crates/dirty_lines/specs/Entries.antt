@@ -1,6 +1,7 @@
 -- How pending lines become entries of the log.
 use Rattle.std.specs.Prelude.{◌≡◌, ◌≢◌, ◌⊎◌, ◌<◌, ◌≤◌, ℕ, ◌+◌, ◌*◌, List, [], ◌∷◌, ◌++◌, length, take, Bool, true, IsFalse}
 use Rattle.std.specs.List.{flat_map}
+use Rattle.flash_traits.specs.Budget.{line_bytes}
 use Rattle.storage_lines.specs.declared.lines.LineWrite.{LineWrite}
 use Rattle.storage_lines.specs.Lines.{after}
 use Rattle.block_store.specs.Store.{Ascend, durable_of, entry_bytes, guard_of, guard_ahead, free_of, spare_of, is_spent}
@@ -11,8 +12,8 @@ abbrev pub DoesNotBegin : ℕ → List LineWrite → Type 0
 DoesNotBegin line [] = Unit {0}
 DoesNotBegin line (write ∷ writes) = write.line ≢ line
 
--- The longest run in front of the rest: one to eight lines whose numbers ascend by one, and where they are fewer than
--- eight the rest doesn't go on with the next number.
+-- The longest run in front of the rest: one to eight lines whose numbers ascend by one, and where
+-- they are fewer than eight the rest doesn't go on with the next number.
 pub record IsLongest (entry rest : List LineWrite) : Type 0 where
   pub first : ℕ
   pub ascend : Ascend first entry
@@ -26,10 +27,13 @@ pub record IsNext (entry pending : List LineWrite) : Type 0 where
   pub whole : pending ≡ entry ++ behind
   pub longest : IsLongest entry behind
 
--- the pending lines are these entries, from the oldest line on, and then the rest; each entry is the longest run where it begins
-abbrev pub Cut : List (List LineWrite) → List LineWrite → List LineWrite → Type 0
-Cut [] rest pending = pending ≡ rest
-Cut (entry ∷ entries) rest pending = (behind : List LineWrite) × (pending ≡ entry ++ behind) × IsLongest entry behind × Cut entries rest behind
+-- the pending lines are these entries, from the oldest line on, and then the rest; each entry is
+-- the longest run where it begins
+abbrev pub CutIntoEntries : List (List LineWrite) → List LineWrite → List LineWrite → Type 0
+CutIntoEntries [] rest pending = pending ≡ rest
+CutIntoEntries (entry ∷ entries) rest pending =
+    (behind : List LineWrite) × (pending ≡ entry ++ behind) × IsLongest entry behind
+    × CutIntoEntries entries rest behind
 
 -- the lines of entries, in order
 abbrev pub joined : List (List LineWrite) → List LineWrite
@@ -45,12 +49,17 @@ pub record IsFewest (n : ℕ) (entries : List (List LineWrite)) (rest : List Lin
   pub enough : n ≤ length (joined entries) ⊎ rest ≡ []
   pub fewest : (k : ℕ) → k < length entries → length (joined (take k entries)) < n
 
--- These entries were put, and nothing else. As long as the store isn't spent, the free bytes of both sectors fall by
--- just what the entries take where there was no switch, the guard count rises by at most two for each entry, and while
--- armed the spare bytes fall by at most ten for each line.
+-- These entries were put, and nothing else. As long as the store isn't spent, the free bytes of
+-- both sectors fall by just what the entries take where there was no switch, the guard count rises
+-- by at most two for each entry, and while armed the spare bytes fall by at most ten for each line.
 pub record Wrote (entries : List (List LineWrite)) (armed : Bool) (old new : Lines) : Type 0 where
-  pub cut : Cut entries new.pending old.pending
+  pub cut : CutIntoEntries entries new.pending old.pending
   pub durable : durable_of new.store ≡ after (durable_of old.store) (joined entries)
-  pub free : IsFalse (is_spent new.store) → guard_of new.store ≡ guard_of old.store → free_of new.store + flash_bytes entries ≡ free_of old.store
-  pub ahead : IsFalse (is_spent new.store) → guard_ahead new.store ≤ guard_ahead old.store + 2 * length entries
-  pub spare : IsFalse (is_spent new.store) → armed ≡ true → spare_of old.store ≤ spare_of new.store + 10 * length (joined entries)
+  pub free : IsFalse (is_spent new.store) → guard_of new.store ≡ guard_of old.store
+      → free_of new.store + flash_bytes entries ≡ free_of old.store
+  pub guard : IsFalse (is_spent new.store)
+      → guard_of new.store ≤ guard_of old.store + 2 * length entries
+  pub ahead : IsFalse (is_spent new.store)
+      → guard_ahead new.store ≤ guard_ahead old.store + 2 * length entries
+  pub spare : IsFalse (is_spent new.store) → armed ≡ true
+      → spare_of old.store ≤ spare_of new.store + line_bytes * length (joined entries)

@@ -1,5 +1,4 @@
 pub mod Lines
 pub mod Entries
 pub mod Losses
-pub mod Inside
-pub mod Flushing
+pub mod Steps

@@ -1,4 +1,4 @@
-// The lines of the next entry, and lines applied to bytes.
+//! The lines of the next entry, and lines applied to bytes.
 ghost use Rattle.std.specs.Prelude.{◌≡◌, ◌<◌, length};
 ghost use Rattle.storage_lines.specs.declared.lines.TheConstants.{STORAGE_BYTES};
 ghost use Rattle.storage_lines.specs.Lines.{after};

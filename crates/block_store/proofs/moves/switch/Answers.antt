@@ -1,18 +1,13 @@
-use Rattle.std.proofs.Common.{arith}
-use Rattle.sector_image.proofs.Keeping.{then_keeps, more_keeps}
+use Rattle.std.proofs.Common.{◌≡◌, ap, arith}
+use Rattle.flash_traits.specs.declared.numbers.TheConstants.{GUARD_HALFWORDS}
+use Rattle.sector_log.specs.declared.log.Log.{Log}
+use Rattle.sector_image.specs.declared.kept.Kept.{Kept}
+use Rattle.sector_switch.specs.States.{FitsCopied}
 use Rattle.block_store.proofs.moves.switch.Goals as goal
 
-pub returns-in-Err-clause-changes : goal.returns-in-Err-clause-changes
-returns-in-Err-clause-changes g c = more_keeps g.B.Board g.met.B.Board.reads 0 2 (omega arith) c.in-Err.ensures.changes
-
-pub returns-in-Err-Fault-clause-changes : goal.returns-in-Err-Fault-clause-changes
-returns-in-Err-Fault-clause-changes g c = more_keeps g.B.Board g.met.B.Board.reads 1 2 (omega arith) (then_keeps g.B.Board g.met.B.Board.reads 0 1 c.in-Ok.ensures.changes c.in-Err-Fault.ensures.changes)
-
-pub returns-in-Err-Worn-clause-changes : goal.returns-in-Err-Worn-clause-changes
-returns-in-Err-Worn-clause-changes g c = more_keeps g.B.Board g.met.B.Board.reads 1 2 (omega arith) (then_keeps g.B.Board g.met.B.Board.reads 0 1 c.in-Ok.ensures.changes c.in-Err-Worn.ensures.changes)
-
-pub returns-in-Ok-settle-clause-changes : goal.returns-in-Ok-settle-clause-changes
-returns-in-Ok-settle-clause-changes g c = then_keeps g.B.Board g.met.B.Board.reads 1 1 (then_keeps g.B.Board g.met.B.Board.reads 0 1 c.in-Ok.ensures.changes c.in-Ok-void.ensures.changes) c.in-Ok-settle.ensures.changes
-
-pub returns-in-Err-settle-clause-changes : goal.returns-in-Err-settle-clause-changes
-returns-in-Err-settle-clause-changes g c = then_keeps g.B.Board g.met.B.Board.reads 1 1 (then_keeps g.B.Board g.met.B.Board.reads 0 1 c.in-Ok.ensures.changes c.in-Ok-void.ensures.changes) c.in-Err-settle.ensures.changes
+pub returns-in-Err-Worn-clause-worn_copied : goal.returns-in-Err-Worn-clause-worn_copied
+returns-in-Err-Worn-clause-worn_copied g c =
+    let at = c.in-Err-Worn in
+    let worn : (kept : Kept) × FitsCopied g.B.Board c.switch.new.board kept c.switch.new.images × (kept.guard ≡ GUARD_HALFWORDS) × (kept.home ≡ c.args.spilled.home) × (kept.sector_bytes ≡ c.args.spilled.sector_bytes) =
+    rw at.field-0-is at at.ensures.worn_copied in
+    (worn.0, worn.1, worn.2, omega (arith, ap (λ (l : Log). l.end) worn.3, worn.4))

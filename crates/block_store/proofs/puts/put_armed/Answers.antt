@@ -1,5 +1,5 @@
 use Rattle.sector_image.proofs.Keeping.{at_err}
-use Rattle.block_store.specs.Entries.{PutsEntry}
+use Rattle.block_store.specs.Steps.Entries.{PutsEntry}
 use Rattle.block_store.proofs.PutLemmas.{keeps_entry, then_may_put, then_puts}
 use Rattle.block_store.proofs.puts.put_armed.Goals as goal
 

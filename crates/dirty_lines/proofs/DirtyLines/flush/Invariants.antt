@@ -1,4 +1,4 @@
-use Rattle.dirty_lines.specs.Flushing.{HasLeft}
+use Rattle.dirty_lines.specs.Steps.Flushing.{HasLeft}
 use Rattle.dirty_lines.proofs.DirtyLines.flush.Given as goal
 
 abbrev pub invariant-loop-left : goal.invariant-loop-left

@@ -1,4 +1,6 @@
-use Rattle.std.proofs.Common.{◌≡◌, ◌<◌, ◌≤◌, List, [], length, sym, ◌∙◌, ap, subst, lit≤}
+use Rattle.std.proofs.Common.{◌≡◌, ◌<◌, ◌≤◌, List, [], length, sym, ◌∙◌, ap, subst, lit≤, rules}
+use Rattle.flash_traits.specs.declared.board.Fault.TheVariants.{Read}
+use Rattle.block_store.specs.Refusals.{OnOpenFault}
 use Rattle.std.proofs.lemmas.List.Elements.{All-nil}
 use Rattle.circular_buffer.specs.Buffer.{Buffer}
 use Rattle.storage_lines.specs.declared.lines.LineWrite.{LineWrite}
@@ -20,3 +22,12 @@ invariant_of-result g c =
       most = subst (λ (l : List LineWrite). length l ≤ PENDING_LINES) (sym empty) (lit≤ tt);
       inside = subst AreInside (sym empty) (All-nil (λ (w : LineWrite). w.line < LINES));
     }
+
+pub returns-in_err-store-clause-left_alone : goal.returns-in_err-store-clause-left_alone
+returns-in_err-store-clause-left_alone g c = λ told place bad.
+    let is = c.in_err-store.ensures.left_alone told place bad in
+    let read : OnOpenFault c.in_err-store.field-0.0 (λ kind. kind ≡ Read) = is.read in
+    record { moment = is.moment; words = is.words; refused = search rules; read = search rules }
+
+pub returns-clause-left_alone : goal.returns-clause-left_alone
+returns-clause-left_alone g c = λ told place bad. absurd (c.in_ok-store.ensures.left_alone told place bad).refused

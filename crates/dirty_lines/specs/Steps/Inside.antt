@@ -7,7 +7,8 @@ use Rattle.dirty_lines.specs.Lines.{AreInside}
 use Rattle.dirty_lines.specs.declared.DirtyLines.TheInside.{Inside}
 use Rattle.dirty_lines.specs.declared.TheConstants.{PENDING_LINES}
 
--- What is current are the durable bytes with the pending lines applied, and the ring was taken whole.
+-- What is current are the durable bytes with the pending lines applied, and the ring was taken
+-- whole.
 pub record IsCurrent (lines : Inside) : Type 0 where
   pub size : length (durable_of lines.store) ≡ STORAGE_BYTES
   pub current : lines.current.items ≡ after (durable_of lines.store) lines.pending.items

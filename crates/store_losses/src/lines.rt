@@ -1,10 +1,16 @@
+//! Pending lines over boards in memory: what a failing program leaves of an entry, and a full ring.
 ghost use Rattle.std.specs.Prelude.{◌≡◌, ◌+◌, ◌≤◌, length, IfOk, OnOk};
 ghost use Rattle.block_store.specs.Store.{Fits};
+ghost use Rattle.storage_lines.specs.declared.lines.TheConstants.{LINES};
 ghost use Rattle.dirty_lines.specs.Lines.{AreInside};
 
-use super::*;
-use flash_board::{Failed, Fault, MemBoard, Region};
+use block_store::PutError;
+use dirty_lines::{DirtyLines, Full, PENDING_LINES};
+use flash_board::MemBoard;
+use flash_traits::{Board, Failed, Fault, Region};
+use std::alloc::Global;
 use std::test::Fail;
+use storage_lines::{Batch, LineWrite};
 
 // A board with an empty image of 16,384-byte sectors, attached by the call with the number 0.
 fn attached(alloc: Global, fails: &[u32]) -> Result<MemBoard, Fail>
@@ -46,7 +52,7 @@ fn flush(lines: &mut DirtyLines, board: &mut MemBoard, n: usize) -> Result<(), F
 
 // So many adjacent lines from this one on, all of whose bytes are 7.
 fn adjacent(first: u16, count: u16) -> Batch
-    requires inside { first + count ≤ 1920 }
+    requires inside { first + count ≤ LINES }
     requires room { count ≤ 64 }
     ensures inside { AreInside result.items }
     ensures count { length result.items ≡ count }
@@ -61,8 +67,8 @@ fn adjacent(first: u16, count: u16) -> Batch
     batch
 }
 
-// What the opening reads of an empty image of 16,384-byte sectors: the guard row and each sector with the halfword that is
-// met twice, and the four halfwords of the heads.
+// What the opening reads of an empty image of 16,384-byte sectors: the guard row and each sector
+// with the halfword that is met twice, and the four halfwords of the heads.
 const READS: u32 = 8193 + 4 + 8193 + 8192;
 
 #[test]

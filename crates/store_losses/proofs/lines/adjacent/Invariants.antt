@@ -1,6 +1,6 @@
 use Rattle.std.proofs.Common.{◌≡◌, length}
 use Rattle.dirty_lines.specs.Lines.{AreInside}
-use Rattle.dirty_lines.proofs.tests.adjacent.Given as goal
+use Rattle.store_losses.proofs.lines.adjacent.Given as goal
 
 abbrev pub invariant-loop-at : goal.invariant-loop-at
 invariant-loop-at l = record { inside : AreInside l.batch.items; count : length l.batch.items ≡ l.at }

@@ -1,13 +1,17 @@
+//! A store over boards in memory: what an entry looks like, and which sectors a switch leaves.
 ghost use Rattle.std.specs.Prelude.{◌≡◌, ◌<◌, IfOk, OnOk};
 ghost use Rattle.block_store.specs.Store.{Fits};
 
-use super::*;
+use block_store::BlockStore;
 use byteorder::{ByteOrder, LittleEndian};
 use flash_board::MemBoard;
+use flash_traits::{Board, LINES as FLASH_LINES, Region};
+use std::alloc::Global;
 use std::test::Fail;
+use storage_lines::{LINES, LineWrite};
 
-// A board with an image of 16,384-byte sectors and guard count 0: home begins with these halfwords, and the other sector
-// is available.
+// A board with an image of 16,384-byte sectors and guard count 0: home begins with these halfwords,
+// and the other sector is available.
 fn board_with(alloc: Global, home: &[u16]) -> Result<MemBoard, Fail>
     ensures { IfOk result (λ board. ⟦<MemBoard as Board>⟧.sector_bytes board ≡ 16384) }
 {
@@ -59,7 +63,7 @@ fn put_line(
     armed: bool,
 ) -> Result<(), Fail>
     requires fits { Fits ⟦<MemBoard as Board>⟧ board.old store.old }
-    requires line { line < 1920 }
+    requires line { line < LINES }
     ensures size { ⟦<MemBoard as Board>⟧.sector_bytes board.new ≡ ⟦<MemBoard as Board>⟧.sector_bytes board.old }
     ensures fits { OnOk result (Fits ⟦<MemBoard as Board>⟧ board.new store.new) }
 {
@@ -88,7 +92,8 @@ fn heads(alloc: Global, board: &MemBoard) -> Result<[u16; 5], Fail> {
     ])
 }
 
-// The board and the store once line 3 was put into an almost full sector, and line 8 had no room behind it.
+// The board and the store once line 3 was put into an almost full sector, and line 8 had no room
+// behind it.
 fn overfilled(alloc: Global, armed: bool) -> Result<(MemBoard, BlockStore), Fail>
     ensures size { IfOk result (λ both. ⟦<MemBoard as Board>⟧.sector_bytes both.0 ≡ 16384) }
     ensures fits { IfOk result (λ both. Fits ⟦<MemBoard as Board>⟧ both.0 both.1) }
@@ -165,5 +170,11 @@ fn an_armed_store_goes_on_in_the_other_sector(rt: HostRuntime) -> Result<(), Fai
     assert_eq!(rt; heads(alloc, &board)?, [0x5BFF, 0x5BFE, 0, 0, 0xFFFF]);
     assert_eq!(rt; store.room(), 16_384 - 4 - 10 - 66);
     assert_eq!(rt; seams(&store), [1, 3, 1, 8]);
+    Ok(())
+}
+
+#[test]
+fn the_flash_has_the_lines_of_the_storage(rt: HostRuntime) -> Result<(), Fail> {
+    assert_eq!(rt; LINES, FLASH_LINES as usize);
     Ok(())
 }

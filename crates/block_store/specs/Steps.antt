@@ -1,0 +1,3 @@
+-- What the private steps of a store say.
+pub mod Inside
+pub mod Entries
