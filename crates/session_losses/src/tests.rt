@@ -3,7 +3,7 @@ ghost use Rattle.flash_board.specs.Kept.{peers_fit};
 
 use arrayvec::ArrayVec;
 use byteorder::{ByteOrder, LittleEndian};
-use flash_board::{Board, Fault, Feed, MemBoard, SureBoard};
+use flash_board::{Board, DATAGRAM_BYTES, Fault, Feed, MemBoard, SureBoard};
 use mav_frames::{message, whole_frame, write_frame};
 use mav_messages::Message;
 use std::alloc::Global;
@@ -52,7 +52,7 @@ fn asked(message: &Message) -> Result<Feed, Fail>
     datagram(0, write_frame(message, true, 255, 190, 0).as_slice())
 }
 
-// Idle turns behind a feed.
+// Idle turns after a feed.
 fn append_idle(feed: &mut Vec<Feed>, turns: usize) -> Result<(), Fail>
     requires { IsTrue (peers_fit feed.old.items) }
     ensures { OnOk result (IsTrue (peers_fit feed.new.items)) }
@@ -76,8 +76,9 @@ fn attach<B: Board>(board: &mut B) -> Result<(), NodeError>
 fn session<B: Board>(alloc: Global, board: &mut B, events: usize) -> Result<(), NodeError> {
     attach(board)?;
     let mut node = Node::open(alloc, board)?;
+    let mut buffer = [0; DATAGRAM_BYTES];
     'events: for _ in 0..events {
-        node.event(board)?;
+        node.event(board, &mut buffer)?;
     }
     Ok(())
 }
@@ -150,7 +151,7 @@ fn three_sets(alloc: Global) -> Result<Vec<Feed>, Fail>
     Ok(feed)
 }
 
-// The filter and the radius after each first part of the sets. The defaults are 20 and 300 metres.
+// The filter and the radius after each prefix of the sets. The defaults are 20 and 300 metres.
 const AFTER_SETS: [(u32, u32); 4] = [
     (0x41A0_0000, 0x4396_0000),
     (0x41F0_0000, 0x4396_0000),
@@ -209,7 +210,7 @@ fn sets_left(alloc: Global, image: &[u8]) -> Result<usize, Fail> {
 const FIRST_PROGRAM: u32 = 1 + 8193 + 4 + 8193 + 8192;
 
 #[test]
-fn each_failing_call_leaves_a_first_part(rt: HostRuntime) -> Result<(), Fail> {
+fn each_failing_call_leaves_a_prefix(rt: HostRuntime) -> Result<(), Fail> {
     let alloc = rt.alloc();
     let image = formatted_image(alloc)?;
     let feed = three_sets(alloc)?;
@@ -235,7 +236,8 @@ fn each_failing_call_leaves_a_first_part(rt: HostRuntime) -> Result<(), Fail> {
     Err(Fail::from("no session was whole"))
 }
 
-// The index of the value with this number in a list that idle turns go on with, each behind a heartbeat. None for a heartbeat.
+// The index of the value with this number in a list that idle turns go on with, each after a heartbeat. None for
+// a heartbeat.
 fn listed(number: u32) -> Option<u16>
     requires { number < 270 }
 {

@@ -13,13 +13,13 @@ use Rattle.param_service.specs.Service as parameters
 use Rattle.param_service.specs.Replies as showing
 use Rattle.vehicle_core.specs.declared.StationState.{StationState as Inner}
 use Rattle.vehicle_core.specs.Inside.{stations_of}
-use Rattle.vehicle_core.specs.Vehicle.{Vehicle, StationState, Asked, Parameters, Alive, Told, tells_value, is_heard, is_version_two, hears}
-use Rattle.vehicle_core.specs.Acts.{Did, Said, Beat, Stream, did, nothing, by_parameters, asked_of}
+use Rattle.vehicle_core.specs.Vehicle.{Vehicle, StationState, Asked, Parameters, Alive, Told, tells_value, is_heard, speaks_v2, hears}
+use Rattle.vehicle_core.specs.Acts.{Did, Heard, heard_as, Said, Beat, Stream, did, nothing, by_parameters, asked_of}
 use Rattle.vehicle_core.specs.Replies.{AreRepliesOf}
 
 -- a station inside, as it is seen
 abbrev seen : Inner → StationState
-seen s = record { heard = s.heard; version_two = s.version_two }
+seen s = record { heard = s.heard; v2 = s.v2 }
 
 pub stations-set : (inner : List Inner) (i : ℕ) (s : Inner) → stations_of (slice_set inner i s) ≡ slice_set (stations_of inner) i (seen s)
 stations-set inner i s = map-set seen inner i s
@@ -31,8 +31,8 @@ module _ (inner : List Inner) (next_rows : List ℕ) (vehicle : Vehicle) (i : �
   pub heard_is : (get_or inner i d).heard ≡ is_heard vehicle i
   heard_is = sym (ap (λ (v : Vehicle). is_heard v i) (sym view) ∙ ap (λ (o : Option StationState). option_map_or (λ s. s.heard) o false) (seen_at inner i d less))
 
-  pub version_two_is : (get_or inner i d).version_two ≡ is_version_two vehicle i
-  version_two_is = sym (ap (λ (v : Vehicle). is_version_two v i) (sym view) ∙ ap (λ (o : Option StationState). option_map_or (λ s. s.version_two) o false) (seen_at inner i d less))
+  pub v2_is : (get_or inner i d).v2 ≡ speaks_v2 vehicle i
+  v2_is = sym (ap (λ (v : Vehicle). speaks_v2 v i) (sym view) ∙ ap (λ (o : Option StationState). option_map_or (λ s. s.v2) o false) (seen_at inner i d less))
 
 pub all_told : (shown : List Shown) (replies : List Reply) → showing.AreRepliesOf shown replies → AreRepliesOf (map tells_value shown) replies
 all_told [] [] h = h
@@ -44,9 +44,9 @@ asked_is : (bytes : List ℕ) (vehicle : Vehicle) (station : ℕ) (request : Opt
 asked_is bytes vehicle station None = refl
 asked_is bytes vehicle station (Some request) = refl
 
-did-said : (bytes : List ℕ) (vehicle : Vehicle) (station : ℕ) (version_two : Bool) (asked : Option Asked) → did bytes vehicle (Said station version_two asked) ≡ asked_of bytes (hears vehicle station version_two) station asked
+did-said : (bytes : List ℕ) (vehicle : Vehicle) (station : ℕ) (v2 : Bool) (asked : Option Asked) → did bytes vehicle (Said station (heard_as v2 asked)) ≡ asked_of bytes (hears vehicle station v2) station asked
 unfolding did
-did-said bytes vehicle station version_two asked = refl
+did-said bytes vehicle station v2 asked = refl
 
 did-stream : (bytes : List ℕ) (vehicle : Vehicle) (station : ℕ) → is_heard vehicle station ≡ true → did bytes vehicle (Stream station) ≡ by_parameters vehicle (parameters.streamed bytes vehicle.next_rows station)
 unfolding did
@@ -83,16 +83,16 @@ follows d vehicle p next_rows writes replies e next written shown =
       told = subst (λ (x : Did). AreRepliesOf x.told replies) (sym e) (all_told p.shown replies shown);
     }
 
-pub said : (bytes : List ℕ) (inner : List Inner) (old next_rows : List ℕ) (vehicle : Vehicle) (station : ℕ) (version_two : Bool) (request : Option Request) (writes : List LineWrite) (replies : List Reply) →
+pub said : (bytes : List ℕ) (inner : List Inner) (old next_rows : List ℕ) (vehicle : Vehicle) (station : ℕ) (v2 : Bool) (request : Option Request) (writes : List LineWrite) (replies : List Reply) →
     record { stations = stations_of inner; next_rows = old } ≡ vehicle → next_rows ≡ (parameters.did bytes old station request).next_rows → writes ≡ (parameters.did bytes old station request).writes → showing.AreRepliesOf (parameters.did bytes old station request).shown replies →
-    Follows (did bytes vehicle (Said station version_two (option_map Parameters request))) (stations_of (slice_set inner station (record { heard = true; version_two = version_two }))) next_rows writes replies
-said bytes inner old next_rows vehicle station version_two request writes replies view next written shown =
-    let marked : Inner = record { heard = true; version_two = version_two } in
+    Follows (did bytes vehicle (Said station (heard_as v2 (option_map Parameters request)))) (stations_of (slice_set inner station (record { heard = true; v2 = v2 }))) next_rows writes replies
+said bytes inner old next_rows vehicle station v2 request writes replies view next written shown =
+    let marked : Inner = record { heard = true; v2 = v2 } in
     let heard : Vehicle = record { stations = stations_of (slice_set inner station marked); next_rows = old } in
-    let hears_is : hears vehicle station version_two ≡ heard =
-    ap (λ (v : Vehicle). hears v station version_two) (sym view)
+    let hears_is : hears vehicle station v2 ≡ heard =
+    ap (λ (v : Vehicle). hears v station v2) (sym view)
     ∙ ap (λ (s : List StationState). let v : Vehicle = record { stations = s; next_rows = old } in v) (sym (stations-set inner station marked)) in
-    let e = did-said bytes vehicle station version_two (option_map Parameters request) ∙ ap (λ (v : Vehicle). asked_of bytes v station (option_map Parameters request)) hears_is ∙ asked_is bytes heard station request in
+    let e = did-said bytes vehicle station v2 (option_map Parameters request) ∙ ap (λ (v : Vehicle). asked_of bytes v station (option_map Parameters request)) hears_is ∙ asked_is bytes heard station request in
     follows _ heard (parameters.did bytes old station request) next_rows writes replies e next written shown
 
 pub streams : (bytes : List ℕ) (inner : List Inner) (old next_rows : List ℕ) (vehicle : Vehicle) (station : ℕ) (replies : List Reply) → record { stations = stations_of inner; next_rows = old } ≡ vehicle → is_heard vehicle station ≡ true →
@@ -101,3 +101,11 @@ streams bytes inner old next_rows vehicle station replies view heard next shown 
     let inside : Vehicle = record { stations = stations_of inner; next_rows = old } in
     let e = ap (λ (v : Vehicle). did bytes v (Stream station)) (sym view) ∙ did-stream bytes inside station (ap (λ (v : Vehicle). is_heard v station) view ∙ heard) in
     follows _ inside (parameters.streamed bytes old station) next_rows [] replies e next refl shown
+
+-- a station that was heard, to which no list goes
+pub no_list : (bytes : List ℕ) (inner : List Inner) (old : List ℕ) (vehicle : Vehicle) (station : ℕ) → record { stations = stations_of inner; next_rows = old } ≡ vehicle → is_heard vehicle station ≡ true →
+    parameters.streamed bytes old station ≡ record { next_rows = old; writes = []; shown = [] } → did bytes vehicle (Stream station) ≡ nothing vehicle
+no_list bytes inner old vehicle station view heard none =
+    let inside : Vehicle = record { stations = stations_of inner; next_rows = old } in
+    subst (λ (v : Vehicle). did bytes v (Stream station) ≡ nothing v) view
+    (did-stream bytes inside station (ap (λ (v : Vehicle). is_heard v station) view ∙ heard) ∙ ap (by_parameters inside) none)

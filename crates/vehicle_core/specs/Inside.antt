@@ -4,4 +4,4 @@ use Rattle.vehicle_core.specs.declared.StationState.{StationState as Inner}
 use Rattle.vehicle_core.specs.Vehicle.{StationState}
 
 abbrev pub stations_of : List Inner → List StationState
-stations_of stations = map (λ s. record { heard = s.heard; version_two = s.version_two }) stations
+stations_of stations = map (λ s. record { heard = s.heard; v2 = s.v2 }) stations

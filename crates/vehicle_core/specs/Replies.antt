@@ -5,10 +5,12 @@ use Rattle.param_service.specs.Replies.{ShowsValue}
 use Rattle.mav_messages.specs.declared.messages.Message.{Message}
 use Rattle.mav_messages.specs.declared.messages.Message.TheVariants.{Heartbeat}
 use Rattle.mav_messages.specs.declared.messages.Reply.{Reply}
-use Rattle.vehicle_core.specs.Vehicle.{Content, Parameter, Alive, Told}
+use Rattle.storage_lines.specs.declared.lines.LineWrite.{LineWrite}
+use Rattle.vehicle_core.specs.Vehicle.{Vehicle, Content, Parameter, Alive, Told}
+use Rattle.vehicle_core.specs.Acts.{Did}
 
--- The message says this: a PARAM_VALUE; or the HEARTBEAT of a quadrotor (type 2) with ArduPilot (3), not armed (base mode
--- 1, system status 3), in MAVLink version 3.
+-- The message says this: a PARAM_VALUE; or the HEARTBEAT of a quadrotor (type 2) with ArduPilot
+-- (3), not armed (base mode 1, system status 3), in MAVLink version 3.
 abbrev pub Tells : Content → Message → Type 0
 Tells (Parameter index value) message = ShowsValue index value message
 Tells Alive message = message ≡ Heartbeat 0 2 3 1 3 3
@@ -20,3 +22,11 @@ IsReplyOf told reply = (reply.to ≡ told.to) × Tells told.content reply.messag
 -- the replies say this, in order
 abbrev pub AreRepliesOf : List Told → List Reply → Type 0
 AreRepliesOf told replies = AllZip IsReplyOf told replies
+
+-- An act was done so: this is the state after it, these lines are to issue, and these replies to
+-- send.
+pub record IsAnswered (d : Did) (vehicle : Vehicle) (writes : List LineWrite) (replies : List Reply)
+    : Type 0 where
+  pub state : vehicle ≡ d.vehicle
+  pub lines : writes ≡ d.writes
+  pub told : AreRepliesOf d.told replies

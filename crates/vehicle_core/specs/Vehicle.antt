@@ -11,10 +11,10 @@ use Rattle.mav_messages.specs.declared.messages.Message.{Message}
 -- whether the station was heard, and whether its last right frame was of version 2
 pub record StationState : Type 0 where
   pub heard : Bool
-  pub version_two : Bool
+  pub v2 : Bool
 
 abbrev pub unheard : StationState
-unheard = record { heard = false; version_two = false }
+unheard = record { heard = false; v2 = false }
 
 -- eight stations, and for each the next row of the list that is being sent to it
 pub record Vehicle : Type 0 where
@@ -28,12 +28,14 @@ new_vehicle = record { stations = replicate 8 unheard; next_rows = no_lists }
 abbrev pub is_heard : Vehicle → ℕ → Bool
 is_heard vehicle station = option_map_or (λ s. s.heard) (slice_get vehicle.stations station) false
 
-abbrev pub is_version_two : Vehicle → ℕ → Bool
-is_version_two vehicle station = option_map_or (λ s. s.version_two) (slice_get vehicle.stations station) false
+abbrev pub speaks_v2 : Vehicle → ℕ → Bool
+speaks_v2 vehicle station = option_map_or (λ s. s.v2) (slice_get vehicle.stations station) false
 
 -- the station sent a right frame of this version
 abbrev pub hears : Vehicle → ℕ → Bool → Vehicle
-hears vehicle station version_two = record vehicle { stations = slice_set vehicle.stations station (record { heard = true; version_two = version_two }) }
+hears vehicle station v2 = record vehicle {
+  stations = slice_set vehicle.stations station (record { heard = true; v2 = v2 });
+}
 
 -- What a message asks of the vehicle. The requests of each protocol are a case.
 pub data Asked : Type 0 where
@@ -41,7 +43,8 @@ pub data Asked : Type 0 where
 
 -- what the message asks for, or nothing
 abbrev pub Asks : Message → Option Asked → Type 0
-Asks message asked = (request : Option parameters.Request) × parameters.Asks message request × (asked ≡ option_map Parameters request)
+Asks message asked = (request : Option parameters.Request) × parameters.Asks message request
+    × (asked ≡ option_map Parameters request)
 
 -- what the vehicle tells: a parameter's value, or that it is there
 pub data Content : Type 0 where

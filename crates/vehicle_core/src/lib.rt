@@ -1,13 +1,14 @@
-//! The vehicle machine without its storage and its link: one message, one idle turn, one stretch of a list.
+//! The vehicle machine without its storage and its link: one message, one idle turn, one stretch of
+//! a list.
 #![tactic(auto)]
 
-ghost use Rattle.std.specs.Prelude.{◌≡◌, ◌<◌, ◌≤◌, [], All, length, take, ℕ, Option};
+ghost use Rattle.std.specs.Prelude.{◌≡◌, ◌<◌, ◌≤◌, [], All, length, take, List, ℕ, Option, IsFalse};
 ghost use Rattle.storage_lines.specs.declared.lines.TheConstants.{STORAGE_BYTES, LINES};
 ghost use Rattle.storage_lines.specs.Lines.{after};
 ghost use Rattle.param_records.specs.Steps.{HasMagic};
-ghost use Rattle.vehicle_core.specs.Vehicle.{Asked, Asks, Alive, new_vehicle, is_heard, is_version_two};
-ghost use Rattle.vehicle_core.specs.Acts.{Said, Beat, Stream, did};
-ghost use Rattle.vehicle_core.specs.Replies.{AreRepliesOf, Tells};
+ghost use Rattle.vehicle_core.specs.Vehicle.{Asked, Asks, Alive, new_vehicle, is_heard, speaks_v2};
+ghost use Rattle.vehicle_core.specs.Acts.{Said, Beat, Stream, heard_as, nothing, did};
+ghost use Rattle.vehicle_core.specs.Replies.{AreRepliesOf, IsAnswered, Tells};
 
 mod laws;
 
@@ -21,7 +22,7 @@ use storage_lines::Batch;
 #[derive(Clone, Copy, Debug, PartialEq, Eq)]
 struct StationState {
     heard: bool,
-    version_two: bool,
+    v2: bool,
 }
 
 /// The vehicle's state: its eight stations, and the lists that are being sent.
@@ -43,8 +44,9 @@ impl Model for Core {
     ghost invariant = { λ core. length core.stations ≡ 8 };
 }
 
-/// The vehicle's HEARTBEAT, with numbers of MAVLink's common message set: a quadrotor (MAV_TYPE 2) with ArduPilot
-/// (MAV_AUTOPILOT 3), not armed (MAV_MODE_FLAG 1, MAV_STATE 3), in version 3 of the protocol.
+/// The vehicle's HEARTBEAT, with numbers of MAVLink's common message set: a quadrotor (MAV_TYPE 2)
+/// with ArduPilot (MAV_AUTOPILOT 3), not armed (MAV_MODE_FLAG 1, MAV_STATE 3), in version 3 of the
+/// protocol.
 fn heartbeat() -> Message
     ensures { Tells Alive result }
 {
@@ -65,7 +67,7 @@ impl Core {
     {
         let unheard = StationState {
             heard: false,
-            version_two: false,
+            v2: false,
         };
         Core {
             stations: [unheard; 8],
@@ -73,13 +75,13 @@ impl Core {
         }
     }
 
-    /// Answers the message of a right frame, over the current storage bytes: the lines to issue, and the replies to send
-    /// behind them.
+    /// Answers the message of a right frame, over the current storage bytes: the lines to issue,
+    /// and the replies to send after them.
     pub fn message(
         &mut self,
         current: &[u8],
         from: Sender,
-        version_two: bool,
+        v2: bool,
         message: &Message,
         batch: &mut Batch,
         replies: &mut Replies,
@@ -88,18 +90,15 @@ impl Core {
         requires station { from.station < 8 }
         requires batch { batch.old.items ≡ [] }
         requires replies { replies.old.items ≡ [] }
-        ensures answered { (asked : Option Asked) × Asks message.now asked
-            × (self.new ≡ (did current.now self.old (Said from.station version_two asked)).vehicle)
-            × (batch.new.items ≡ (did current.now self.old (Said from.station version_two asked)).writes)
-            × AreRepliesOf (did current.now self.old (Said from.station version_two asked)).told replies.new.items }
+        ensures answered { (asked : Option Asked) × Asks message.now asked × IsAnswered
+            (did current.now self.old (Said from.station (heard_as v2 asked)))
+            self.new batch.new.items replies.new.items }
         ensures inside { All (λ write. write.line < LINES) batch.new.items }
         ensures few { length batch.new.items ≤ 8 }
-        ensures magic { HasMagic current.now → (j : ℕ) → HasMagic (after current.now (take j batch.new.items)) }
+        ensures magic { HasMagic current.now → (j : ℕ) →
+            HasMagic (after current.now (take j batch.new.items)) }
     {
-        self.stations[from.station as usize] = StationState {
-            heard: true,
-            version_two,
-        };
+        self.stations[from.station as usize] = StationState { heard: true, v2 };
         answer(&mut self.parameters, current, from, message, batch, replies);
     }
 
@@ -124,12 +123,26 @@ impl Core {
         requires station { station < 8 }
         requires replies { replies.old.items ≡ [] }
         ensures next { self.new ≡ (did current.now self.old (Stream station)).vehicle }
-        ensures told { AreRepliesOf (did current.now self.old (Stream station)).told replies.new.items }
+        ensures told { AreRepliesOf (did current.now self.old
+            (Stream station)).told replies.new.items }
     {
         if !self.heard(station) {
             return;
         }
         stream(&mut self.parameters, current, station, replies);
+    }
+
+    /// Whether a list goes to the station: it was heard, and values of its list are left.
+    pub fn streams(&self, station: u8) -> bool
+        requires { station < 8 }
+        ensures { IsFalse result → (bytes : List ℕ) →
+            did bytes self.now (Stream station) ≡ nothing self.now }
+    {
+        let heard = self.heard(station);
+        if !heard {
+            return false;
+        }
+        self.parameters.streams(station)
     }
 
     /// Whether a right frame came from the station.
@@ -143,9 +156,9 @@ impl Core {
     /// Whether the station's last right frame was of version 2.
     pub fn version_two(&self, station: u8) -> bool
         requires { station < 8 }
-        ensures { result ≡ is_version_two self.now station }
+        ensures { result ≡ speaks_v2 self.now station }
     {
-        self.stations[station as usize].version_two
+        self.stations[station as usize].v2
     }
 }
 

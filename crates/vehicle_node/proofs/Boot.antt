@@ -1,14 +1,17 @@
--- The opening: the image recovered, and the lines of boot put.
-use Rattle.std.proofs.Common.{◌≡◌, ◌≢◌, inl, ℕ, zero, suc, ◌-◌, ◌^◌, ◌<◌, ◌≤◌, min, Bool, true, false, cond, List, [], ◌∷◌, ◌++◌, length, take, refl, sym, ◌∙◌, ap, subst, arith, append-nil, Result, Ok, Err}
-use Rattle.std.specs.Prelude.{◌↔◌, ⊤, All, OnOk, IsTrue}
+-- A node opened: the lines of boot are issued and put; and closed: all pending lines are put.
+use Rattle.std.proofs.Common.{◌≡◌, ◌≢◌, inl, ℕ, zero, suc, ◌+◌, ◌*◌, ◌-◌, ◌^◌, ◌<◌, ◌≤◌, min, Bool, true, false, cond, List, [], ◌∷◌, ◌++◌, length, take, refl, sym, ◌∙◌, ap, subst, arith, append-nil, Result, Ok, Err}
+use Rattle.std.specs.Prelude.{◌↔◌, ⊤, All, OnOk, IfErr, IsTrue, if◌then◌else◌}
 use Rattle.std.specs.Str.{bytes_eq}
 use Rattle.std.proofs.lemmas.List.Elements.{All-nil, All-cons, All-append, All-weaker}
 use Rattle.std.proofs.lemmas.Slice.Eq.{bytes_eq-Decides}
 use Rattle.flash_traits.specs.Words.{Words}
 use Rattle.flash_traits.specs.declared.board.Board.{Ghosts}
+use Rattle.flash_traits.specs.declared.board.Fault.{Fault}
 use Rattle.flash_traits.specs.Calls.{Passes, Changes}
 use Rattle.flash_traits.specs.Losses.{SentFrame, Outcome, After, OnWords}
 use Rattle.flash_traits.proofs.Moments.{weaker, elapses_of}
+use Rattle.guard_row.specs.Row.{IsGuardRow}
+use Rattle.guard_row.proofs.RowLaws.{one_count}
 use Rattle.storage_lines.specs.declared.areas.Area.TheVariants.{Param}
 use Rattle.storage_lines.specs.declared.lines.LineWrite.{LineWrite}
 use Rattle.storage_lines.specs.declared.lines.TheConstants.{LINES}
@@ -25,22 +28,29 @@ use Rattle.sector_image.proofs.ImageLaws.{one_value}
 use Rattle.sector_image.specs.FirstBad.{Place}
 use Rattle.block_store.specs.declared.OpenError.{OpenError}
 use Rattle.block_store.specs.declared.OpenError.TheVariants as open_error
-use Rattle.block_store.specs.Refusals.{OnOpenForeign, OnOpenWorn}
-use Rattle.block_store.specs.Store.{Store, durable_of}
+use Rattle.block_store.specs.Refusals.{OnOpenFault, OnOpenForeign, OnOpenWorn}
+use Rattle.block_store.specs.Store.{Store, State, Alone, Spilled, Spent, in_one_sector, in_both_sectors, durable_of, guard_in, guard_of, guard_ahead, is_alone}
+use Rattle.block_store.specs.Store as store
 use Rattle.dirty_lines.specs.Lines.{Lines, lines_of, current_of, AreInside}
 use Rattle.vehicle_node.specs.declared.NodeError.{NodeError}
 use Rattle.vehicle_node.specs.declared.NodeError.TheVariants as node_error
-use Rattle.vehicle_node.specs.Refusals.{OnForeign, OnWorn}
+use Rattle.vehicle_node.specs.Refusals.{OnFault, OnForeign, OnWorn}
 use Rattle.vehicle_node.specs.Reading.{no_rests}
-use Rattle.vehicle_node.specs.Runs.{Run, boot, run_of}
+use Rattle.vehicle_node.specs.Runs.{Run, format_step, boot, run_of}
+use Rattle.vehicle_node.specs.Guard.{CountsUpTo, RisesWithin}
 use Rattle.vehicle_node.specs.Safe.{Safe, SafeSince, Adds}
-use Rattle.vehicle_node.specs.Standing.{Node, Fits, StandsAt, StandsForRun, counts}
-use Rattle.vehicle_node.specs.Answering.{Flushed, Flushing, FlushDone}
-use Rattle.vehicle_node.specs.Opening.{error_of, IsBooted}
+use Rattle.vehicle_node.specs.Standing.{Node, Fits, IsAlone, StandsAt, StandsForRun, StaysWithin, counts, ceiling, raised_in}
+use Rattle.vehicle_node.specs.Steps.Calls.{HasSent}
+use Rattle.vehicle_node.specs.Steps.Answering.{Flushed, Flushing, FlushedAll, FlushDone}
+use Rattle.vehicle_node.specs.Steps.Opening.{error_of, IsBooted}
 use Rattle.vehicle_node.proofs.RunLaws.{run_of_none, safe_by}
 use Rattle.vehicle_node.proofs.At.{current_is}
-use Rattle.vehicle_node.proofs.Passing.{going_on}
-use Rattle.vehicle_node.proofs.Parts.{stands_durable}
+use Rattle.vehicle_node.proofs.ActAnswers.{counts_more}
+use Rattle.vehicle_node.proofs.Events.{since_put, rises_still}
+use Rattle.vehicle_node.proofs.Finishing.{Leaves}
+use Rattle.block_store.proofs.StoreLaws.{fits_stands, fits_guard}
+use Rattle.vehicle_node.proofs.Putting.{nothing_sent}
+use Rattle.vehicle_node.proofs.Passing.{at_ok, going_on}
 
 -- the lines of a change are lines of the storage
 line_inside : (n : ℕ) (differs : Bool) (bytes : List ℕ) → All (λ (w : LineWrite). w.line < suc n) (cond differs [] (record { line = n; bytes = bytes } ∷ []))
@@ -77,6 +87,7 @@ unfolding boot
 boot_is due b is =
     let same = bytes_eq-Decides (take 4 (logical_of Param b)) magic in
     boot_cases due (bytes_eq (take 4 (logical_of Param b)) magic) (take 4 (logical_of Param b)) (writes_of b formatting) is same.0 same.1
+    ∙ sym (append-nil (format_step b))
 
 pub batch_is : (due : Bool) (b now : List ℕ) (old items : List LineWrite) → old ≡ [] → now ≡ b → (IsTrue due ↔ (take 4 (logical_of Param now) ≢ magic)) → items ≡ old ++ cond due (writes_of (after now old) formatting) [] → items ≡ boot b
 batch_is due b now old items none same is are =
@@ -107,10 +118,19 @@ on_foreign (open_error.Worn count) P p = tt
 pub foreign_at : (e : OpenError) (error : NodeError) (P : Place → Type 0) → error ≡ error_of e → OnOpenForeign e P → OnForeign error P
 foreign_at e error P is p = subst (λ (n : NodeError). OnForeign n P) (sym is) (on_foreign e P p)
 
--- some lines of boot are put
+pub fault_at : (e : OpenError) (error : NodeError) (P : Fault → Type 0) → error ≡ error_of e → OnOpenFault e P → OnFault error P
+fault_at e error P is p = subst (λ (n : NodeError). OnFault n P) (sym is) (on_fault e P p)
+  where
+    on_fault : (e : OpenError) (P : Fault → Type 0) → OnOpenFault e P → OnFault (error_of e) P
+    on_fault open_error.Memory P p = tt
+    on_fault (open_error.Fault kind) P p = p
+    on_fault (open_error.Foreign region offset word) P p = tt
+    on_fault (open_error.Worn count) P p = tt
+
+-- a prefix of the lines of boot is put
 safe_boot : (b : List ℕ) (put rest : List LineWrite) (words : Words) → put ++ rest ≡ boot b → Stands words (after b put) → Safe b [] [] 0 words
 safe_boot b put rest words split stands = record {
-  parts = [];
+  acts = [];
   rests = no_rests;
   reads = (refl, refl);
   count = inl refl;
@@ -128,28 +148,41 @@ since_boot b put rest from o split stands events frames = record {
 }
 
 -- all lines of boot are put
-pub stands_booted : (lines : Lines) (node last : Node) → IsBooted lines node → Flushed (length node.lines.pending) node last → last.lines.pending ≡ [] → StandsForRun last (durable_of lines.store) [] [] 0
+pub all_put : (lines : Lines) (node last : Node) → IsBooted lines node → (w : Flushed (length node.lines.pending) node last) → last.lines.pending ≡ [] → w.put ≡ boot (durable_of lines.store)
+all_put lines node last booted w none = sym (append-nil w.put) ∙ ap (λ (l : List LineWrite). w.put ++ l) (sym none) ∙ w.split ∙ ap (λ (l : Lines). l.pending) booted.lines_are
+
+abbrev pub stands_booted : (lines : Lines) (node last : Node) → IsBooted lines node → Flushed (length node.lines.pending) node last → last.lines.pending ≡ [] → StandsForRun last (durable_of lines.store) [] [] 0
 stands_booted lines node last booted w none = record {
-  parts = [];
+  acts = [];
   reads = (refl, w.rests ∙ booted.rests);
   finished = refl;
-  at = subst (λ (r : Run). StandsAt last b r []) (sym (run_of_none b)) (record {
+  at = subst (λ (r : Run). StandsAt last (durable_of lines.store) r []) (sym (run_of_none (durable_of lines.store))) (record {
     machine = w.machine ∙ booted.machine;
     sent = tt;
-    put = boot b;
-    split = ap (λ (l : List LineWrite). boot b ++ l) none ∙ append-nil (boot b);
-    durable = w.durable ∙ ap (λ (l : Lines). after (durable_of l.store) w.put) booted.lines_are ∙ ap (after b) all;
+    put = boot (durable_of lines.store);
+    split = ap (λ (l : List LineWrite). boot (durable_of lines.store) ++ l) none ∙ append-nil (boot (durable_of lines.store));
+    durable = w.durable ∙ ap (λ (l : Lines). after (durable_of l.store) w.put) booted.lines_are ∙ ap (after (durable_of lines.store)) (all_put lines node last booted w none);
     enough = omega arith;
     frame_count = w.frame_count ∙ booted.frames;
     line_count = w.line_count ∙ booted.issued;
   });
 }
-  where
-    b : List ℕ
-    b = durable_of lines.store
 
-    all : w.put ≡ boot (durable_of lines.store)
-    all = sym (append-nil w.put) ∙ ap (λ (l : List LineWrite). w.put ++ l) (sym none) ∙ w.split ∙ ap (λ (l : Lines). l.pending) booted.lines_are
+-- what a loss leaves before anything was received
+rises_boot : (count : ℕ) (b : List ℕ) (from o : Outcome) (n : ℕ) → n ≤ count + 2 + 2 * length (boot b) → o.events ≡ from.events → CountsUpTo n o.words.guard → RisesWithin count b [] from o
+rises_boot count b from o n le events guard = record {
+  added_events = [];
+  events_are = events ∙ sym (append-nil from.events);
+  acts = [];
+  rests = no_rests;
+  reads = (refl, refl);
+  guard = subst (λ (r : Run). CountsUpTo (raised_in count r) o.words.guard) (sym (run_of_none b)) (counts_more n (count + 2 + 2 * length (boot b)) o.words.guard le guard);
+}
+
+guard_alone : (state : State) → IsTrue (in_one_sector state) → guard_in state + (if in_both_sectors state then 2 else 0) ≡ guard_in state
+guard_alone (Alone kept) is = omega arith
+guard_alone (Spilled kept) is = cc
+guard_alone Spent is = cc
 
 module _ {B : Type 0} (g : Ghosts B) (reads : (b : B) (o : Outcome) → g.now b o → g.tells b × (o.words ≡ g.words b)) (old mid : B) (changes : Changes g old mid (KeepsBytes 2) (KeepsBytes 2))
     (b : List ℕ) (told : g.tells old → Stands (g.words old) b) where
@@ -163,9 +196,7 @@ module _ {B : Type 0} (g : Ghosts B) (reads : (b : B) (o : Outcome) → g.now b 
           since_boot b [] (boot b) s o refl (x.words.bytes b (subst (λ (w : Words). Stands w b) (sym tell.1) (told tell.0))) x.events x.frames
 
   open_here : (o : Outcome) → g.now mid o → After (g.now old) (Adds [] []) o
-  open_here o is =
-      let s = changes.here o is in
-      record { from = s.from; was = s.was; steps = record { events_are = s.steps.events ∙ sym (append-nil s.from.events); frames_are = s.steps.frames ∙ sym (append-nil s.from.frames) } }
+  open_here = (nothing_sent g changes).here
 
   module _ (lines : Lines) (stands : g.tells mid → Stands (g.words old) (durable_of lines.store)) where
     pub same_bytes : g.tells mid → durable_of lines.store ≡ b
@@ -175,8 +206,8 @@ module _ {B : Type 0} (g : Ghosts B) (reads : (b : B) (o : Outcome) → g.now b 
     pub boot_losses : (node : Node) → IsBooted lines node → (n : ℕ) (result : Result ⊤ NodeError) (last : Node) (new : B) → FlushDone g n node mid result last new → Passes g old new (SafeSince b [] [] 0) (SafeSince b [] [] 0)
     boot_losses node booted n result last new f = going_on g (SafeSince b [] [] 0) [] [] open_losses open_here f.losses put
       where
-        put : (s m o : Outcome) → g.now mid m → Adds [] [] s m → Flushing node m o → SafeSince b [] [] 0 s o
-        put s m o is adds x =
+        put : (s m o : Outcome) → g.now old s → g.now mid m → Adds [] [] s m → Flushing node m o → SafeSince b [] [] 0 s o
+        put s m o was is adds x =
             let same = same_bytes (reads mid m is).0 in
             since_boot b x.put x.rest s o
             (x.split ∙ ap (λ (l : Lines). l.pending) booted.lines_are ∙ ap boot same)
@@ -184,17 +215,67 @@ module _ {B : Type 0} (g : Ghosts B) (reads : (b : B) (o : Outcome) → g.now b 
             (x.events ∙ adds.events_are ∙ append-nil s.events)
             (x.frames ∙ adds.frames_are ∙ append-nil s.frames)
 
+-- the guard count at an opening
+module _ {B : Type 0} (g : Ghosts B) (reads : (b : B) (o : Outcome) → g.now b o → g.tells b × (o.words ≡ g.words b)) (old mid : B) (changes : Changes g old mid (KeepsBytes 2) (KeepsBytes 2))
+    (count : ℕ) (b : List ℕ) (told : g.tells old → IsGuardRow (g.words old).guard count × Stands (g.words old) b) where
+  raised_by_two : (u w : Words) → IsGuardRow u.guard count → KeepsBytes 2 u w → CountsUpTo (count + 2) w.guard
+  raised_by_two u w row keeps = let x = keeps.guard count row in (x.0, x.1, x.3)
+
+  pub open_rises : Passes g old mid (RisesWithin count b []) (RisesWithin count b [])
+  open_rises = weaker (RisesWithin count b []) (RisesWithin count b []) (elapses_of g changes) kept kept
+    where
+      kept : (s o : Outcome) → g.now old s → OnWords (KeepsBytes 2) s o → RisesWithin count b [] s o
+      kept s o is x =
+          let tell = reads old s is in
+          rises_boot count b s o (count + 2) (omega arith) x.events
+          (raised_by_two s.words o.words (subst (λ (w : Words). IsGuardRow w.guard count) (sym tell.1) (told tell.0).0) x.words)
+
+  module _ (lines : Lines) (fits : store.Fits g mid lines.store) (alone : IsTrue (is_alone lines.store)) (stands : g.tells mid → Stands (g.words old) (durable_of lines.store)) (node : Node) (booted : IsBooted lines node) where
+    -- what the lines of boot may raise it to
+    pub boot_ceiling : g.tells mid → ceiling node ≤ count + 2 + 2 * length (boot b)
+    boot_ceiling tells =
+        let start = told (changes.told tells) in
+        let risen = raised_by_two (g.words old) (g.words mid) start.0 (changes.content tells) in
+        let now : guard_of lines.store ≡ risen.0 = one_count (g.words mid).guard (guard_of lines.store) risen.0 (fits_guard g mid lines.store fits tells) risen.1 in
+        let ahead : guard_ahead lines.store ≡ guard_of lines.store = guard_alone lines.store.state alone in
+        let same : durable_of lines.store ≡ b = one_value (g.words old) (durable_of lines.store) b (stands tells) start.1 in
+        subst (λ (l : Lines). guard_ahead l.store + 2 * length l.pending ≤ count + 2 + 2 * length (boot b)) (sym booted.lines_are)
+        (omega (arith, risen.2, now, ahead, ap (λ (l : List ℕ). length (boot l)) same))
+
+    pub boot_rises : (n : ℕ) (result : Result ⊤ NodeError) (last : Node) (new : B) → FlushDone g n node mid result last new → Passes g old new (RisesWithin count b []) (RisesWithin count b [])
+    boot_rises n result last new f =
+        going_on g (RisesWithin count b []) [] [] open_rises (nothing_sent g changes).here f.losses
+        (λ s m o was is adds x. rises_boot count b s o (ceiling node) (boot_ceiling (reads mid m is).0) (x.events ∙ adds.events_are ∙ append-nil s.events) x.guard)
+
+    pub boot_within : (last : Node) → Flushed (length node.lines.pending) node last → last.lines.pending ≡ [] → g.tells mid → StaysWithin count last b [] [] 0
+    boot_within last w none tells =
+        let same : durable_of lines.store ≡ b = one_value (g.words old) (durable_of lines.store) b (stands tells) (told (changes.told tells)).1 in
+        subst (λ (l : List ℕ). StaysWithin count last l [] [] 0) same (record {
+          run = stands_booted lines node last booted w none;
+          ahead = subst (λ (r : Run). ceiling last ≤ raised_in count r) (sym (run_of_none (durable_of lines.store)))
+              (omega (arith, w.ahead, boot_ceiling tells, ap (λ (l : List ℕ). length (boot l)) same));
+        })
+
 -- all pending lines are put
 pub closed : {B : Type 0} (g : Ghosts B) (node last : Node) (new : B) → Flushed (length node.lines.pending) node last → last.lines.pending ≡ [] → Fits g new last → g.tells new
     → (b : List ℕ) (r : Run) (sent : List SentFrame) → StandsAt node b r sent → Stands (g.words new) (after b r.issued)
 closed g node last new w none fits tells b r sent at =
-    let all : w.put ≡ node.lines.pending = sym (append-nil w.put) ∙ ap (λ (l : List LineWrite). w.put ++ l) (sym none) ∙ w.split in
-    subst (Stands (g.words new)) (w.durable ∙ ap (after (durable_of node.lines.store)) all ∙ current_is node b r sent at) (stands_durable g new last fits tells)
+    let whole : w.put ≡ node.lines.pending = sym (append-nil w.put) ∙ ap (λ (l : List LineWrite). w.put ++ l) (sym none) ∙ w.split in
+    subst (Stands (g.words new)) (w.durable ∙ ap (after (durable_of node.lines.store)) whole ∙ current_is node b r sent at) (fits_stands g new last.lines.store fits.store tells)
 
-pub closed_at : {B : Type 0} (g : Ghosts B) (result : Result ⊤ NodeError) (node last : Node) (new : B) → OnOk result (Flushed (length node.lines.pending) node last) → OnOk result (last.lines.pending ≡ []) → OnOk result (Fits g new last)
+pub closed_at : {B : Type 0} (g : Ghosts B) (result : Result ⊤ NodeError) (node : Node) (board : B) (last : Node) (new : B) → FlushDone g (length node.lines.pending) node board result last new → OnOk result (last.lines.pending ≡ []) → OnOk result (Fits g new last)
     → OnOk result (g.tells new → (b : List ℕ) (r : Run) (sent : List SentFrame) → StandsAt node b r sent → Stands (g.words new) (after b r.issued))
-closed_at g (Ok v) node last new w none fits = closed g node last new w none fits
-closed_at g (Err e) node last new w none fits = tt
+closed_at g (Ok v) node board last new f none fits =
+    let w : FlushedAll g (length node.lines.pending) node board last new = f.done in
+    closed g node last new w.flushed none fits
+closed_at g (Err e) node board last new f none fits = tt
+
+-- what a loss leaves while lines are put
+pub flushing_leaves : (node : Node) (s o : Outcome) → Flushing node s o → Leaves node s o
+flushing_leaves node s o a = record {
+  since = λ b events sent m stands. since_put node b events sent m stands s o a;
+  rises = λ count b events sent m within. rises_still node b events sent m within.run count within.ahead s o a.events a.guard;
+}
 
 -- words that are an image stand for bytes
 pub read_stands : (w : Words) (reading : Reading) → Reads w reading → (b : List ℕ) × Stands w b
@@ -215,8 +296,19 @@ worn_anyway (node_error.Fault kind) Q all = tt
 worn_anyway (node_error.Foreign region offset word) Q all = tt
 worn_anyway (node_error.Worn count) Q all = all count
 
--- a call that changes only the words adds nothing
-pub words_here : {B : Type 0} (g : Ghosts B) {old mid : B} {lost done : Words → Words → Type 0} → Changes g old mid lost done → (o : Outcome) → g.now mid o → After (g.now old) (Adds [] []) o
-words_here g changes o is =
-    let s = changes.here o is in
-    record { from = s.from; was = s.was; steps = record { events_are = s.steps.events ∙ sym (append-nil s.from.events); frames_are = s.steps.frames ∙ sym (append-nil s.from.frames) } }
+pub booted_alone : (lines : Lines) (node : Node) → IsBooted lines node → IsTrue (is_alone lines.store) → IsAlone node
+booted_alone lines node booted alone = subst (λ (l : Lines). IsTrue (is_alone l.store)) (sym booted.lines_are) alone
+
+-- where a premise holds, and as a weaker claim
+pub worn_from : (e : NodeError) (P W V : Type 0) → (W → V) → P → OnWorn e (λ count. P → W) → OnWorn e (λ count. V)
+worn_from node_error.Memory P W V more p worn = tt
+worn_from (node_error.Fault kind) P W V more p worn = tt
+worn_from (node_error.Foreign region offset word) P W V more p worn = tt
+worn_from (node_error.Worn count) P W V more p worn = more (worn p)
+
+pub some_lines : (r : Result ⊤ NodeError) (P : Type 0) (W : Lines → Type 0) (lines : Lines) → IfErr r (λ e. OnWorn e (λ count. P → W lines)) → IfErr r (λ e. OnWorn e (λ count. P → (l : Lines) × W l))
+some_lines (Ok v) P W lines worn = tt
+some_lines (Err node_error.Memory) P W lines worn = tt
+some_lines (Err (node_error.Fault kind)) P W lines worn = tt
+some_lines (Err (node_error.Foreign region offset word)) P W lines worn = tt
+some_lines (Err (node_error.Worn count)) P W lines worn = λ p. (lines, worn p)

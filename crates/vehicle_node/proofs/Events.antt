@@ -1,5 +1,5 @@
--- One event and the flush behind it.
-use Rattle.std.proofs.Common.{◌≡◌, inl, inr, ℕ, ◌+◌, ◌≤◌, List, [], ◌∷◌, ◌++◌, length, refl, sym, ◌∙◌, ap, subst, arith, append-nil, length-append, Result, Ok, Err}
+-- One event, and the flush at its end.
+use Rattle.std.proofs.Common.{◌≡◌, inl, inr, ℕ, ◌+◌, ◌*◌, ◌≤◌, List, [], ◌∷◌, ◌++◌, length, refl, sym, ◌∙◌, ap, subst, arith, append-nil, length-append, Result, Ok, Err}
 use Rattle.std.specs.Prelude.{⊤, OnOk, IsErr}
 use Rattle.std.proofs.lemmas.List.{length-set}
 use Rattle.flash_traits.specs.declared.board.Board.{Ghosts}
@@ -9,106 +9,105 @@ use Rattle.sector_image.specs.Stands.{Stands}
 use Rattle.block_store.specs.Store.{durable_of}
 use Rattle.vehicle_core.specs.Acts.{Act}
 use Rattle.vehicle_node.specs.declared.NodeError.{NodeError}
+use Rattle.vehicle_node.specs.Guard.{CountsUpTo, RisesWithin}
 use Rattle.vehicle_node.specs.Reading.{no_rests, streams, beats, IsEvent, Reads}
-use Rattle.vehicle_node.specs.Runs.{Run, all_parts, run_of}
+use Rattle.vehicle_node.specs.Runs.{Run, all_acts, event_done, run_of}
 use Rattle.vehicle_node.specs.Safe.{SafeAt, Safe, SafeSince, Adds}
-use Rattle.vehicle_node.specs.Standing.{Node, Fits, StandsAt, StandsForRun}
-use Rattle.vehicle_node.specs.Answering.{Flushed, Flushing}
-use Rattle.vehicle_node.specs.Hearing.{SafeInside, AnsweredAll, IsHeard, SafeHearing, HeardAll, HearDone, PartsDone, SafeTaking, TakenAll, TakeDone}
+use Rattle.vehicle_node.specs.Standing.{Node, Fits, StandsAt, StandsForRun, ceiling, raised_in}
+use Rattle.vehicle_node.specs.Steps.Answering.{Flushed, Flushing}
+use Rattle.vehicle_node.specs.Steps.Hearing.{StandsBelow, SafeInside, AnsweredAll, ActsAnswered, IsHeard, SafeHearing, HeardAll, HearDone, ActsDone, SafeTaking, SafeTaken, TakenAll, TakeDone}
 use Rattle.vehicle_node.specs.Laws.{FramesAreRead, IsInRange}
-use Rattle.vehicle_node.proofs.RunLaws.{run_of_push, all_parts_floor, all_parts-append, extends_same, extends_then, extends_more, extends_all}
+use Rattle.vehicle_node.proofs.RunLaws.{run_of_push, all_acts_floor, all_acts-append, extends_same, extends_then, extends_more, extends_all}
 use Rattle.vehicle_node.proofs.At.{safe_put, safe_still, stands_finished, safe_between, safe_inside}
 use Rattle.vehicle_node.proofs.Readings.{heard_more, heard_datagram, can_hear_more, reads_push, event_any, CanRead}
-use Rattle.vehicle_node.proofs.Passing.{any_begun, any_then, begun, going_on}
-use Rattle.vehicle_node.proofs.Parts.{at_error, stands_now, inside_more, inside_still, inside_later, answered_none, answered_then}
+use Rattle.vehicle_node.proofs.Putting.{now_stands, now_within}
+use Rattle.vehicle_node.proofs.ActAnswers.{counts_more}
+use Rattle.vehicle_node.proofs.Passing.{on_ok, cut_call, begun, going_on, lists_kept, lists_then}
+use Rattle.vehicle_node.proofs.ActsDone.{inside_more, inside_still, inside_later, answered_none, answered_then, below_then}
 
--- where some first bytes of a datagram were heard, the whole can be read
-pub hearing_takes : FramesAreRead → (station : ℕ) (bytes : List ℕ) (rests : List (List ℕ)) (b : List ℕ) (r : Run) (sent : List SentFrame) (s o : Outcome) → SafeHearing station bytes rests b r sent s o → SafeTaking (Datagram station bytes) rests b r sent s o
-hearing_takes read station bytes rests b r sent s o x =
+-- where a prefix of a datagram was heard, the whole can be read
+pub hearing_takes : FramesAreRead → (station : ℕ) (bytes : List ℕ) (rests : List (List ℕ)) (limit : ℕ) (b : List ℕ) (r : Run) (sent : List SentFrame) (s o : Outcome) → SafeHearing station bytes rests limit b r sent s o → SafeTaking (Datagram station bytes) rests limit b r sent s o
+hearing_takes read station bytes rests limit b r sent s o x =
     let more = can_hear_more read station x.first x.more rests x.mid x.said x.heard in
     let all : IsHeard station bytes rests (x.said ++ more.said) more.new = subst (λ (l : List ℕ). IsHeard station l rests (x.said ++ more.said) more.new) x.split (heard_more station x.first x.more rests x.mid more.new x.said more.said x.heard more.heard) in
     record {
-      parts = (x.said ++ more.said) ++ streams;
+      acts = (x.said ++ more.said) ++ streams;
       new_rests = more.new;
       reads = heard_datagram station bytes rests more.new (x.said ++ more.said) all;
-      inside = inside_more b (all_parts b r x.said) (all_parts b r ((x.said ++ more.said) ++ streams)) r.floor sent s o
-          (extends_then (all_parts b r x.said) (all_parts b r (x.said ++ more.said)) (all_parts b r ((x.said ++ more.said) ++ streams)) (extends_more b r x.said more.said) (extends_more b r (x.said ++ more.said) streams)) x.inside;
+      inside = inside_more limit b (all_acts b r x.said) (all_acts b r ((x.said ++ more.said) ++ streams)) r.floor sent s o
+          (extends_then (all_acts b r x.said) (all_acts b r (x.said ++ more.said)) (all_acts b r ((x.said ++ more.said) ++ streams)) (extends_more b r x.said more.said) (extends_more b r (x.said ++ more.said) streams)) x.inside;
     }
 
 module _ {B : Type 0} (g : Ghosts B) where
   -- a datagram that was heard in part
-  pub take_hearing : FramesAreRead → (station : ℕ) (bytes : List ℕ) (old : Node) (board : B) (e : NodeError) (result : Result ⊤ NodeError) (new : Node) (last : B) → IsErr result
-      → HearDone g old board station bytes (Err e) new last → TakeDone g (Datagram station bytes) old board result new last
-  take_hearing read station bytes old board e result new last err d = at_error (λ t. TakeDone g (Datagram station bytes) old board t new last) result err (λ _. record {
-    passes = d.passes;
-    losses = λ b r sent at.
-        let S = SafeTaking (Datagram station bytes) old.rests b r sent in
-        weaker S S (d.losses b r sent at) (λ s o is. hearing_takes read station bytes old.rests b r sent s o) (λ s o is. hearing_takes read station bytes old.rests b r sent s o);
-    done = tt;
-  })
+  pub take_hearing : FramesAreRead → (station : ℕ) (bytes : List ℕ) (old : Node) (board : B) (e result : Result ⊤ NodeError) (new : Node) (last : B) → IsErr result
+      → HearDone g old board station bytes e new last → TakeDone g (Datagram station bytes) old board result new last
+  take_hearing read station bytes old board e result new last err d =
+      cut_call g (TakenAll g (Datagram station bytes) old board new last) board last e result d err
+      (λ s o is x limit b r sent below. hearing_takes read station bytes old.rests limit b r sent s o (x limit b r sent below))
 
-  -- the lists go on behind it
+  -- then the lists go on
   pub take_heard : FramesAreRead → (station : ℕ) (bytes : List ℕ) (old : Node) (board : B) (mid : Node) (mid_board : B) (result : Result ⊤ NodeError) (new : Node) (last : B)
-      → HearDone g old board station bytes (Ok tt) mid mid_board → PartsDone g mid mid_board streams result new last → TakeDone g (Datagram station bytes) old board result new last
-  take_heard read station bytes old board mid mid_board result new last first second = record {
-    passes = any_then g first.passes second.passes;
-    losses = λ b r sent at.
-        let S = SafeTaking (Datagram station bytes) old.rests b r sent in
-        let all : HeardAll g old board station bytes mid mid_board = first.done in
-        let answered = all.answered in
-        going_on g S [] answered.frames
-        (weaker S S (first.losses b r sent at) (λ s o is. hearing_takes read station bytes old.rests b r sent s o) (λ s o is. hearing_takes read station bytes old.rests b r sent s o))
-        answered.here
-        (second.losses b (all_parts b r all.said) (sent ++ answered.frames) (answered.stands b r sent at))
-        (λ s m o is adds x. record {
-          parts = all.said ++ streams;
-          new_rests = mid.rests;
-          reads = heard_datagram station bytes old.rests mid.rests all.said all.heard;
-          inside = inside_later b (all_parts b r all.said) (all_parts b r (all.said ++ streams)) r.floor sent answered.frames s m o (all_parts_floor b r all.said) adds
-              (subst (λ (t : Run). SafeInside b t (all_parts b r all.said).floor (sent ++ answered.frames) m o) (sym (all_parts-append b r all.said streams)) x);
-        });
-    done = both result second.rests second.done;
-  }
-    where
-      both : (t : Result ⊤ NodeError) → OnOk t (new.rests ≡ mid.rests) → OnOk t (AnsweredAll g mid mid_board streams new last) → OnOk t (TakenAll g (Datagram station bytes) old board new last)
-      both (Err e) rests done = tt
-      both (Ok v) rests done =
-          let all : HeardAll g old board station bytes mid mid_board = first.done in
-          record {
-            parts = all.said ++ streams;
-            reads = heard_datagram station bytes old.rests new.rests all.said (subst (IsHeard station bytes old.rests all.said) (sym rests) all.heard);
-            answered = answered_then g old board all.said mid mid_board streams new last all.answered done;
-          }
+      → HearDone g old board station bytes (Ok tt) mid mid_board → ActsDone g mid mid_board streams result new last → TakeDone g (Datagram station bytes) old board result new last
+  take_heard read station bytes old board mid mid_board result new last first second =
+      let S = SafeTaken (Datagram station bytes) old in
+      let all : HeardAll g old board station bytes mid mid_board = first.done in
+      let answered = all.answered in
+      record {
+        losses = going_on g S [] answered.frames
+            (weaker S S first.losses
+            (λ s o is x limit b r sent below. hearing_takes read station bytes old.rests limit b r sent s o (x limit b r sent below))
+            (λ s o is x limit b r sent below. hearing_takes read station bytes old.rests limit b r sent s o (x limit b r sent below)))
+            answered.sent.here second.losses
+            (λ s m o was is adds x limit b r sent below. record {
+              acts = all.said ++ streams;
+              new_rests = mid.rests;
+              reads = heard_datagram station bytes old.rests mid.rests all.said all.heard;
+              inside = inside_later limit b (all_acts b r all.said) (all_acts b r (all.said ++ streams)) r.floor sent answered.frames s m o (all_acts_floor b r all.said) adds
+                  (subst (λ (t : Run). SafeInside limit b t (all_acts b r all.said).floor (sent ++ answered.frames) m o) (sym (all_acts-append b r all.said streams))
+                  (x limit b (all_acts b r all.said) (sent ++ answered.frames) (below_then g limit old board all.said mid mid_board b r sent answered below)));
+            });
+        lists = lists_then g board mid_board last first.lists second.lists;
+        done = on_ok result (ActsAnswered g mid mid_board streams new last) (TakenAll g (Datagram station bytes) old board new last)
+            (λ done. record {
+              acts = all.said ++ streams;
+              reads = heard_datagram station bytes old.rests new.rests all.said (subst (IsHeard station bytes old.rests all.said) (sym done.rests) all.heard);
+              answered = answered_then g old board all.said mid mid_board streams new last answered done.answered;
+            })
+            second.done;
+      }
 
   -- an idle turn
-  pub take_idle : (old : Node) (board : B) (result : Result ⊤ NodeError) (new : Node) (last : B) → PartsDone g old board (beats ++ streams) result new last → TakeDone g Idle old board result new last
-  take_idle old board result new last d = record {
-    passes = d.passes;
-    losses = λ b r sent at.
-        let S = SafeTaking Idle old.rests b r sent in
-        let taking : (s o : Outcome) → SafeInside b (all_parts b r (beats ++ streams)) r.floor sent s o → S s o = λ s o x. record { parts = beats ++ streams; new_rests = old.rests; reads = (refl, refl); inside = x } in
-        weaker S S (d.losses b r sent at) (λ s o is. taking s o) (λ s o is. taking s o);
-    done = both result d.rests d.done;
-  }
-    where
-      both : (t : Result ⊤ NodeError) → OnOk t (new.rests ≡ old.rests) → OnOk t (AnsweredAll g old board (beats ++ streams) new last) → OnOk t (TakenAll g Idle old board new last)
-      both (Err e) rests done = tt
-      both (Ok v) rests done = record { parts = beats ++ streams; reads = (refl, rests); answered = done }
+  pub take_idle : (old : Node) (board : B) (result : Result ⊤ NodeError) (new : Node) (last : B) → ActsDone g old board (beats ++ streams) result new last → TakeDone g Idle old board result new last
+  take_idle old board result new last d =
+      let S = SafeTaken Idle old in
+      record {
+        losses = weaker S S d.losses
+            (λ s o is x limit b r sent below. record { acts = beats ++ streams; new_rests = old.rests; reads = (refl, refl); inside = x limit b r sent below })
+            (λ s o is x limit b r sent below. record { acts = beats ++ streams; new_rests = old.rests; reads = (refl, refl); inside = x limit b r sent below });
+        lists = d.lists;
+        done = on_ok result (ActsAnswered g old board (beats ++ streams) new last) (TakenAll g Idle old board new last)
+            (λ done. record { acts = beats ++ streams; reads = (refl, done.rests); answered = done.answered }) d.done;
+      }
 
   -- the end
   pub take_end : (reads : (b : B) (o : Outcome) → g.now b o → g.tells b × (o.words ≡ g.words b)) (node : Node) (board : B) → Fits g board node → TakeDone g End node board (Ok tt) node board
   take_end reads node board fits = record {
-    passes = any_begun g board;
-    losses = λ b r sent at. begun g board (SafeTaking End node.rests b r sent)
-        (λ s is. record { parts = []; new_rests = node.rests; reads = (refl, refl); inside = inside_still node b r sent at s (stands_now g reads board node fits s is) });
-    done = record { parts = []; reads = (refl, refl); answered = answered_none g node board };
+    losses = begun g board (SafeTaken End node) (λ s is limit b r sent below. record {
+      acts = [];
+      new_rests = node.rests;
+      reads = (refl, refl);
+      inside = inside_still node limit b r sent below s (now_stands g reads board node.lines.store fits.store s is) (now_within g reads board node fits.store s is);
+    });
+    lists = lists_kept g board board (λ e f stood. stood);
+    done = record { acts = []; reads = (refl, refl); answered = answered_none g node board };
   }
 
-rests_long : (events : List Received) (old new : List (List ℕ)) (parts : List (List Act)) → Reads old events parts new → length new ≡ length old
-rests_long [] old new parts a = ap length a.1
-rests_long (Datagram station bytes ∷ es) old new parts a = rests_long es a.1 new a.2 a.4 ∙ ap length a.3.new_is ∙ length-set old station a.3.new_rest
-rests_long (Idle ∷ es) old new parts a = rests_long es a.1 new a.2 a.4 ∙ ap length a.3.1
-rests_long (End ∷ es) old new parts a = rests_long es a.1 new a.2 a.4 ∙ ap length a.3.1
+rests_long : (events : List Received) (old new : List (List ℕ)) (acts : List (List Act)) → Reads old events acts new → length new ≡ length old
+rests_long [] old new acts a = ap length a.1
+rests_long (Datagram station bytes ∷ es) old new acts a = rests_long es a.1 new a.2 a.4 ∙ ap length a.3.new_is ∙ length-set old station a.3.new_rest
+rests_long (Idle ∷ es) old new acts a = rests_long es a.1 new a.2 a.4 ∙ ap length a.3.1
+rests_long (End ∷ es) old new acts a = rests_long es a.1 new a.2 a.4 ∙ ap length a.3.1
 
 -- what a loss leaves of the run that a node stands for
 module _ (node : Node) (b : List ℕ) (events : List Received) (sent : List SentFrame) (m : ℕ) (stands : StandsForRun node b events sent m) where
@@ -120,7 +119,7 @@ module _ (node : Node) (b : List ℕ) (events : List Received) (sent : List Sent
     added_frames = [];
     frames_are = adds.frames_are;
     safe = subst (λ (l : List Received). Safe b l (sent ++ []) m o.words) (sym (append-nil events)) (subst (λ (l : List SentFrame). Safe b events l m o.words) (sym (append-nil sent))
-        (safe_between node b events sent m stands o.words (safe_still node b (run_of b stands.parts) sent stands.at o.words words)));
+        (safe_between node b events sent m stands o.words (safe_still node b (run_of b stands.acts) sent stands.at o.words words)));
   }
 
   pub since_put : (from o : Outcome) → Flushing node from o → SafeSince b events sent m from o
@@ -130,61 +129,78 @@ module _ (node : Node) (b : List ℕ) (events : List Received) (sent : List Sent
     added_frames = [];
     frames_are = a.frames ∙ sym (append-nil from.frames);
     safe = subst (λ (l : List Received). Safe b l (sent ++ []) m o.words) (sym (append-nil events)) (subst (λ (l : List SentFrame). Safe b events l m o.words) (sym (append-nil sent))
-        (safe_between node b events sent m stands o.words (safe_put node b (run_of b stands.parts) sent stands.at a.put a.rest o.words a.split a.stands)));
+        (safe_between node b events sent m stands o.words (safe_put node b (run_of b stands.acts) sent stands.at a.put a.rest o.words a.split a.stands)));
+  }
+
+  -- the guard count of what a loss leaves between two events
+  pub rises_still : (count : ℕ) → ceiling node ≤ raised_in count (run_of b stands.acts) → (from o : Outcome) → o.events ≡ from.events → CountsUpTo (ceiling node) o.words.guard → RisesWithin count b events from o
+  rises_still count ahead from o same guard = record {
+    added_events = [];
+    events_are = same ∙ sym (append-nil from.events);
+    acts = stands.acts;
+    rests = node.rests;
+    reads = subst (λ (l : List Received). Reads no_rests l stands.acts node.rests) (sym (append-nil events)) stands.reads;
+    guard = counts_more (ceiling node) (raised_in count (run_of b stands.acts)) o.words.guard ahead guard;
+  }
+
+  -- and in the next
+  pub rises_event : (count : ℕ) (event : Received) (acts : List Act) (new_rests : List (List ℕ)) → IsEvent node.rests event acts new_rests → (from o : Outcome) → o.events ≡ from.events ++ event ∷ []
+      → CountsUpTo (count + 2 + 2 * length (all_acts b (run_of b stands.acts) acts).issued) o.words.guard → RisesWithin count b events from o
+  rises_event count event acts new_rests reads from o added guard = record {
+    added_events = event ∷ [];
+    events_are = added;
+    acts = stands.acts ++ acts ∷ [];
+    rests = new_rests;
+    reads = reads_push events event no_rests node.rests new_rests stands.acts acts stands.reads reads;
+    guard = subst (λ (t : Run). CountsUpTo (raised_in count t) o.words.guard) (sym (run_of_push b stands.acts acts)) guard;
   }
 
   -- inside the next event
-  pub since_taking : (event : Received) (from mid o : Outcome) → Adds (event ∷ []) [] from mid → SafeTaking event node.rests b (run_of b stands.parts) sent mid o → SafeSince b events sent m from o
-  since_taking event from mid o adds x = record {
+  pub since_taking : (limit : ℕ) (event : Received) (from mid o : Outcome) → Adds (event ∷ []) [] from mid → SafeTaking event node.rests limit b (run_of b stands.acts) sent mid o → SafeSince b events sent m from o
+  since_taking limit event from mid o adds x = record {
     added_events = event ∷ [];
     events_are = x.inside.events_are ∙ adds.events_are;
     added_frames = x.inside.added_frames;
     frames_are = x.inside.frames_are ∙ ap (λ (l : List SentFrame). l ++ x.inside.added_frames) (adds.frames_are ∙ append-nil from.frames);
-    safe = safe_inside node b events sent m stands event x.parts x.new_rests (all_parts b (run_of b stands.parts) x.parts) x.inside.added_frames o.words x.reads (extends_same (all_parts b (run_of b stands.parts) x.parts)) x.inside.safe;
+    safe = safe_inside node b events sent m stands event x.acts x.new_rests (all_acts b (run_of b stands.acts) x.acts) x.inside.added_frames o.words x.reads (extends_same (all_acts b (run_of b stands.acts) x.acts)) x.inside.safe;
   }
 
-  -- while it is received
-  pub since_receiving : FramesAreRead → (event : Received) → IsInRange event → (from o : Outcome) → Stands from.words (durable_of node.lines.store) → Either Unchanged (Receives event) from o → SafeSince b events sent m from o
-  since_receiving read event in_range from o words step = elim step [
-    | inl same ↦ subst (SafeSince b events sent m from) (sym same) (since_still from from (record { events_are = sym (append-nil from.events); frames_are = sym (append-nil from.frames) }) words)
-    | inr received ↦ subst (SafeSince b events sent m from) (sym received) (since_taking event from (got from) (got from) (record { events_are = refl; frames_are = sym (append-nil from.frames) }) (record {
-      parts = can.parts;
-      new_rests = can.new;
-      reads = can.reads;
-      inside = inside_more b (run_of b stands.parts) (all_parts b (run_of b stands.parts) can.parts) (run_of b stands.parts).floor sent (got from) (got from) (extends_all b (run_of b stands.parts) can.parts)
-          (inside_still node b (run_of b stands.parts) sent stands.at (got from) words);
-    }))
-  ]
-    where
-      got : Outcome → Outcome
-      got o = record { words = o.words; events = o.events ++ event ∷ []; frames = o.frames }
+  -- the event was received, and nothing done yet
+  pub received_taking : FramesAreRead → (limit : ℕ) (event : Received) → IsInRange event → StandsBelow limit node b (run_of b stands.acts) sent
+      → (o : Outcome) → Stands o.words (durable_of node.lines.store) → CountsUpTo (ceiling node) o.words.guard → SafeTaking event node.rests limit b (run_of b stands.acts) sent o o
+  received_taking read limit event in_range below o words guard =
+      let r = run_of b stands.acts in
+      let can : CanRead event node.rests = event_any read event node.rests in_range (rests_long events no_rests node.rests stands.acts stands.reads) in
+      record {
+        acts = can.acts;
+        new_rests = can.new;
+        reads = can.reads;
+        inside = inside_more limit b r (all_acts b r can.acts) r.floor sent o o (extends_all b r can.acts) (inside_still node limit b r sent below o words guard);
+      }
 
-      can : CanRead event node.rests
-      can = event_any read event node.rests in_range (rests_long events no_rests node.rests stands.parts stands.reads)
-
-  -- behind the last byte, while lines are put
-  pub since_flushing : (event : Received) (parts : List Act) (mid : Node) (frames : List SentFrame) → IsEvent node.rests event parts mid.rests → StandsAt mid b (all_parts b (run_of b stands.parts) parts) (sent ++ frames)
+  -- after the last byte, while lines are put
+  pub since_flushing : (event : Received) (acts : List Act) (mid : Node) (frames : List SentFrame) → IsEvent node.rests event acts mid.rests → StandsAt mid b (all_acts b (run_of b stands.acts) acts) (sent ++ frames)
       → (from between o : Outcome) → Adds (event ∷ []) frames from between → Flushing mid between o → SafeSince b events sent m from o
-  since_flushing event parts mid frames reads at from between o adds a =
-      let r = run_of b stands.parts in
+  since_flushing event acts mid frames reads at from between o adds a =
+      let r = run_of b stands.acts in
       record {
         added_events = event ∷ [];
         events_are = a.events ∙ adds.events_are;
         added_frames = frames;
         frames_are = a.frames ∙ adds.frames_are;
-        safe = safe_inside node b events sent m stands event parts mid.rests (all_parts b r parts) frames o.words reads (extends_same (all_parts b r parts))
-            (subst (λ (n : ℕ). SafeAt b (all_parts b r parts) n (sent ++ frames) o.words) (all_parts_floor b r parts)
-            (safe_put mid b (all_parts b r parts) (sent ++ frames) at a.put a.rest o.words a.split a.stands));
+        safe = safe_inside node b events sent m stands event acts mid.rests (all_acts b r acts) frames o.words reads (extends_same (all_acts b r acts))
+            (subst (λ (n : ℕ). SafeAt b (all_acts b r acts) n (sent ++ frames) o.words) (all_acts_floor b r acts)
+            (safe_put mid b (all_acts b r acts) (sent ++ frames) at a.put a.rest o.words a.split a.stands));
       }
 
   -- the event is finished
-  pub stands_for_more : (event : Received) (parts : List Act) (mid : Node) (frames : List SentFrame) (new : Node) → IsEvent node.rests event parts mid.rests → StandsAt mid b (all_parts b (run_of b stands.parts) parts) (sent ++ frames)
+  abbrev pub stands_for_more : (event : Received) (acts : List Act) (mid : Node) (frames : List SentFrame) (new : Node) → IsEvent node.rests event acts mid.rests → StandsAt mid b (all_acts b (run_of b stands.acts) acts) (sent ++ frames)
       → (n : ℕ) → 8 ≤ n → Flushed n mid new → StandsForRun new b (events ++ event ∷ []) (sent ++ frames) (m + 1)
-  stands_for_more event parts mid frames new reads at n eight w = record {
-    parts = stands.parts ++ parts ∷ [];
-    reads = subst (Reads no_rests (events ++ event ∷ []) (stands.parts ++ parts ∷ [])) (sym w.rests) (reads_push events event no_rests node.rests mid.rests stands.parts parts stands.reads reads);
+  stands_for_more event acts mid frames new reads at n eight w = record {
+    acts = stands.acts ++ acts ∷ [];
+    reads = subst (Reads no_rests (events ++ event ∷ []) (stands.acts ++ acts ∷ [])) (sym w.rests) (reads_push events event no_rests node.rests mid.rests stands.acts acts stands.reads reads);
     finished = omega (arith, stands.finished, length-append events (event ∷ []));
-    at = subst (λ (t : Run). StandsAt new b t (sent ++ frames)) (sym (run_of_push b stands.parts parts)) (stands_finished mid b (all_parts b (run_of b stands.parts) parts) (sent ++ frames) at n eight new w);
+    at = subst (λ (t : Run). StandsAt new b t (sent ++ frames)) (sym (run_of_push b stands.acts acts)) (stands_finished mid b (all_acts b (run_of b stands.acts) acts) (sent ++ frames) at n eight new w);
   }
 
 -- a finished event, and what a loss then leaves
@@ -195,5 +211,5 @@ since_finished new b events sent m event frames stands from o adds words = recor
   events_are = adds.events_are;
   added_frames = frames;
   frames_are = adds.frames_are;
-  safe = safe_between new b (events ++ event ∷ []) (sent ++ frames) (m + 1) stands o.words (safe_still new b (run_of b stands.parts) (sent ++ frames) stands.at o.words words);
+  safe = safe_between new b (events ++ event ∷ []) (sent ++ frames) (m + 1) stands o.words (safe_still new b (run_of b stands.acts) (sent ++ frames) stands.at o.words words);
 }

@@ -3,13 +3,14 @@ pub mod RunLaws
 pub mod Readings
 pub mod At
 pub mod Passing
-pub mod Parts
+pub mod Keeping
+pub mod ActsDone
 pub mod Heard
 pub mod Events
-pub mod Turns
+pub mod Finishing
 pub mod Boot
 pub mod Putting
 pub mod FramesSent
 pub mod RepliesSent
-pub mod PartAnswers
+pub mod ActAnswers
 pub mod StationsTold

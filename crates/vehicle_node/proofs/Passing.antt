@@ -1,10 +1,33 @@
 -- Calls one after another, each with what it adds.
-use Rattle.std.proofs.Common.{◌≡◌, inl, ⊎_elim, List, [], ◌++◌, sym, ◌∙◌, ap, append_assoc, append-nil}
+use Rattle.std.proofs.Common.{◌≡◌, ◌≤◌, inl, List, [], ◌++◌, refl, sym, ◌∙◌, ap, subst, arith, append_assoc, append-nil, Result, Ok, Err}
+use Rattle.std.specs.Prelude.{⊤, OnOk, OnErr, IsErr}
 use Rattle.flash_traits.specs.declared.board.Board.{Ghosts}
+use Rattle.flash_traits.specs.declared.board.Fault.{Fault}
 use Rattle.flash_traits.specs.Calls.{Passes}
 use Rattle.flash_traits.specs.Losses.{Received, SentFrame, Outcome, After}
 use Rattle.flash_traits.proofs.Moments.{up_to_self, chained, weaker}
-use Rattle.vehicle_node.specs.Safe.{Adds, Anything}
+use Rattle.vehicle_node.specs.Safe.{Adds}
+use Rattle.vehicle_node.specs.Steps.Calls.{MaySend, HasSent, Call}
+use Rattle.vehicle_node.specs.declared.NodeError.{NodeError}
+
+-- what holds at an Ok, and what holds of every error
+pub on_ok : {T E : Type 0} (result : Result T E) (P Q : Type 0) → (P → Q) → OnOk result P → OnOk result Q
+on_ok (Ok v) P Q f p = f p
+on_ok (Err e) P Q f p = tt
+
+pub at_ok : {T E P : Type 0} (r : Result T E) {x : T} → r ≡ Ok x → OnOk r P → P
+at_ok {T} {E} {P} r is on = subst (λ (r : Result T E). OnOk r P) is on
+
+pub at_err : {T E : Type 0} (r : Result T E) (P : Type 0) → IsErr r → OnOk r P
+at_err (Ok x) P err = absurd (cc)
+at_err (Err e) P err = tt
+
+pub on_err : {T E : Type 0} (r : Result T E) (P : Type 0) → P → OnErr r P
+on_err (Ok x) P p = tt
+on_err (Err e) P p = p
+
+pub adds_none : (s : Outcome) → Adds [] [] s s
+adds_none s = record { events_are = sym (append-nil s.events); frames_are = sym (append-nil s.frames) }
 
 module _ {B : Type 0} (g : Ghosts B) where
   -- before the first call
@@ -23,31 +46,13 @@ module _ {B : Type 0} (g : Ghosts B) where
   -- calls that have added so much, and one more
   pub going_on : {a b c : B} {done lost : Outcome → Outcome → Type 0} (step : Outcome → Outcome → Type 0) (events : List Received) (frames : List SentFrame)
       → Passes g a b step done → ((o : Outcome) → g.now b o → After (g.now a) (Adds events frames) o) → Passes g b c lost lost
-      → ((s m o : Outcome) → g.now b m → Adds events frames s m → lost m o → step s o)
+      → ((s m o : Outcome) → g.now a s → g.now b m → Adds events frames s m → lost m o → step s o)
       → Passes g a c step step
-  going_on step events frames first here second more = chained step step (ending (Adds events frames) first here) second (λ s o is. is) more more
-
-  -- calls of which nothing is said but that time passes
-  pub any_begun : (a : B) → Passes g a a Anything Anything
-  any_begun a = begun a Anything (λ s is. tt)
-
-  pub any_of : {a b : B} {lost done : Outcome → Outcome → Type 0} → Passes g a b lost done → Passes g a b Anything Anything
-  any_of passes = weaker Anything Anything passes (λ s o is x. tt) (λ s o is x. tt)
-
-  pub any_then : {a b c : B} → Passes g a b Anything Anything → Passes g b c Anything Anything → Passes g a c Anything Anything
-  any_then first second = chained Anything Anything first second (λ s o x. tt) (λ s m o is x y. tt) (λ s m o is x y. tt)
-
-  -- a loss leaves something only of a board that tells its words
-  pub if_told : ((b : B) (o : Outcome) → g.now b o → g.tells b × (o.words ≡ g.words b)) → {a b : B} {lost done : Outcome → Outcome → Type 0} → Passes g a b Anything Anything → (g.tells a → Passes g a b lost done) → Passes g a b lost done
-  if_told reads {a} {b} {lost} {done} any told = record {
-    later = any.later;
-    inside = λ t o le was. ⊎_elim (λ before. inl before) (λ (x : After (g.now a) Anything o). (told (reads a x.from x.was).0).inside t o le was) (any.inside t o le was);
-    here = λ o is. let s = any.here o is in (told (reads a s.from s.was).0).here o is;
-    keeps = any.keeps;
-  }
-
-  pub adds_none : (s : Outcome) → Adds [] [] s s
-  adds_none s = record { events_are = sym (append-nil s.events); frames_are = sym (append-nil s.frames) }
+  going_on {a} step events frames first here second more =
+      let both : Outcome → Outcome → Type 0 = λ s m. g.now a s × Adds events frames s m in
+      chained step step
+      (ending both first (λ o is. let x = here o is in record { from = x.from; was = x.was; steps = (x.was, x.steps) }))
+      second (λ s o is. is) (λ s m o is x y. more s m o x.0 is x.1 y) (λ s m o is x y. more s m o x.0 is x.1 y)
 
   -- what two calls add
   pub adds_both : {a b c : B} (es fs : List Received) (gs hs : List SentFrame)
@@ -64,3 +69,33 @@ module _ {B : Type 0} (g : Ghosts B) where
           frames_are = m.steps.frames_are ∙ ap (λ (l : List SentFrame). l ++ hs) s.steps.frames_are ∙ append_assoc s.from.frames gs hs;
         };
       }
+
+  -- the lists stay
+  pub lists_kept : (a b : B) → ((e : List Received) (f : List SentFrame) → g.has_lists a e f → g.has_lists b e f) → MaySend g a b
+  lists_kept a b keeps e f stood = ([], subst (g.has_lists b e) (sym (append-nil f)) (keeps e f stood))
+
+  pub lists_then : (a b c : B) → MaySend g a b → MaySend g b c → MaySend g a c
+  lists_then a b c first second e f stood =
+      let s = first e f stood in
+      let t = second e (f ++ s.0) s.1 in
+      (s.0 ++ t.0, subst (g.has_lists c e) (append_assoc f s.0 t.0) t.1)
+
+  -- nothing was sent
+  pub sent_nothing : (a : B) → HasSent g [] (Adds [] []) a a
+  sent_nothing a = record {
+    lists = λ e f stood. subst (g.has_lists a e) (sym (append-nil f)) stood;
+    here = λ o now. record { from = o; was = now; steps = adds_none o };
+    receptions = refl;
+  }
+
+  pub sent_both : (gs hs : List SentFrame) (a b c : B) → HasSent g gs (Adds [] gs) a b → HasSent g hs (Adds [] hs) b c → HasSent g (gs ++ hs) (Adds [] (gs ++ hs)) a c
+  sent_both gs hs a b c first second = record {
+    lists = λ e f stood. subst (g.has_lists c e) (append_assoc f gs hs) (second.lists e (f ++ gs) (first.lists e f stood));
+    here = adds_both [] [] gs hs first.here second.here;
+    receptions = second.receptions ∙ first.receptions;
+  }
+
+  -- the same call, cut short, with more that might be lost
+  pub cut_call : {lost step : Outcome → Outcome → Type 0} {P : Type 0} (Q : Type 0) (a b : B) (s r : Result ⊤ NodeError) → Call g lost P a s b → IsErr r
+      → ((s o : Outcome) → g.now a s → lost s o → step s o) → Call g step Q a r b
+  cut_call {lost} {step} {P} Q a b s r call err more = record { losses = weaker step step call.losses more more; lists = call.lists; done = at_err r Q err }

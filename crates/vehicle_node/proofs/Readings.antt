@@ -10,9 +10,9 @@ use Rattle.mav_frames.specs.Frames.{IsMessageOf, is_v2}
 use Rattle.mav_messages.specs.declared.messages.Message.{Message}
 use Rattle.mav_messages.specs.Messages.{FitsTypes}
 use Rattle.vehicle_core.specs.Vehicle.{Asked, Asks}
-use Rattle.vehicle_core.specs.Acts.{Act, Said}
+use Rattle.vehicle_core.specs.Acts.{Act, heard_as, Said}
 use Rattle.vehicle_node.specs.Reading.{no_rests, IsSilent, AreSaid, streams, beats, IsEvent, Reads}
-use Rattle.vehicle_node.specs.Hearing.{IsHeard}
+use Rattle.vehicle_node.specs.Steps.Hearing.{IsHeard}
 use Rattle.vehicle_node.specs.Laws.{FramesAreRead, IsInRange, EventsAreRead, EventsAreReadOnce}
 use Rattle.vehicle_node.proofs.LawsBelow.{cut_any, cut_once, cut_more}
 
@@ -76,7 +76,7 @@ heard_datagram station bytes old new said h = record {
   cut = h.cut;
   said = said;
   are_said = h.are_said;
-  parts_are = refl;
+  acts_are = refl;
   new_is = h.new_is;
 }
 
@@ -87,7 +87,7 @@ said_any read station (bytes ∷ frames) =
     let more = said_any read station frames in
     elim (read.any bytes) [
       | inl silent ↦ (more.0, inl (silent, more.1))
-      | inr says ↦ (Said station (is_v2 bytes) says.0 ∷ more.0, inr (says.0, more.0, says.1, more.1, refl))
+      | inr says ↦ (Said station (heard_as (is_v2 bytes) says.0) ∷ more.0, inr (says.0, more.0, says.1, more.1, refl))
     ]
 
 pub record CanHear (station : ℕ) (bytes : List ℕ) (old : List (List ℕ)) : Type 0 where
@@ -105,15 +105,15 @@ can_hear read station bytes old rest is =
       heard = record { rest = rest; rest_is = is; pieces = cut.0; new_rest = cut.1; cut = cut.2; are_said = said.1; new_is = refl };
     }
 
--- where some first bytes were heard, all can be
+-- where a prefix of the bytes was heard, all can be
 pub can_hear_more : FramesAreRead → (station : ℕ) (first more : List ℕ) (old mid : List (List ℕ)) (said : List Act) → IsHeard station first old said mid → CanHear station more mid
 can_hear_more read station first more old mid said h =
     can_hear read station more mid h.new_rest (ap (λ (l : List (List ℕ)). slice_get l station) h.new_is ∙ rest_set old station h.rest h.new_rest h.rest_is)
 
 pub record CanRead (event : Received) (old : List (List ℕ)) : Type 0 where
-  pub parts : List Act
+  pub acts : List Act
   pub new : List (List ℕ)
-  pub reads : IsEvent old event parts new
+  pub reads : IsEvent old event acts new
   pub size : length new ≡ length old
 
 rest_at : (old : List (List ℕ)) (station : ℕ) → station < length old → slice_get old station ≡ Some (get_or old station [])
@@ -123,20 +123,20 @@ pub event_any : FramesAreRead → (event : Received) (old : List (List ℕ)) →
 event_any read (Datagram station bytes) old in_range size =
     let h = can_hear read station bytes old (get_or old station []) (rest_at old station (omega (arith, in_range, size))) in
     record {
-      parts = h.said ++ streams;
+      acts = h.said ++ streams;
       new = h.new;
       reads = heard_datagram station bytes old h.new h.said h.heard;
       size = ap length h.heard.new_is ∙ length-set old station h.heard.new_rest;
     }
-event_any read Idle old in_range size = record { parts = beats ++ streams; new = old; reads = (refl, refl); size = refl }
-event_any read End old in_range size = record { parts = []; new = old; reads = (refl, refl); size = refl }
+event_any read Idle old in_range size = record { acts = beats ++ streams; new = old; reads = (refl, refl); size = refl }
+event_any read End old in_range size = record { acts = []; new = old; reads = (refl, refl); size = refl }
 
-any_from : FramesAreRead → (events : List Received) (old : List (List ℕ)) → All IsInRange events → length old ≡ 8 → (parts : List (List Act)) × (rests : List (List ℕ)) × Reads old events parts rests
+any_from : FramesAreRead → (events : List Received) (old : List (List ℕ)) → All IsInRange events → length old ≡ 8 → (acts : List (List Act)) × (rests : List (List ℕ)) × Reads old events acts rests
 any_from read [] old in_range size = ([], old, (refl, refl))
 any_from read (e ∷ es) old in_range size =
     let one = event_any read e old (All-head IsInRange e es in_range) size in
     let more = any_from read es one.new (All-tail IsInRange e es in_range) (one.size ∙ size) in
-    (one.parts ∷ more.0, more.1, (one.parts, one.new, more.0, one.reads, more.2, refl))
+    (one.acts ∷ more.0, more.1, (one.acts, one.new, more.0, one.reads, more.2, refl))
 
 pub events_are_read : FramesAreRead → EventsAreRead
 events_are_read read events in_range = any_from read events no_rests in_range refl
@@ -154,8 +154,8 @@ said_once read station (bytes ∷ frames) ps qs a c = elim a [
     | inr too ↦
         let tails : says.1 ≡ too.1 = said_once read station frames says.1 too.1 says.3 too.3 in
         let heads : says.0 ≡ too.0 = read.one bytes says.0 too.0 says.2 too.2 in
-        let parts : ps ≡ Said station (is_v2 bytes) says.0 ∷ says.1 = says.4 in
-        let others : qs ≡ Said station (is_v2 bytes) too.0 ∷ too.1 = too.4 in
+        let acts : ps ≡ Said station (heard_as (is_v2 bytes) says.0) ∷ says.1 = says.4 in
+        let others : qs ≡ Said station (heard_as (is_v2 bytes) too.0) ∷ too.1 = too.4 in
         cc
   ]
 ]
@@ -165,15 +165,15 @@ event_once read (Datagram station bytes) old ps qs new left a c =
     let same : a.rest ≡ c.rest = some_is a.rest c.rest (sym a.rest_is ∙ c.rest_is) in
     let cuts = cut_once (a.rest ++ bytes) a.pieces c.pieces a.new_rest c.new_rest a.cut (subst (λ (l : List ℕ). Cut (l ++ bytes) c.pieces c.new_rest) (sym same) c.cut) in
     let said = said_once read station (frames_in a.pieces) a.said c.said a.are_said (subst (λ (l : List Piece). AreSaid station (frames_in l) c.said) (sym cuts.0) c.are_said) in (
-      a.parts_are ∙ ap (λ (l : List Act). l ++ streams) said ∙ sym c.parts_are,
+      a.acts_are ∙ ap (λ (l : List Act). l ++ streams) said ∙ sym c.acts_are,
       a.new_is ∙ ap (λ (l : List ℕ). slice_set old station l) cuts.1 ∙ sym c.new_is,
     )
 event_once read Idle old ps qs new left a c = (a.0 ∙ sym c.0, a.1 ∙ sym c.1)
 event_once read End old ps qs new left a c = (a.0 ∙ sym c.0, a.1 ∙ sym c.1)
 
-once_from : FramesAreRead → (events : List Received) (old : List (List ℕ)) (parts others : List (List Act)) (rests left : List (List ℕ)) → Reads old events parts rests → Reads old events others left → (parts ≡ others) × (rests ≡ left)
-once_from read [] old parts others rests left a c = (a.0 ∙ sym c.0, a.1 ∙ sym c.1)
-once_from read (e ∷ es) old parts others rests left a c =
+once_from : FramesAreRead → (events : List Received) (old : List (List ℕ)) (acts others : List (List Act)) (rests left : List (List ℕ)) → Reads old events acts rests → Reads old events others left → (acts ≡ others) × (rests ≡ left)
+once_from read [] old acts others rests left a c = (a.0 ∙ sym c.0, a.1 ∙ sym c.1)
+once_from read (e ∷ es) old acts others rests left a c =
     let one = event_once read e old a.0 c.0 a.1 c.1 a.3 c.3 in
     let more = once_from read es a.1 a.2 c.2 rests left a.4 (subst (λ (l : List (List ℕ)). Reads l es c.2 left) (sym one.1) c.4) in (
       a.5 ∙ ap (λ (l : List Act). l ∷ a.2) one.0 ∙ ap (λ (l : List (List Act)). c.0 ∷ l) more.0 ∙ sym c.5,
@@ -181,14 +181,14 @@ once_from read (e ∷ es) old parts others rests left a c =
     )
 
 pub events_are_read_once : FramesAreRead → EventsAreReadOnce
-events_are_read_once read events parts others rests left a c = once_from read events no_rests parts others rests left a c
+events_are_read_once read events acts others rests left a c = once_from read events no_rests acts others rests left a c
 
 -- one event more
-pub reads_push : (es : List Received) (e : Received) (old mid new : List (List ℕ)) (events : List (List Act)) (parts : List Act) → Reads old es events mid → IsEvent mid e parts new → Reads old (es ++ e ∷ []) (events ++ parts ∷ []) new
-reads_push [] e old mid new events parts a one =
-    (parts, new, [], subst (λ (l : List (List ℕ)). IsEvent l e parts new) a.1 one, (refl, refl), ap (λ (l : List (List Act)). l ++ parts ∷ []) a.0)
-reads_push (x ∷ es) e old mid new events parts a one =
-    (a.0, a.1, a.2 ++ parts ∷ [], a.3, reads_push es e a.1 mid new a.2 parts a.4 one, ap (λ (l : List (List Act)). l ++ parts ∷ []) a.5)
+pub reads_push : (es : List Received) (e : Received) (old mid new : List (List ℕ)) (events : List (List Act)) (acts : List Act) → Reads old es events mid → IsEvent mid e acts new → Reads old (es ++ e ∷ []) (events ++ acts ∷ []) new
+reads_push [] e old mid new events acts a one =
+    (acts, new, [], subst (λ (l : List (List ℕ)). IsEvent l e acts new) a.1 one, (refl, refl), ap (λ (l : List (List Act)). l ++ acts ∷ []) a.0)
+reads_push (x ∷ es) e old mid new events acts a one =
+    (a.0, a.1, a.2 ++ acts ∷ [], a.3, reads_push es e a.1 mid new a.2 acts a.4 one, ap (λ (l : List (List Act)). l ++ acts ∷ []) a.5)
 
 pub reads_long : (es : List Received) (old new : List (List ℕ)) (events : List (List Act)) → Reads old es events new → length events ≡ length es
 reads_long [] old new events a = ap length a.0

@@ -1,76 +1,48 @@
 -- Replies sent one after another.
-use Rattle.std.proofs.Common.{◌≡◌, ℕ, zero, suc, ◌+◌, ◌-◌, ◌<◌, ◌≤◌, false, List, [], ◌∷◌, ◌++◌, length, take, drop, get_or, map, Result, Ok, Err, refl, sym, ◌∙◌, ap, subst, arith, take-append-drop}
-use Rattle.std.specs.Prelude.{⊤, OnOk, IsErr, filter}
+use Rattle.std.proofs.Common.{◌≡◌, ℕ, zero, suc, ◌+◌, ◌-◌, ◌<◌, ◌≤◌, false, List, [], ◌∷◌, ◌++◌, length, take, drop, get_or, map, Result, Ok, refl, sym, ◌∙◌, ap, subst, arith, append-nil, take-append-drop}
+use Rattle.std.specs.Prelude.{⊤, IsErr, filter}
 use Rattle.std.specs.List.{range_with_len}
-use Rattle.std.proofs.lemmas.List.{append-nil, map-append}
+use Rattle.std.proofs.lemmas.List.{map-append}
 use Rattle.std.proofs.lemmas.List.Elements.{filter-append}
 use Rattle.std.proofs.lemmas.Grind.{flat_map-append}
 use Rattle.flash_traits.specs.declared.board.Board.{Ghosts}
-use Rattle.flash_traits.specs.Losses.{Outcome, KeepsWords}
-use Rattle.flash_traits.proofs.Moments.{weaker}
 use Rattle.mav_messages.specs.declared.messages.Reply.{Reply}
 use Rattle.vehicle_core.specs.Vehicle.{Vehicle, Content, Told, is_heard}
 use Rattle.vehicle_core.specs.Replies.{IsReplyOf, AreRepliesOf}
 use Rattle.vehicle_node.specs.declared.NodeError.{NodeError}
-use Rattle.vehicle_node.specs.Frames.{Answer, Delivery, AreFramesOf, stations, deliveries, deliveries_of}
-use Rattle.vehicle_node.specs.Runs.{Machine}
+use Rattle.vehicle_node.specs.Frames.{Machine, Delivery, stations, deliveries, deliveries_of, counted_all}
 use Rattle.vehicle_node.specs.Standing.{Node}
-use Rattle.vehicle_node.specs.Sending.{SendsFirst, SentAll, SendDone, delivery, deliveries_to, answers_of, machine_after}
-use Rattle.vehicle_node.proofs.FramesSent.{frames_front, answers-append, sent_none, losses_none, sent_then, losses_then}
-
-pub on_ok : {T E P Q : Type 0} (r : Result T E) → (P → Q) → OnOk r P → OnOk r Q
-on_ok (Ok x) from p = from p
-on_ok (Err e) from p = tt
-
-pub at_err : {T E : Type 0} (r : Result T E) (P : Type 0) → IsErr r → OnOk r P
-at_err (Ok x) P err = absurd (cc)
-at_err (Err e) P err = tt
+use Rattle.vehicle_node.specs.Steps.Sending.{SentAll, SendDone, delivery, deliveries_to}
+use Rattle.vehicle_node.proofs.FramesSent.{counted-vehicle, prefix_more, sent_none, sent_then, losses_then}
+use Rattle.vehicle_node.proofs.Passing.{on_ok, cut_call, lists_then}
 
 module _ {B : Type 0} (g : Ghosts B) where
-  pub keeps_then : (a b c : B) → KeepsWords g.sector_bytes g.tells g.words a b → KeepsWords g.sector_bytes g.tells g.words b c → KeepsWords g.sector_bytes g.tells g.words a c
-  keeps_then a b c first second = record {
-    geometry = second.geometry ∙ first.geometry;
-    told = λ told. first.told (second.told told);
-    content = λ told. second.content told ∙ first.content (second.told told);
-  }
-
   pub done_none : (ds : List Delivery) (node : Node) (b : B) → ds ≡ [] → SendDone g ds node b (Ok tt) node b
-  done_none ds node b none = subst (λ (ds : List Delivery). SendDone g ds node b (Ok tt) node b) (sym none)
-      (record { losses = losses_none g (answers_of node.machine []) b; done = sent_none g node b })
+  done_none ds node b none = subst (λ (ds : List Delivery). SendDone g ds node b (Ok tt) node b) (sym none) (sent_none g node b)
 
   -- some deliveries are sent, and then others, or this is cut short
   pub done_then : (xs ys zs : List Delivery) (old : Node) (a : B) (mid : Node) (b : B) (r : Result ⊤ NodeError) (new : Node) (c : B)
       → SendDone g xs old a (Ok tt) mid b → SendDone g ys mid b r new c → zs ≡ xs ++ ys → SendDone g zs old a r new c
   done_then xs ys zs old a mid b r new c first second is =
+      let sent : SentAll g xs old a mid b = first.done in
       subst (λ (ds : List Delivery). SendDone g ds old a r new c) (sym is) (record {
-        losses = losses_then g xs ys old a mid b first.done c first.losses second.losses;
-        done = on_ok r (λ (sent : SentAll g ys mid b new c). sent_then g xs ys old a mid b first.done new c sent) second.done;
+        losses = losses_then g xs ys old a mid b sent c first.losses second.losses;
+        lists = lists_then g a b c first.lists second.lists;
+        done = on_ok r (SentAll g ys mid b new c) (SentAll g (xs ++ ys) old a new c) (λ more. sent_then g xs ys old a mid b sent new c more) second.done;
       })
 
   -- more was to be sent
   pub done_short : (xs ys zs : List Delivery) (old : Node) (a : B) (s r : Result ⊤ NodeError) (new : Node) (c : B)
       → SendDone g xs old a s new c → IsErr r → zs ≡ xs ++ ys → SendDone g zs old a r new c
   done_short xs ys zs old a s r new c some err is =
-      subst (λ (ds : List Delivery). SendDone g ds old a r new c) (sym is) (record {
-        losses =
-            let whole = SendsFirst (answers_of old.machine (xs ++ ys)) in
-            weaker whole whole some.losses (λ s o now step. front s o step) (λ s o now step. front s o step);
-        done = at_err r (SentAll g (xs ++ ys) old a new c) err;
-      })
-    where
-      front : (s o : Outcome) → SendsFirst (answers_of old.machine xs) s o → SendsFirst (answers_of old.machine (xs ++ ys)) s o
-      front s o step = record {
-        words = step.words;
-        events = step.events;
-        sent = step.sent;
-        frames = step.frames;
-        first = subst (λ (l : List Answer). AreFramesOf (take (length step.sent) l) step.sent) (sym (answers-append old.machine xs ys))
-            (frames_front (answers_of old.machine xs) (answers_of (machine_after old.machine xs) ys) step.sent step.first);
-      }
+      subst (λ (ds : List Delivery). SendDone g ds old a r new c) (sym is)
+      (cut_call g (SentAll g (xs ++ ys) old a new c) a c s r some err (λ u o now step. prefix_more old.machine xs ys u o step))
 
   -- the same over a vehicle that stays
   pub vehicle_stays : (ds : List Delivery) (old : Node) (a : B) (new : Node) (c : B) → SendDone g ds old a (Ok tt) new c → new.machine.vehicle ≡ old.machine.vehicle
-  vehicle_stays ds old a new c d = ap (λ (m : Machine). m.vehicle) d.done.sent.machine
+  vehicle_stays ds old a new c d =
+      let sent : SentAll g ds old a new c = d.done in
+      ap (λ (m : Machine). m.vehicle) sent.sent.machine ∙ counted-vehicle old.machine ds
 
 -- to whom it is told
 pub unheard : (v : Vehicle) (station : ℕ) (content : Content) → is_heard v station ≡ false → deliveries_to v (station ∷ []) content ≡ []

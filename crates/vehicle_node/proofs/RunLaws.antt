@@ -1,4 +1,4 @@
--- How a run goes on, by one part and by one event.
+-- How a run goes on, by one act and by one event.
 use Rattle.std.proofs.Common.{◌≡◌, ℕ, ◌+◌, ◌≤◌, List, [], ◌∷◌, ◌++◌, length, take, refl, sym, ◌∙◌, ap, subst, arith, append_assoc, length-append, append-nil}
 use Rattle.std.proofs.lemmas.List.{take_at, take-append-le, take_all, length-take}
 use Rattle.std.proofs.lemmas.Slice.Zip.{AllZip-long}
@@ -9,19 +9,19 @@ use Rattle.storage_lines.specs.declared.lines.LineWrite.{LineWrite}
 use Rattle.storage_lines.specs.Lines.{put_line, after}
 use Rattle.sector_image.specs.Stands.{Stands}
 use Rattle.vehicle_core.specs.Acts.{Act}
-use Rattle.vehicle_node.specs.Frames.{Answer, IsFrameOf, AreFramesOf, numbered}
-use Rattle.vehicle_node.specs.Runs.{Run, did_in, deliveries_in, part, all_parts, finish, turn, start, run_from, run_of, floor_of}
+use Rattle.vehicle_node.specs.Frames.{Answer, IsFrameOf, AreFramesOf, deliveries, numbered}
+use Rattle.vehicle_node.specs.Runs.{Run, did_in, take_act, act_done, all_acts, finish, event_done, start, run_from, run_of, floor_of}
 use Rattle.vehicle_node.specs.Safe.{SafeAt}
 
-run_from_push : (b : List ℕ) (r : Run) (events : List (List Act)) (ps : List Act) → run_from b r (events ++ ps ∷ []) ≡ turn b (run_from b r events) ps
+run_from_push : (b : List ℕ) (r : Run) (events : List (List Act)) (ps : List Act) → run_from b r (events ++ ps ∷ []) ≡ event_done b (run_from b r events) ps
 run_from_push b r [] ps = refl
-run_from_push b r (x ∷ events) ps = run_from_push b (turn b r x) events ps
+run_from_push b r (x ∷ events) ps = run_from_push b (event_done b r x) events ps
 
 pub run_of_none : (b : List ℕ) → run_of b [] ≡ start b
 unfolding run_of
 run_of_none b = refl
 
-pub run_of_push : (b : List ℕ) (events : List (List Act)) (ps : List Act) → run_of b (events ++ ps ∷ []) ≡ turn b (run_of b events) ps
+pub run_of_push : (b : List ℕ) (events : List (List Act)) (ps : List Act) → run_of b (events ++ ps ∷ []) ≡ event_done b (run_of b events) ps
 unfolding run_of
 run_of_push b events ps = run_from_push b (start b) events ps
 
@@ -29,13 +29,13 @@ pub floor_of_le : (b : List ℕ) (events : List (List Act)) (m : ℕ) → floor_
 floor_of_le b [] m = omega arith
 floor_of_le b (ps ∷ events) m = omega arith
 
-pub all_parts_floor : (b : List ℕ) (r : Run) (ps : List Act) → (all_parts b r ps).floor ≡ r.floor
-all_parts_floor b r [] = refl
-all_parts_floor b r (p ∷ ps) = all_parts_floor b (part b r p) ps
+pub all_acts_floor : (b : List ℕ) (r : Run) (ps : List Act) → (all_acts b r ps).floor ≡ r.floor
+all_acts_floor b r [] = refl
+all_acts_floor b r (p ∷ ps) = all_acts_floor b (act_done b r p) ps
 
-pub all_parts-append : (b : List ℕ) (r : Run) (xs ys : List Act) → all_parts b r (xs ++ ys) ≡ all_parts b (all_parts b r xs) ys
-all_parts-append b r [] ys = refl
-all_parts-append b r (x ∷ xs) ys = all_parts-append b (part b r x) xs ys
+pub all_acts-append : (b : List ℕ) (r : Run) (xs ys : List Act) → all_acts b r (xs ++ ys) ≡ all_acts b (all_acts b r xs) ys
+all_acts-append b r [] ys = refl
+all_acts-append b r (x ∷ xs) ys = all_acts-append b (act_done b r x) xs ys
 
 pub after-append : (b : List ℕ) (xs ys : List LineWrite) → after b (xs ++ ys) ≡ after (after b xs) ys
 after-append b [] ys = refl
@@ -66,18 +66,22 @@ extends_finish r s x = record { issued = x.issued; answers = x.answers }
 pub extends_then : (r s t : Run) → Extends r s → Extends s t → Extends r t
 extends_then r s t x y = record { issued = front_then r.issued s.issued t.issued x.issued y.issued; answers = front_then r.answers s.answers t.answers x.answers y.answers }
 
-extends_part : (b : List ℕ) (r : Run) (p : Act) → Extends r (part b r p)
-extends_part b r p = record {
+-- the answers of the next act
+abbrev pub answers_in : List ℕ → Run → Act → List Answer
+answers_in b r act = numbered (take_act b r act).machine (deliveries (did_in b r act).vehicle (did_in b r act).told)
+
+extends_act : (b : List ℕ) (r : Run) (p : Act) → Extends r (act_done b r p)
+extends_act b r p = record {
   issued = record { rest = (did_in b r p).writes; whole = refl };
-  answers = record { rest = numbered (did_in b r p).vehicle r.machine.sequences (deliveries_in b r p); whole = refl };
+  answers = record { rest = answers_in b r p; whole = refl };
 }
 
-pub extends_all : (b : List ℕ) (r : Run) (ps : List Act) → Extends r (all_parts b r ps)
+pub extends_all : (b : List ℕ) (r : Run) (ps : List Act) → Extends r (all_acts b r ps)
 extends_all b r [] = extends_same r
-extends_all b r (p ∷ ps) = extends_then r (part b r p) (all_parts b (part b r p) ps) (extends_part b r p) (extends_all b (part b r p) ps)
+extends_all b r (p ∷ ps) = extends_then r (act_done b r p) (all_acts b (act_done b r p) ps) (extends_act b r p) (extends_all b (act_done b r p) ps)
 
-pub extends_more : (b : List ℕ) (r : Run) (ps qs : List Act) → Extends (all_parts b r ps) (all_parts b r (ps ++ qs))
-extends_more b r ps qs = subst (Extends (all_parts b r ps)) (sym (all_parts-append b r ps qs)) (extends_all b (all_parts b r ps) qs)
+pub extends_more : (b : List ℕ) (r : Run) (ps qs : List Act) → Extends (all_acts b r ps) (all_acts b r (ps ++ qs))
+extends_more b r ps qs = subst (Extends (all_acts b r ps)) (sym (all_acts-append b r ps qs)) (extends_all b (all_acts b r ps) qs)
 
 take_front : {X : Type 0} (n : ℕ) (xs ys : List X) → (f : Front xs ys) → n ≤ length xs → take n ys ≡ take n xs
 take_front {X} n xs ys f le = ap (λ (l : List X). take n l) (sym f.whole) ∙ take-append-le n xs f.rest le
@@ -123,7 +127,7 @@ frames-append [] ys (f ∷ fs) gs a c = absurd a
 frames-append (x ∷ xs) ys [] gs a c = absurd a
 frames-append (x ∷ xs) ys (f ∷ fs) gs a c = (a.0, frames-append xs ys fs gs a.1 c)
 
--- all frames of a run, and some first ones behind them
+-- all frames of a run, and a prefix of those after them
 pub first_sent : (xs ys : List Answer) (fs gs : List SentFrame) → AreFramesOf xs fs → AreFramesOf (take (length gs) ys) gs → AreFramesOf (take (length (fs ++ gs)) (xs ++ ys)) (fs ++ gs)
 first_sent xs ys fs gs a c =
     let n : length (fs ++ gs) ≡ length xs + length gs = omega (arith, length-append fs gs, frames_long xs fs a) in

@@ -1,4 +1,4 @@
--- Whom the vehicle answers: the station of the part, or all.
+-- Whom the vehicle answers: the station of the act, or all.
 use Rattle.std.proofs.Common.{◌≡◌, ℕ, zero, suc, ◌<◌, length, get_or, arith, refl, true, false, List, [], ◌∷◌, ◌++◌, map, Option, Some, None, sym, subst}
 use Rattle.std.specs.Prelude.{slice_get, if◌then◌else◌}
 use Rattle.std.specs.List.{flat_map}
@@ -14,10 +14,10 @@ use Rattle.mav_messages.specs.declared.messages.To.{To}
 use Rattle.mav_messages.specs.declared.messages.To.TheVariants.{Station}
 use Rattle.mav_messages.specs.declared.messages.To.TheVariants as to
 use Rattle.mav_messages.specs.declared.messages.Reply.{Reply}
-use Rattle.vehicle_core.specs.Vehicle.{Vehicle, Parameters, Told, Alive, tells_value, is_heard}
-use Rattle.vehicle_core.specs.Acts.{Act, Said, Beat, Stream, did, nothing, by_parameters}
+use Rattle.vehicle_core.specs.Vehicle.{Vehicle, Asked, Parameters, Told, Alive, tells_value, is_heard, hears}
+use Rattle.vehicle_core.specs.Acts.{Act, Said, Beat, Stream, did, nothing, by_parameters, asked_of}
 use Rattle.vehicle_core.specs.Replies.{AreRepliesOf}
-use Rattle.vehicle_node.specs.Sending.{IsInside}
+use Rattle.vehicle_node.specs.Steps.Sending.{IsInside}
 
 abbrev pub AreTold : List Told → Type 0
 AreTold [] = Unit {0}
@@ -28,7 +28,7 @@ are-append [] ys front back = back
 are-append (x ∷ xs) ys front back = (front.0, are-append xs ys front.1 back)
 
 abbrev pub station_of : Act → ℕ
-station_of (Said station version_two asked) = station
+station_of (Said station heard) = station
 station_of (Beat station) = station
 station_of (Stream station) = station
 
@@ -50,13 +50,16 @@ answer_told bytes next_rows station (Show index) lt = row_told (Station station)
 answer_told bytes next_rows station ShowAll lt = tt
 answer_told bytes next_rows station (Set index number) lt = row_told to.All (after bytes (set_writes bytes index number)) index (slice_get vehicle_rows index) tt
 
-pub part_told : (bytes : List ℕ) (vehicle : Vehicle) (p : Act) → station_of p < 8 → AreTold (did bytes vehicle p).told
+asked_told : (bytes : List ℕ) (vehicle : Vehicle) (station : ℕ) (asked : Option Asked) → station < 8 → AreTold (asked_of bytes vehicle station asked).told
+asked_told bytes vehicle station None lt = tt
+asked_told bytes vehicle station (Some (Parameters request)) lt = answer_told bytes vehicle.next_rows station request lt
+
+pub act_told : (bytes : List ℕ) (vehicle : Vehicle) (p : Act) → station_of p < 8 → AreTold (did bytes vehicle p).told
 unfolding did
-part_told bytes vehicle (Said station version_two None) lt = tt
-part_told bytes vehicle (Said station version_two (Some (Parameters request))) lt = answer_told bytes vehicle.next_rows station request lt
-part_told bytes vehicle (Beat station) lt =
+act_told bytes vehicle (Said station heard) lt = asked_told bytes (hears vehicle station heard.v2) station heard.asked lt
+act_told bytes vehicle (Beat station) lt =
     elim (is_heard vehicle station) as (λ b. AreTold (if b then (let t : Told = record { to = Station station; content = Alive } in t ∷ []) else [])) [ true ↦ (lt, tt) | false ↦ tt ]
-part_told bytes vehicle (Stream station) lt =
+act_told bytes vehicle (Stream station) lt =
     elim (is_heard vehicle station) as (λ b. AreTold (if b then by_parameters vehicle (streamed bytes vehicle.next_rows station) else nothing vehicle).told) [
       | true ↦ rows_told (Station station) bytes (streamed_rows vehicle.next_rows station) lt
       | false ↦ tt

@@ -18,9 +18,12 @@ IsInRange End = Unit {0}
 
 -- every list of events in range can be read
 abbrev pub EventsAreRead : Type 0
-EventsAreRead = (events : List Received) → All IsInRange events → (parts : List (List Act)) × (rests : List (List ℕ)) × Reads no_rests events parts rests
+EventsAreRead = (events : List Received) → All IsInRange events → (acts : List (List Act))
+    × (rests : List (List ℕ)) × Reads no_rests events acts rests
 
 -- events are read in one way
 abbrev pub EventsAreReadOnce : Type 0
-EventsAreReadOnce = (events : List Received) (parts others : List (List Act)) (rests left : List (List ℕ))
-    → Reads no_rests events parts rests → Reads no_rests events others left → (parts ≡ others) × (rests ≡ left)
+EventsAreReadOnce = (events : List Received) (acts others : List (List Act))
+    (rests left : List (List ℕ))
+    → Reads no_rests events acts rests → Reads no_rests events others left
+    → (acts ≡ others) × (rests ≡ left)

@@ -3,10 +3,7 @@ pub mod Reading
 pub mod Runs
 pub mod Safe
 pub mod Standing
+pub mod Guard
 pub mod Refusals
-pub mod Inside
-pub mod Answering
-pub mod Hearing
 pub mod Laws
-pub mod Opening
-pub mod Sending
+pub mod Steps

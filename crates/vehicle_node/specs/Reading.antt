@@ -1,5 +1,5 @@
--- How events are read: the bytes of each station are one stream, whatever the borders of its datagrams, and each right
--- frame in it has a message.
+-- How events are read: the bytes of each station are one stream, whatever the borders of its
+-- datagrams, and each right frame in it has a message.
 use Rattle.std.specs.Prelude.{◌≡◌, ◌⊎◌, ℕ, List, [], ◌∷◌, ◌++◌, map, replicate, Option, Some, slice_get, slice_set}
 use Rattle.flash_traits.specs.Losses.{Received, Datagram, Idle, End}
 use Rattle.mav_messages.specs.declared.messages.Message.{Message}
@@ -7,7 +7,7 @@ use Rattle.mav_messages.specs.Messages.{FitsTypes}
 use Rattle.mav_frames.specs.Cut.{Piece, Cut, frames_in}
 use Rattle.mav_frames.specs.Frames.{IsMessageOf, is_v2}
 use Rattle.vehicle_core.specs.Vehicle.{Asked, Asks}
-use Rattle.vehicle_core.specs.Acts.{Act, Said, Beat, Stream}
+use Rattle.vehicle_core.specs.Acts.{Act, heard_as, Said, Beat, Stream}
 use Rattle.vehicle_node.specs.Frames.{stations}
 
 -- the bytes of each station that don't make a whole frame yet; none at the start
@@ -27,12 +27,13 @@ pub record Says (bytes : List ℕ) (asked : Option Asked) : Type 0 where
 
 -- what a station says by these frames, in order
 abbrev pub AreSaid : ℕ → List (List ℕ) → List Act → Type 0
-AreSaid station [] parts = parts ≡ []
-AreSaid station (bytes ∷ frames) parts =
-    (IsSilent bytes × AreSaid station frames parts)
-    ⊎ ((asked : Option Asked) × (more : List Act) × Says bytes asked × AreSaid station frames more × (parts ≡ Said station (is_v2 bytes) asked ∷ more))
+AreSaid station [] acts = acts ≡ []
+AreSaid station (bytes ∷ frames) acts =
+    (IsSilent bytes × AreSaid station frames acts)
+    ⊎ ((asked : Option Asked) × (more : List Act) × Says bytes asked × AreSaid station frames more
+    × (acts ≡ Said station (heard_as (is_v2 bytes) asked) ∷ more))
 
--- behind the messages of an event each station's list goes on
+-- after the messages of an event each station's list goes on
 abbrev pub streams : List Act
 streams = map Stream stations
 
@@ -41,7 +42,8 @@ abbrev pub beats : List Act
 beats = map Beat stations
 
 -- A datagram lengthens its station's stream.
-pub record IsDatagram (station : ℕ) (bytes : List ℕ) (old : List (List ℕ)) (parts : List Act) (new : List (List ℕ)) : Type 0 where
+pub record IsDatagram (station : ℕ) (bytes : List ℕ) (old : List (List ℕ)) (acts : List Act)
+    (new : List (List ℕ)) : Type 0 where
   pub rest : List ℕ
   pub rest_is : slice_get old station ≡ Some rest
   pub pieces : List Piece
@@ -49,16 +51,18 @@ pub record IsDatagram (station : ℕ) (bytes : List ℕ) (old : List (List ℕ))
   pub cut : Cut (rest ++ bytes) pieces new_rest
   pub said : List Act
   pub are_said : AreSaid station (frames_in pieces) said
-  pub parts_are : parts ≡ said ++ streams
+  pub acts_are : acts ≡ said ++ streams
   pub new_is : new ≡ slice_set old station new_rest
 
--- the parts of an event, and each station's rest before and behind it
+-- the acts of an event, and each station's rest before and after it
 abbrev pub IsEvent : List (List ℕ) → Received → List Act → List (List ℕ) → Type 0
-IsEvent old (Datagram station bytes) parts new = IsDatagram station bytes old parts new
-IsEvent old Idle parts new = (parts ≡ beats ++ streams) × (new ≡ old)
-IsEvent old End parts new = (parts ≡ []) × (new ≡ old)
+IsEvent old (Datagram station bytes) acts new = IsDatagram station bytes old acts new
+IsEvent old Idle acts new = (acts ≡ beats ++ streams) × (new ≡ old)
+IsEvent old End acts new = (acts ≡ []) × (new ≡ old)
 
--- the parts of each of these events, one after another
+-- the acts of each of these events, one after another
 abbrev pub Reads : List (List ℕ) → List Received → List (List Act) → List (List ℕ) → Type 0
 Reads old [] events new = (events ≡ []) × (new ≡ old)
-Reads old (e ∷ es) events new = (parts : List Act) × (mid : List (List ℕ)) × (more : List (List Act)) × IsEvent old e parts mid × Reads mid es more new × (events ≡ parts ∷ more)
+Reads old (e ∷ es) events new =
+    (acts : List Act) × (mid : List (List ℕ)) × (more : List (List Act))
+    × IsEvent old e acts mid × Reads mid es more new × (events ≡ acts ∷ more)

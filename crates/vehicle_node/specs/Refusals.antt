@@ -1,6 +1,8 @@
 -- What the refusals say.
-use Rattle.std.specs.Prelude.{ℕ}
+use Rattle.std.specs.Prelude.{◌≡◌, ℕ, Result, IfOk, IfErr}
+use Rattle.flash_traits.specs.declared.board.Board.{Ghosts}
 use Rattle.flash_traits.specs.declared.board.Fault.{Fault}
+use Rattle.flash_traits.specs.declared.board.Fault.TheVariants.{Read}
 use Rattle.sector_image.specs.FirstBad.{Place, place_of}
 use Rattle.vehicle_node.specs.declared.NodeError.{NodeError}
 use Rattle.vehicle_node.specs.declared.NodeError.TheVariants as node_error
@@ -32,3 +34,11 @@ OnWorn node_error.Memory P = Unit {0}
 OnWorn (node_error.Fault kind) P = Unit {0}
 OnWorn (node_error.Foreign region offset word) P = Unit {0}
 OnWorn (node_error.Worn count) P = P count
+
+-- Moment and words are as they were, nothing is opened, and a fault is one of reading.
+pub record LeavesAlone {B T : Type 0} (g : Ghosts B) (old new : B) (result : Result T NodeError)
+    : Type 0 where
+  pub moment : g.moment new ≡ g.moment old
+  pub words : g.words new ≡ g.words old
+  pub refused : IfOk result (λ answer. ⊥)
+  pub read : IfErr result (λ e. OnFault e (λ kind. kind ≡ Read))

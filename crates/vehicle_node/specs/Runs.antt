@@ -1,5 +1,6 @@
--- A run of the vehicle machine: what it issues and sends, event by event, and what must be flushed by then.
-use Rattle.std.specs.Prelude.{ℕ, ◌+◌, min, List, [], ◌∷◌, ◌++◌, length, take, replicate, if◌then◌else◌}
+-- A run of the vehicle machine: what it issues and sends, event by event, and what must be flushed
+-- by then.
+use Rattle.std.specs.Prelude.{ℕ, ◌+◌, min, List, [], ◌∷◌, ◌++◌, length, take, if◌then◌else◌}
 use Rattle.std.specs.Str.{bytes_eq}
 use Rattle.storage_lines.specs.declared.areas.Area.TheVariants.{Param}
 use Rattle.storage_lines.specs.declared.lines.LineWrite.{LineWrite}
@@ -8,20 +9,12 @@ use Rattle.storage_lines.specs.Lines.{after}
 use Rattle.storage_lines.specs.Pieces.{writes_of}
 use Rattle.param_records.specs.Records.{magic}
 use Rattle.param_records.specs.Changes.{formatting}
-use Rattle.vehicle_core.specs.Vehicle.{Vehicle, new_vehicle}
+use Rattle.vehicle_core.specs.Vehicle.{Told}
 use Rattle.vehicle_core.specs.Acts.{Act, Did, did}
-use Rattle.vehicle_node.specs.Frames.{Answer, Delivery, deliveries, numbered, counted_all}
+use Rattle.vehicle_node.specs.Frames.{Machine, new_machine, Answer, deliveries, numbered, counted_all}
 
--- the machine: the vehicle's state, and each station's next sequence number
-pub record Machine : Type 0 where
-  pub vehicle : Vehicle
-  pub sequences : List ℕ
-
-abbrev pub new_machine : Machine
-new_machine = record { vehicle = new_vehicle; sequences = replicate 8 0 }
-
--- What has happened so far: the machine, the lines issued, the answers given, and how many of these lines were flushed
--- for certain when the last event was finished.
+-- What has happened so far: the machine, the lines issued, the answers given, and how many of these
+-- lines were flushed for certain when the last event was finished.
 pub record Run : Type 0 where
   pub machine : Machine
   pub issued : List LineWrite
@@ -30,35 +23,52 @@ pub record Run : Type 0 where
 
 -- what the vehicle does next: its current bytes are those of the start with all lines issued so far
 abbrev pub did_in : List ℕ → Run → Act → Did
-did_in b r p = did (after b r.issued) r.machine.vehicle p
+did_in b r act = did (after b r.issued) r.machine.vehicle act
 
-abbrev pub deliveries_in : List ℕ → Run → Act → List Delivery
-deliveries_in b r p = deliveries (did_in b r p).vehicle (did_in b r p).told
-
--- one part more
-abbrev pub part : List ℕ → Run → Act → Run
-part b r p = record {
-  machine = record { vehicle = (did_in b r p).vehicle; sequences = counted_all r.machine.sequences (deliveries_in b r p) };
-  issued = r.issued ++ (did_in b r p).writes;
-  answers = r.answers ++ numbered (did_in b r p).vehicle r.machine.sequences (deliveries_in b r p);
-  floor = r.floor;
+-- an act is taken: the vehicle's state is the one after it, and its lines are issued
+abbrev pub take_act : List ℕ → Run → Act → Run
+take_act b r act = record r {
+  machine = record r.machine { vehicle = (did_in b r act).vehicle };
+  issued = r.issued ++ (did_in b r act).writes;
 }
 
-abbrev pub all_parts : List ℕ → Run → List Act → Run
-all_parts b r [] = r
-all_parts b r (p ∷ ps) = all_parts b (part b r p) ps
+-- what is told goes to its stations, as frames with numbers
+abbrev pub tell : Run → List Told → Run
+tell r told = record r {
+  machine = counted_all r.machine (deliveries r.machine.vehicle told);
+  answers = r.answers ++ numbered r.machine (deliveries r.machine.vehicle told);
+}
+
+-- one act more: it is taken, and then told
+abbrev pub act_done : List ℕ → Run → Act → Run
+act_done b r act = tell (take_act b r act) (did_in b r act).told
+
+abbrev pub all_acts : List ℕ → Run → List Act → Run
+all_acts b r [] = r
+all_acts b r (act ∷ acts) = all_acts b (act_done b r act) acts
 
 -- the event is finished: eight lines more are flushed, or all
 abbrev pub finish : Run → Run
-finish r = record { machine = r.machine; issued = r.issued; answers = r.answers; floor = min (length r.issued) (r.floor + 8) }
+finish r = record r { floor = min (length r.issued) (r.floor + 8) }
 
 -- one event more
-abbrev pub turn : List ℕ → Run → List Act → Run
-turn b r ps = finish (all_parts b r ps)
+abbrev pub event_done : List ℕ → Run → List Act → Run
+event_done b r acts = finish (all_acts b r acts)
 
--- the lines of boot: the formatting, where the parameter storage doesn't begin with its magic
+-- The lines of boot are those of its steps in order, each over the bytes with the lines before. The
+-- one step is the formatting, where the parameter storage doesn't begin with its magic.
+abbrev pub BootStep : Type 0
+BootStep = List ℕ → List LineWrite
+
+abbrev pub format_step : BootStep
+format_step b = if bytes_eq (take 4 (logical_of Param b)) magic then [] else writes_of b formatting
+
+abbrev pub boot_steps : List BootStep → List ℕ → List LineWrite
+boot_steps [] b = []
+boot_steps (step ∷ steps) b = step b ++ boot_steps steps (after b (step b))
+
 unfoldable pub boot : List ℕ → List LineWrite
-boot b = if bytes_eq (take 4 (logical_of Param b)) magic then [] else writes_of b formatting
+boot b = boot_steps (format_step ∷ []) b
 
 -- at the start the lines of boot are issued and flushed
 abbrev pub start : List ℕ → Run
@@ -66,13 +76,14 @@ start b = record { machine = new_machine; issued = boot b; answers = []; floor =
 
 abbrev pub run_from : List ℕ → Run → List (List Act) → Run
 run_from b r [] = r
-run_from b r (ps ∷ events) = run_from b (turn b r ps) events
+run_from b r (acts ∷ events) = run_from b (event_done b r acts) events
 
--- the whole run from these storage bytes, by the parts of each event
+-- the whole run from these storage bytes, by the acts of each event
 unfoldable pub run_of : List ℕ → List (List Act) → Run
 run_of b events = run_from b (start b) events
 
--- how many lines were flushed for certain when the first m of these events were finished: none before the first is received
+-- how many lines were flushed for certain when the first m of these events were finished: none
+-- before the first is received
 abbrev pub floor_of : List ℕ → List (List Act) → ℕ → ℕ
 floor_of b [] m = 0
-floor_of b (ps ∷ events) m = (run_of b (take m (ps ∷ events))).floor
+floor_of b (acts ∷ events) m = (run_of b (take m (acts ∷ events))).floor

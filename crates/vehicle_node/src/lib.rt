@@ -1,25 +1,32 @@
 //! A node: the vehicle machine over a board, with its lines pending until they are put.
 //!
-//! A loss of power at any moment leaves the storage bytes after a first part of the issued lines, which has every flushed
-//! one, and the frames that were sent are the first answers of the vehicle machine.
+//! A loss of power at any moment leaves the storage bytes after a prefix of the issued lines, which
+//! has every flushed one, and the frames that were sent are a prefix of the answers of the vehicle
+//! machine.
 #![tactic(auto)]
 
-ghost use Rattle.std.specs.Prelude.{◌≡◌, ◌⊎◌, ◌+◌, ◌≤◌, ◌↔◌, ◌++◌, [], List, ℕ, length, IfOk, IfErr, OnOk, IsTrue};
+ghost use Rattle.std.specs.Prelude.{◌≡◌, ◌⊎◌, ◌+◌, ◌≤◌, ◌↔◌, ◌++◌, [], List, ℕ, length, Option, IfOk, IfErr, OnOk, OnErr, IsTrue, option_to_list};
+ghost use Rattle.flash_traits.specs.declared.numbers.TheConstants.{GUARD_HALFWORDS, DATAGRAM_BYTES};
 ghost use Rattle.flash_traits.specs.Words.{IsSectorSize};
 ghost use Rattle.flash_traits.specs.declared.board.Fault.{Fault};
 ghost use Rattle.flash_traits.specs.declared.board.Fault.TheVariants.{Read, Flash, Recv, Send};
 ghost use Rattle.flash_traits.specs.Losses.{Received, received, End, SentFrame, Outcome, After, ByResult};
 ghost use Rattle.flash_traits.specs.Calls.{Passes};
 ghost use Rattle.flash_traits.specs.Causes.{Rose};
+ghost use Rattle.guard_row.specs.Row.{IsGuardRow};
 ghost use Rattle.storage_lines.specs.Lines.{after};
 ghost use Rattle.sector_image.specs.FirstBad.{FirstBad};
-ghost use Rattle.sector_image.specs.Stands.{Stands, Reads, is_due, count_in};
+ghost use Rattle.sector_image.specs.Stands.{Stands, Reads, is_due, count_in, IsUsedUp};
 ghost use Rattle.block_store.specs.Refusals.{IsWorn};
+ghost use Rattle.dirty_lines.specs.Lines.{Lines};
+ghost use Rattle.dirty_lines.specs.Losses.{IsWornForNext};
 ghost use Rattle.vehicle_node.specs.Runs.{Run};
 ghost use Rattle.vehicle_node.specs.Safe.{SafeSince, Adds};
-ghost use Rattle.vehicle_node.specs.Standing.{Fits, StandsAt, StandsForRun, Finished, Node};
-ghost use Rattle.vehicle_node.specs.Answering.{FlushDone};
-ghost use Rattle.vehicle_node.specs.Refusals.{OnMemory, OnFault, OnForeign, OnWorn};
+ghost use Rattle.vehicle_node.specs.Standing.{Fits, IsAlone, StandsAt, StandsForRun, StaysWithin, Finished, Node};
+ghost use Rattle.vehicle_node.specs.Guard.{RisesWithin};
+ghost use Rattle.vehicle_node.specs.Refusals.{OnMemory, OnFault, OnForeign, OnWorn, LeavesAlone};
+ghost use Rattle.vehicle_node.specs.Steps.Calls.{Keeps, OfFlash};
+ghost use Rattle.vehicle_node.specs.Steps.Answering.{FlushDone};
 
 mod answering;
 mod hearing;
@@ -27,13 +34,18 @@ mod laws;
 mod opening;
 
 use crate::opening::{booted, error_of};
-use dirty_lines::DirtyLines;
+use dirty_lines::{DirtyLines, PENDING_LINES};
 use flash_traits::{Board, Event, Fault, Region};
 pub use laws::{events_are_read, events_are_read_once, frames_are_read};
 use mav_frames::Cutter;
 use std::alloc::Global;
 use std::marker::Model;
+use storage_lines::BATCH_LINES;
 use vehicle_core::Core;
+
+/// The most pending lines with which the lines of any change are issued; where there are more, some
+/// are put before.
+pub const ROOM_FROM: usize = PENDING_LINES - BATCH_LINES;
 
 /// Why a node stopped. It is then dropped, and the board is to be opened again.
 #[derive(Clone, Copy, Debug, PartialEq, Eq)]
@@ -61,7 +73,8 @@ pub enum Turn {
     End,
 }
 
-/// A vehicle over a board. Every call takes the board of the opening, which nobody else changes in between.
+/// A vehicle over a board. Every call takes the board of the opening, which nobody else changes in
+/// between.
 #[derive(Drop)]
 pub struct Node {
     pub(crate) lines: DirtyLines,
@@ -74,7 +87,7 @@ pub struct Node {
 
 impl Model for Node {
     ghost use Rattle.vehicle_node.specs.Standing.{Node};
-    ghost use Rattle.vehicle_node.specs.Inside.{view_of};
+    ghost use Rattle.vehicle_node.specs.Steps.Inside.{view_of};
 
     ghost Value = { Node };
 
@@ -91,27 +104,56 @@ fn turn_of(event: Event) -> Turn
 }
 
 impl Node {
-    /// Recovers the image, issues the lines of boot and flushes them. All memory is taken before the first call of the
-    /// board.
+    /// Recovers the image, issues the lines of boot and flushes them. All memory is taken before
+    /// the first call of the board.
     pub fn open<B: Board>(alloc: Global, board: &mut B) -> Result<Node, NodeError>
         requires attached { IsSectorSize (B.sector_bytes board.old) }
 
         ensures fits { IfOk result (λ node. Fits B.Board board.new node) }
-        ensures stands { IfOk result (λ node. B.tells board.new → (b : List ℕ) → Stands (B.words board.old) b → StandsForRun node b [] [] 0) }
-        ensures lists { (e : List Received) (f : List SentFrame) → B.has_lists board.old e f → B.has_lists board.new e f }
-        ensures losses { (b : List ℕ) → (B.tells board.old → Stands (B.words board.old) b) → Passes B.Board board.old board.new (SafeSince b [] [] 0) (SafeSince b [] [] 0) }
-        ensures here { OnOk result ((o : Outcome) → B.now board.new o → After (B.now board.old) (Adds [] []) o) }
+        ensures alone { IfOk result IsAlone }
+        ensures stands { IfOk result (λ node. B.tells board.new → (b : List ℕ) →
+            Stands (B.words board.old) b →
+            StandsForRun node b [] [] 0) }
+        ensures lists { (e : List Received) (f : List SentFrame) → B.has_lists board.old e f →
+            B.has_lists board.new e f }
+        ensures losses { (b : List ℕ) → (B.tells board.old → Stands (B.words board.old) b) →
+            Passes B.Board board.old board.new (SafeSince b [] [] 0) (SafeSince b [] [] 0) }
+        ensures here { OnOk result ((o : Outcome) → B.now board.new o →
+            After (B.now board.old) (Adds [] []) o) }
         ensures geometry { B.sector_bytes board.new ≡ B.sector_bytes board.old }
         ensures told { B.tells board.new → B.tells board.old }
 
-        ensures foreign { IfErr result (λ e. OnForeign e (λ place. B.tells board.new → FirstBad (B.words board.old) place)) }
-        ensures foreign_idle { IfErr result (λ e. OnForeign e (λ place. B.moment board.new ≡ B.moment board.old)) }
-        ensures not_foreign { OnOk result (B.tells board.new → (b : List ℕ) × Stands (B.words board.old) b) }
-        ensures worn { IfErr result (λ e. OnWorn e (λ count. (count ≡ 8192) × (bytes : _) × IsWorn B.Board board.new bytes)) }
-        ensures worn_image { IfErr result (λ e. OnWorn e (λ count. B.tells board.new → (b : List ℕ) × Stands (B.words board.old) b)) }
-        ensures used_up { B.tells board.new → (reading : _) → Reads (B.words board.old) reading → IsTrue (is_due reading) → count_in reading ≡ 8192 → IfOk result (λ _. ⊥) }
+        // the guard count rises by at most two, and by two for each line of boot
+        ensures guard { (count : ℕ) (b : List ℕ) →
+            (B.tells board.old → IsGuardRow (B.words board.old).guard count ×
+            Stands (B.words board.old) b) →
+            Passes B.Board board.old board.new (RisesWithin count b []) (RisesWithin count b []) }
+        ensures within { IfOk result (λ node. B.tells board.new → (count : ℕ) (b : List ℕ) →
+            IsGuardRow (B.words board.old).guard count → Stands (B.words board.old) b →
+            StaysWithin count node b [] [] 0) }
+
+        // words that are no image are left alone
+        ensures left_alone { B.tells board.new → (place : _) → FirstBad (B.words board.old) place →
+            LeavesAlone B.Board board.old board.new result }
+        ensures foreign { IfErr result (λ e. OnForeign e (λ place. B.tells board.new →
+            FirstBad (B.words board.old) place)) }
+        ensures foreign_idle { IfErr result (λ e. OnForeign e
+            (λ place. B.moment board.new ≡ B.moment board.old)) }
+        ensures not_foreign { OnOk result (B.tells board.new → (b : List ℕ) ×
+            Stands (B.words board.old) b) }
+        ensures worn { IfErr result (λ e. OnWorn e (λ count. (count ≡ GUARD_HALFWORDS) ×
+            (bytes : _) × IsWorn B.Board board.new bytes)) }
+        ensures worn_where { IfErr result (λ e. OnWorn e (λ count.
+            (B.tells board.new → IsUsedUp (B.words board.old))
+            ⊎ ((lines : Lines) × IsWornForNext B.Board board.new lines))) }
+        ensures worn_image { IfErr result (λ e. OnWorn e (λ count. B.tells board.new →
+            (b : List ℕ) × Stands (B.words board.old) b)) }
+        ensures used_up { B.tells board.new → (reading : _) → Reads (B.words board.old) reading →
+            IsTrue (is_due reading) →
+            count_in reading ≡ GUARD_HALFWORDS → IfOk result (λ _. ⊥) }
         ensures memory { IfErr result (λ e. OnMemory e (board.new ≡ board.old)) }
-        ensures fault { IfErr result (λ e. OnFault e (λ kind. (kind ≡ Read ⊎ kind ≡ Flash) × Rose (B.faults board.old kind) (B.faults board.new kind))) }
+        ensures fault { IfErr result (λ e. OnFault e (λ kind. (kind ≡ Read ⊎ kind ≡ Flash) ×
+            Rose (B.faults board.old kind) (B.faults board.new kind))) }
         ensures counts { (k : Fault) → B.faults board.old k ≤ B.faults board.new k }
     {
         let lines = match DirtyLines::open(alloc, board) {
@@ -123,31 +165,54 @@ impl Node {
         Ok(node)
     }
 
-    /// Receives one event and finishes it: each right frame is answered at once, then the lists go on, and then at least
-    /// eight pending lines are put, or all.
-    pub fn event<B: Board>(&mut self, board: &mut B) -> Result<Turn, NodeError>
+    /// Receives one event into the buffer of 2,048 bytes and finishes it: each right frame is
+    /// answered at once, then the lists go on, and then at least eight pending lines are put, or
+    /// all.
+    pub fn event<B: Board>(&mut self, board: &mut B, buffer: &mut [u8]) -> Result<Turn, NodeError>
         requires fits { Fits B.Board board.old self.old }
+        requires room { length buffer.old ≡ DATAGRAM_BYTES }
 
         ensures fits { OnOk result (Fits B.Board board.new self.new) }
-        ensures finished { IfOk result (λ turn. Finished B.Board self.old board.old self.new board.new turn) }
-        ensures losses { (b : List ℕ) (events : List Received) (frames : List SentFrame) (m : ℕ) → (B.tells board.old → StandsForRun self.old b events frames m) →
-            Passes B.Board board.old board.new (SafeSince b events frames m) (ByResult result (SafeSince b events frames (m + 1)) (SafeSince b events frames m)) }
+        ensures alone { OnOk result (IsAlone self.old → IsAlone self.new) }
+        ensures finished { IfOk result (λ turn. Finished B.Board
+            self.old board.old self.new board.new turn) }
+        ensures losses { (b : List ℕ) (events : List Received) (frames : List SentFrame) (m : ℕ) →
+            (B.tells board.old → StandsForRun self.old b events frames m) →
+            Passes B.Board board.old board.new (SafeSince b events frames m)
+            (ByResult result (SafeSince b events frames (m + 1)) (SafeSince b events frames m)) }
         ensures geometry { B.sector_bytes board.new ≡ B.sector_bytes board.old }
         ensures told { B.tells board.new → B.tells board.old }
 
+        // the guard count rises by at most two for each line issued
+        ensures guard { (count : ℕ) (b : List ℕ) (events : List Received) (frames : List SentFrame)
+            (m : ℕ) →
+            (B.tells board.old → StaysWithin count self.old b events frames m) →
+            Passes B.Board board.old board.new (RisesWithin count b events)
+            (RisesWithin count b events) }
+
+        // an event that was cut short was received or not, and some frames were sent
+        ensures cut_lists { OnErr result ((e : List Received) (f : List SentFrame) →
+            B.has_lists board.old e f →
+            (event : Option Received) × (sent : List SentFrame) ×
+            B.has_lists board.new (e ++ option_to_list event) (f ++ sent)) }
+
         ensures never_memory { IfErr result (λ e. OnMemory e ⊥) }
         ensures never_foreign { IfErr result (λ e. OnForeign e (λ place. ⊥)) }
-        ensures worn { IfErr result (λ e. OnWorn e (λ count. (count ≡ 8192) × (bytes : _) × IsWorn B.Board board.new bytes)) }
-        ensures fault { IfErr result (λ e. OnFault e (λ kind. (kind ≡ Read ⊎ (kind ≡ Flash ⊎ (kind ≡ Recv ⊎ kind ≡ Send))) × Rose (B.faults board.old kind) (B.faults board.new kind))) }
+        ensures worn { IfErr result (λ e. OnWorn e (λ count. (count ≡ GUARD_HALFWORDS) ×
+            (bytes : _) × IsWorn B.Board board.new bytes)) }
+        ensures worn_next { IfErr result (λ e. OnWorn e (λ count. IsAlone self.old →
+            IsWornForNext B.Board board.new self.new.lines)) }
+        ensures fault { IfErr result (λ e. OnFault e (λ kind. (kind ≡ Read ⊎ (kind ≡ Flash ⊎
+            (kind ≡ Recv ⊎ kind ≡ Send))) ×
+            Rose (B.faults board.old kind) (B.faults board.new kind))) }
         ensures counts { (k : Fault) → B.faults board.old k ≤ B.faults board.new k }
     {
         frames_are_read();
-        let mut buffer = [0; 2048];
-        let event = match board.recv(&mut buffer) {
+        let event = match board.recv(buffer) {
             Ok(event) => event,
             Err(_) => return Err(NodeError::Fault(Fault::Recv)),
         };
-        self.answer_event(board, event, &buffer)?;
+        self.answer_event(board, event, buffer)?;
         self.flush(board, 8)?;
         Ok(turn_of(event))
     }
@@ -156,35 +221,47 @@ impl Node {
     pub fn close<B: Board>(mut self, board: &mut B) -> Result<(), NodeError>
         requires fits { Fits B.Board board.old self }
 
-        ensures done { OnOk result (B.tells board.new → (b : List ℕ) (r : Run) (frames : List SentFrame) → StandsAt self b r frames → Stands (B.words board.new) (after b r.issued)) }
-        ensures lists { (e : List Received) (f : List SentFrame) → B.has_lists board.old e f → B.has_lists board.new e f }
-        ensures losses { (b : List ℕ) (events : List Received) (frames : List SentFrame) (m : ℕ) → (B.tells board.old → StandsForRun self b events frames m) →
-            Passes B.Board board.old board.new (SafeSince b events frames m) (SafeSince b events frames m) }
+        ensures done { OnOk result (B.tells board.new →
+            (b : List ℕ) (r : Run) (frames : List SentFrame) →
+            StandsAt self b r frames → Stands (B.words board.new) (after b r.issued)) }
+        ensures lists { (e : List Received) (f : List SentFrame) → B.has_lists board.old e f →
+            B.has_lists board.new e f }
+        ensures losses { (b : List ℕ) (events : List Received) (frames : List SentFrame) (m : ℕ) →
+            (B.tells board.old → StandsForRun self b events frames m) →
+            Passes B.Board board.old board.new (SafeSince b events frames m)
+            (SafeSince b events frames m) }
         ensures geometry { B.sector_bytes board.new ≡ B.sector_bytes board.old }
         ensures told { B.tells board.new → B.tells board.old }
 
+        // the guard count rises by at most two for each line that was pending
+        ensures guard { (count : ℕ) (b : List ℕ) (events : List Received) (frames : List SentFrame)
+            (m : ℕ) →
+            (B.tells board.old → StaysWithin count self b events frames m) →
+            Passes B.Board board.old board.new (RisesWithin count b events)
+            (RisesWithin count b events) }
+
         ensures never_memory { IfErr result (λ e. OnMemory e ⊥) }
         ensures never_foreign { IfErr result (λ e. OnForeign e (λ place. ⊥)) }
-        ensures worn { IfErr result (λ e. OnWorn e (λ count. (count ≡ 8192) × (bytes : _) × IsWorn B.Board board.new bytes)) }
-        ensures fault { IfErr result (λ e. OnFault e (λ kind. (kind ≡ Read ⊎ kind ≡ Flash) × Rose (B.faults board.old kind) (B.faults board.new kind))) }
+        ensures worn { IfErr result (λ e. OnWorn e (λ count. (count ≡ GUARD_HALFWORDS) ×
+            (bytes : _) × IsWorn B.Board board.new bytes)) }
+        ensures worn_next { IfErr result (λ e. OnWorn e (λ count. IsAlone self →
+            (lines : Lines) × IsWornForNext B.Board board.new lines)) }
+        ensures fault { IfErr result (λ e. OnFault e (λ kind. (kind ≡ Read ⊎ kind ≡ Flash) ×
+            Rose (B.faults board.old kind) (B.faults board.new kind))) }
         ensures counts { (k : Fault) → B.faults board.old k ≤ B.faults board.new k }
     {
         self.flush_all(board)
     }
 
-    // Puts all pending lines.
+    /// Puts all pending lines.
     fn flush_all<B: Board>(&mut self, board: &mut B) -> Result<(), NodeError>
         requires fits { Fits B.Board board.old self.old }
-        ensures done { FlushDone B.Board (length self.old.lines.pending) self.old board.old result self.new board.new }
+        ensures done { FlushDone B.Board (length self.old.lines.pending)
+            self.old board.old result self.new board.new }
         ensures nothing { OnOk result (self.new.lines.pending ≡ []) }
-        ensures fits { OnOk result (Fits B.Board board.new self.new) }
-        ensures geometry { B.sector_bytes board.new ≡ B.sector_bytes board.old }
-        ensures told { B.tells board.new → B.tells board.old }
-        ensures never_memory { IfErr result (λ e. OnMemory e ⊥) }
-        ensures never_foreign { IfErr result (λ e. OnForeign e (λ place. ⊥)) }
-        ensures worn { IfErr result (λ e. OnWorn e (λ count. (count ≡ 8192) × (bytes : _) × IsWorn B.Board board.new bytes)) }
-        ensures fault { IfErr result (λ e. OnFault e (λ kind. (kind ≡ Read ⊎ kind ≡ Flash) × Rose (B.faults board.old kind) (B.faults board.new kind))) }
-        ensures counts { (k : Fault) → B.faults board.old k ≤ B.faults board.new k }
+        ensures lists { (e : List Received) (f : List SentFrame) → B.has_lists board.old e f →
+            B.has_lists board.new e f }
+        ensures keeps { Keeps B.Board OfFlash self.old board.old result self.new board.new }
     {
         let pending = self.lines.pending();
         self.flush(board, pending)

@@ -1,10 +1,10 @@
-// The opening of a node: the lines of boot are issued.
+//! The opening of a node: the lines of boot are issued before anything is heard or sent.
 ghost use Rattle.std.specs.Prelude.{◌≡◌, [], length};
 ghost use Rattle.block_store.specs.Store.{durable_of};
 ghost use Rattle.dirty_lines.specs.Lines.{lines_of};
 ghost use Rattle.vehicle_node.specs.Runs.{boot};
 ghost use Rattle.vehicle_node.specs.Standing.{counts};
-ghost use Rattle.vehicle_node.specs.Opening.{error_of, IsBooted};
+ghost use Rattle.vehicle_node.specs.Steps.Opening.{error_of, IsBooted};
 
 use crate::{Node, NodeError};
 use block_store::OpenError;
@@ -33,7 +33,7 @@ pub(crate) fn error_of(error: OpenError) -> NodeError
     }
 }
 
-// Issues the lines of boot, and says how many they are.
+/// Issues the lines of boot, and says how many they are.
 fn issue_boot(lines: &mut DirtyLines) -> u64
     requires nothing { lines.old.pending ≡ [] }
     ensures lines { lines.new ≡ lines_of lines.old.store (boot (durable_of lines.old.store)) }

@@ -1,18 +1,15 @@
-// Replies sent as frames.
-ghost use Rattle.std.specs.Prelude.{◌≡◌, ◌<◌, ◌≤◌, [], ◌∷◌, List, All, IfErr};
+//! Replies sent as frames, each with its station's version and next number.
+ghost use Rattle.std.specs.Prelude.{◌≡◌, ◌<◌, [], ◌∷◌, List, All};
+ghost use Rattle.flash_traits.specs.declared.numbers.TheConstants.{STATIONS};
 ghost use Rattle.flash_traits.specs.Words.{IsSectorSize};
-ghost use Rattle.flash_traits.specs.declared.board.Fault.{Fault};
-ghost use Rattle.flash_traits.specs.declared.board.Fault.TheVariants.{Send};
-ghost use Rattle.flash_traits.specs.Losses.{KeepsWords};
-ghost use Rattle.flash_traits.specs.Causes.{Rose};
 ghost use Rattle.vehicle_core.specs.Vehicle.{Content, Told};
 ghost use Rattle.vehicle_core.specs.Replies.{Tells, IsReplyOf, AreRepliesOf};
 ghost use Rattle.vehicle_node.specs.Frames.{stations, deliveries_of, deliveries};
-ghost use Rattle.vehicle_node.specs.Sending.{IsInside, SendDone, delivery, deliveries_to, Counted};
-ghost use Rattle.vehicle_node.specs.Refusals.{OnMemory, OnFault, OnForeign, OnWorn};
+ghost use Rattle.vehicle_node.specs.Steps.Calls.{KeepsLines};
+ghost use Rattle.vehicle_node.specs.Steps.Sending.{IsInside, SendDone, delivery, deliveries_to, Counted};
 
 use crate::{Node, NodeError};
-use flash_traits::{Board, Fault};
+use flash_traits::{Board, Fault, STATIONS};
 use mav_frames::write_frame;
 use mav_messages::{Message, Replies, Reply, To};
 
@@ -24,7 +21,7 @@ const COMPONENT: u8 = 1;
 impl Node {
     /// A frame was sent to a station.
     fn count_frame(&mut self, station: u8)
-        requires station { station < 8 }
+        requires station { station < STATIONS }
         ensures { Counted station self.old self.new }
     {
         let sequence = self.sequences[station as usize];
@@ -40,19 +37,14 @@ impl Node {
         message: &Message,
     ) -> Result<(), NodeError>
         requires attached { IsSectorSize (B.sector_bytes board.old) }
-        requires station { station < 8 }
-        ensures done { (content : Content) → Tells content message.now → SendDone B.Board (delivery station content ∷ []) self.old board.old result self.new board.new }
-        ensures lines { self.new.lines ≡ self.old.lines }
-        ensures words { KeepsWords B.sector_bytes B.tells B.words board.old board.new }
-        ensures never_memory { IfErr result (λ e. OnMemory e ⊥) }
-        ensures never_foreign { IfErr result (λ e. OnForeign e (λ place. ⊥)) }
-        ensures never_worn { IfErr result (λ e. OnWorn e (λ count. ⊥)) }
-        ensures fault { IfErr result (λ e. OnFault e (λ kind. (kind ≡ Send) × Rose (B.faults board.old kind) (B.faults board.new kind))) }
-        ensures counts { (k : Fault) → B.faults board.old k ≤ B.faults board.new k }
+        requires station { station < STATIONS }
+        ensures done { (content : Content) → Tells content message.now → SendDone B.Board
+            (delivery station content ∷ []) self.old board.old result self.new board.new }
+        ensures keeps { KeepsLines B.Board self.old board.old result self.new board.new }
     {
-        let version_two = self.core.version_two(station);
+        let v2 = self.core.version_two(station);
         let sequence = self.sequences[station as usize];
-        let frame = write_frame(message, version_two, SYSTEM, COMPONENT, sequence);
+        let frame = write_frame(message, v2, SYSTEM, COMPONENT, sequence);
         match board.send(station, frame.as_slice()) {
             Ok(()) => {
                 self.count_frame(station);
@@ -70,15 +62,11 @@ impl Node {
         message: &Message,
     ) -> Result<(), NodeError>
         requires attached { IsSectorSize (B.sector_bytes board.old) }
-        requires station { station < 8 }
-        ensures done { (content : Content) → Tells content message.now → SendDone B.Board (deliveries_to self.old.machine.vehicle (station ∷ []) content) self.old board.old result self.new board.new }
-        ensures lines { self.new.lines ≡ self.old.lines }
-        ensures words { KeepsWords B.sector_bytes B.tells B.words board.old board.new }
-        ensures never_memory { IfErr result (λ e. OnMemory e ⊥) }
-        ensures never_foreign { IfErr result (λ e. OnForeign e (λ place. ⊥)) }
-        ensures never_worn { IfErr result (λ e. OnWorn e (λ count. ⊥)) }
-        ensures fault { IfErr result (λ e. OnFault e (λ kind. (kind ≡ Send) × Rose (B.faults board.old kind) (B.faults board.new kind))) }
-        ensures counts { (k : Fault) → B.faults board.old k ≤ B.faults board.new k }
+        requires station { station < STATIONS }
+        ensures done { (content : Content) → Tells content message.now → SendDone B.Board
+            (deliveries_to self.old.machine.vehicle (station ∷ []) content)
+            self.old board.old result self.new board.new }
+        ensures keeps { KeepsLines B.Board self.old board.old result self.new board.new }
     {
         if self.core.heard(station) {
             self.send_message(board, station, message)
@@ -90,16 +78,12 @@ impl Node {
     /// Sends a message to all stations that were heard, ascending.
     fn send_to_all<B: Board>(&mut self, board: &mut B, message: &Message) -> Result<(), NodeError>
         requires attached { IsSectorSize (B.sector_bytes board.old) }
-        ensures done { (content : Content) → Tells content message.now → SendDone B.Board (deliveries_to self.old.machine.vehicle stations content) self.old board.old result self.new board.new }
-        ensures lines { self.new.lines ≡ self.old.lines }
-        ensures words { KeepsWords B.sector_bytes B.tells B.words board.old board.new }
-        ensures never_memory { IfErr result (λ e. OnMemory e ⊥) }
-        ensures never_foreign { IfErr result (λ e. OnForeign e (λ place. ⊥)) }
-        ensures never_worn { IfErr result (λ e. OnWorn e (λ count. ⊥)) }
-        ensures fault { IfErr result (λ e. OnFault e (λ kind. (kind ≡ Send) × Rose (B.faults board.old kind) (B.faults board.new kind))) }
-        ensures counts { (k : Fault) → B.faults board.old k ≤ B.faults board.new k }
+        ensures done { (content : Content) → Tells content message.now → SendDone B.Board
+            (deliveries_to self.old.machine.vehicle stations content)
+            self.old board.old result self.new board.new }
+        ensures keeps { KeepsLines B.Board self.old board.old result self.new board.new }
     {
-        for station in 0..8 {
+        for station in 0..STATIONS {
             self.send_if_heard(board, station, message)?;
         }
         Ok(())
@@ -109,14 +93,10 @@ impl Node {
     fn send_reply<B: Board>(&mut self, board: &mut B, reply: &Reply) -> Result<(), NodeError>
         requires attached { IsSectorSize (B.sector_bytes board.old) }
         requires inside { IsInside reply.now.to }
-        ensures done { (told : Told) → IsReplyOf told reply.now → SendDone B.Board (deliveries_of self.old.machine.vehicle told) self.old board.old result self.new board.new }
-        ensures lines { self.new.lines ≡ self.old.lines }
-        ensures words { KeepsWords B.sector_bytes B.tells B.words board.old board.new }
-        ensures never_memory { IfErr result (λ e. OnMemory e ⊥) }
-        ensures never_foreign { IfErr result (λ e. OnForeign e (λ place. ⊥)) }
-        ensures never_worn { IfErr result (λ e. OnWorn e (λ count. ⊥)) }
-        ensures fault { IfErr result (λ e. OnFault e (λ kind. (kind ≡ Send) × Rose (B.faults board.old kind) (B.faults board.new kind))) }
-        ensures counts { (k : Fault) → B.faults board.old k ≤ B.faults board.new k }
+        ensures done { (told : Told) → IsReplyOf told reply.now → SendDone B.Board
+            (deliveries_of self.old.machine.vehicle told) self.old board.old
+            result self.new board.new }
+        ensures keeps { KeepsLines B.Board self.old board.old result self.new board.new }
     {
         match reply.to {
             To::Station(station) => self.send_message(board, station, &reply.message),
@@ -132,14 +112,10 @@ impl Node {
     ) -> Result<(), NodeError>
         requires attached { IsSectorSize (B.sector_bytes board.old) }
         requires inside { All (λ reply. IsInside reply.to) replies.now.items }
-        ensures done { (told : List Told) → AreRepliesOf told replies.now.items → SendDone B.Board (deliveries self.old.machine.vehicle told) self.old board.old result self.new board.new }
-        ensures lines { self.new.lines ≡ self.old.lines }
-        ensures words { KeepsWords B.sector_bytes B.tells B.words board.old board.new }
-        ensures never_memory { IfErr result (λ e. OnMemory e ⊥) }
-        ensures never_foreign { IfErr result (λ e. OnForeign e (λ place. ⊥)) }
-        ensures never_worn { IfErr result (λ e. OnWorn e (λ count. ⊥)) }
-        ensures fault { IfErr result (λ e. OnFault e (λ kind. (kind ≡ Send) × Rose (B.faults board.old kind) (B.faults board.new kind))) }
-        ensures counts { (k : Fault) → B.faults board.old k ≤ B.faults board.new k }
+        ensures done { (told : List Told) → AreRepliesOf told replies.now.items → SendDone B.Board
+            (deliveries self.old.machine.vehicle told) self.old board.old
+            result self.new board.new }
+        ensures keeps { KeepsLines B.Board self.old board.old result self.new board.new }
     {
         for reply in replies.as_slice() {
             self.send_reply(board, reply)?;

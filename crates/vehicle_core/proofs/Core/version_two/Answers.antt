@@ -1,6 +1,6 @@
 use Rattle.std.proofs.Common.{arith}
-use Rattle.vehicle_core.proofs.Machine.{version_two_is}
+use Rattle.vehicle_core.proofs.Machine.{v2_is}
 use Rattle.vehicle_core.proofs.Core.version_two.Goals as goal
 
 pub returns : goal.returns
-returns c = version_two_is c.self.inside.stations c.self.inside.parameters c.args.self.now c.args.station _ c.self.view_is (omega arith)
+returns c = v2_is c.self.inside.stations c.self.inside.parameters c.args.self.now c.args.station _ c.self.view_is (omega arith)

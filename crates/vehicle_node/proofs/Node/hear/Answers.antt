@@ -1,14 +1,13 @@
-use Rattle.std.proofs.Common.{◌∙◌, refl, arith, Ok}
+use Rattle.std.proofs.Common.{arith, Ok}
+use Rattle.vehicle_node.specs.Steps.Calls.{OfAnswer}
 use Rattle.vehicle_node.proofs.Heard.{hear_none, hear_next, hear_cut}
+use Rattle.vehicle_node.proofs.Keeping.{keeps_none, keeps_then}
 use Rattle.vehicle_node.proofs.Node.hear.Goals as goal
 
 pub loop-byte-init : goal.loop-byte-init
 loop-byte-init g c = record {
   done = hear_none g.B.Board g.met.B.Board.reads c.args.self.now c.args.board.now c.args.station c.requires.fits c.keeps_a_rest.ensures;
-  fits = c.requires.fits;
-  geometry = refl;
-  told = λ told. told;
-  counts = λ k. omega arith;
+  keeps = keeps_none g.B.Board OfAnswer c.args.self.now c.args.board.now c.requires.fits;
 }
 
 pub loop-byte-preserved : goal.loop-byte-preserved
@@ -17,13 +16,10 @@ loop-byte-preserved g c =
     let e = c.in_ok-hear_byte.ensures in
     record {
       done = hear_next g.B.Board c.args.self.now c.args.board.now c.args.station c.args.bytes.now c.loop-byte.byte-index (omega arith) c.loop-byte.self c.loop-byte.board (Ok tt) c.hear_byte.new.self c.hear_byte.new.board i.done e.done;
-      fits = e.fits;
-      geometry = e.geometry ∙ i.geometry;
-      told = λ told. i.told (e.told told);
-      counts = λ k. omega (arith, i.counts k, e.counts k);
+      keeps = keeps_then g.B.Board OfAnswer OfAnswer c.args.self.now c.args.board.now c.loop-byte.self c.loop-byte.board (Ok tt) c.hear_byte.new.self c.hear_byte.new.board (λ k is. is) i.keeps e.keeps;
     }
 
 pub returns-in_err-hear_byte-clause-done : goal.returns-in_err-hear_byte-clause-done
 returns-in_err-hear_byte-clause-done g c =
-    hear_cut g.B.Board c.args.self.now c.args.board.now c.args.station c.args.bytes.now c.loop-byte.byte-index (omega arith) c.loop-byte.self c.loop-byte.board c.in_err-hear_byte.field-0.0 c.from_residual.result c.hear_byte.new.self c.hear_byte.new.board
-    c.from_residual.ensures.0 c.loop-byte.invariant.done c.in_err-hear_byte.ensures.done
+    hear_cut g.B.Board c.args.self.now c.args.board.now c.args.station c.args.bytes.now c.loop-byte.byte-index (omega arith) c.loop-byte.self c.loop-byte.board c.hear_byte.result c.from_residual.result c.hear_byte.new.self c.hear_byte.new.board
+    c.from_residual.ensures.0 c.loop-byte.invariant.done c.hear_byte.ensures.done

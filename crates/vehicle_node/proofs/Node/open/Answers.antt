@@ -1,11 +1,15 @@
-use Rattle.std.proofs.Common.{ℕ, List, subst, []}
+use Rattle.std.proofs.Common.{◌≡◌, ℕ, List, subst, [], inl, inr}
+use Rattle.flash_traits.specs.declared.board.Fault.TheVariants.{Read}
+use Rattle.std.proofs.lemmas.Result.{err_from_is_err_and}
 use Rattle.sector_image.specs.FirstBad.{Place, FirstBad}
 use Rattle.sector_image.proofs.ImageLaws.{one_value}
 use Rattle.block_store.specs.Store.{durable_of}
-use Rattle.vehicle_node.specs.Standing.{StandsForRun}
+use Rattle.vehicle_node.specs.Standing.{IsAlone, StandsForRun}
 use Rattle.sector_image.specs.Stands.{Stands}
+use Rattle.dirty_lines.specs.Losses.{IsWornForNext}
 use Rattle.vehicle_node.proofs.Passing.{adds_both}
-use Rattle.vehicle_node.proofs.Boot.{open_losses, words_here, boot_losses, stands_booted, foreign_at, worn_at, worn_anyway, read_stands}
+use Rattle.vehicle_node.proofs.Putting.{nothing_sent}
+use Rattle.vehicle_node.proofs.Boot.{open_losses, boot_losses, open_rises, boot_rises, boot_within, stands_booted, foreign_at, worn_at, fault_at, worn_anyway, worn_from, booted_alone, read_stands}
 use Rattle.vehicle_node.proofs.Node.open.Goals as goal
 
 pub returns-in-Err-clause-losses : goal.returns-in-Err-clause-losses
@@ -28,13 +32,51 @@ returns-clause-losses g c = λ b told.
 pub returns-clause-stands : goal.returns-clause-stands
 returns-clause-stands g c = λ tells b stands.
     subst (λ (l : List ℕ). StandsForRun c.flush_all.new.self l [] [] 0)
-    (one_value (g.B.Board.words c.args.board.now) (durable_of c.in-Ok.lines.store) b (c.in-Ok.ensures.stands (c.flush_all.ensures.told tells)) stands)
-    (stands_booted c.in-Ok.lines c.booted-node.result c.flush_all.new.self c.booted-node.ensures c.in_ok-flush_all.ensures.done.flushed c.in_ok-flush_all.ensures.nothing)
+    (one_value (g.B.Board.words c.args.board.now) (durable_of c.in-Ok.lines.store) b (c.in-Ok.ensures.stands (c.flush_all.ensures.keeps.told tells)) stands)
+    (stands_booted c.in-Ok.lines c.booted-node.result c.flush_all.new.self c.booted-node.ensures c.in_ok-flush_all.ensures.done.done.flushed c.in_ok-flush_all.ensures.nothing)
 
 pub returns-clause-here : goal.returns-clause-here
-returns-clause-here g c = adds_both g.B.Board [] [] [] [] (words_here g.B.Board c.open.ensures.changes) c.in_ok-flush_all.ensures.done.here
+returns-clause-here g c = adds_both g.B.Board [] [] [] [] (nothing_sent g.B.Board c.open.ensures.changes).here c.in_ok-flush_all.ensures.done.done.sent.here
 
 pub returns-in-Err-clause-worn_image : goal.returns-in-Err-clause-worn_image
 returns-in-Err-clause-worn_image g c =
     worn_at c.in-Err.error c.error_of.result _ (λ count. g.B.Board.tells c.open.new.board → (b : List ℕ) × Stands (g.B.Board.words c.args.board.now) b) c.error_of.ensures
     (λ count given tells. let found = given.1 tells in read_stands (g.B.Board.words c.args.board.now) found.0 found.1) c.in-Err.ensures.worn
+
+pub returns-in-Err-clause-guard : goal.returns-in-Err-clause-guard
+returns-in-Err-clause-guard g c = λ count b told. open_rises g.B.Board g.met.B.Board.reads c.args.board.now c.open.new.board c.open.ensures.changes count b told
+
+pub returns-in_err-flush_all-clause-guard : goal.returns-in_err-flush_all-clause-guard
+returns-in_err-flush_all-clause-guard g c = λ count b told.
+    boot_rises g.B.Board g.met.B.Board.reads c.args.board.now c.open.new.board c.open.ensures.changes count b told c.in-Ok.lines c.in-Ok.ensures.fits c.in-Ok.ensures.alone c.in-Ok.ensures.stands
+    c.booted-node.result c.booted-node.ensures _ c.flush_all.result c.flush_all.new.self c.flush_all.new.board c.flush_all.ensures.done
+
+pub returns-clause-guard : goal.returns-clause-guard
+returns-clause-guard g c = λ count b told.
+    boot_rises g.B.Board g.met.B.Board.reads c.args.board.now c.open.new.board c.open.ensures.changes count b told c.in-Ok.lines c.in-Ok.ensures.fits c.in-Ok.ensures.alone c.in-Ok.ensures.stands
+    c.booted-node.result c.booted-node.ensures _ c.flush_all.result c.flush_all.new.self c.flush_all.new.board c.flush_all.ensures.done
+
+pub returns-clause-within : goal.returns-clause-within
+returns-clause-within g c = λ tells count b row stands.
+    boot_within g.B.Board g.met.B.Board.reads c.args.board.now c.open.new.board c.open.ensures.changes count b (λ told. (row, stands)) c.in-Ok.lines c.in-Ok.ensures.fits c.in-Ok.ensures.alone c.in-Ok.ensures.stands
+    c.booted-node.result c.booted-node.ensures c.flush_all.new.self c.in_ok-flush_all.ensures.done.done.flushed c.in_ok-flush_all.ensures.nothing (c.flush_all.ensures.keeps.told tells)
+
+pub returns-in-Err-clause-worn_where : goal.returns-in-Err-clause-worn_where
+returns-in-Err-clause-worn_where g c = worn_at c.in-Err.error c.error_of.result _ _ c.error_of.ensures (λ count given. inl (λ told. let x = given.1 told in record { reading = x.0; reads = x.1; due = x.2; count = x.3 })) c.in-Err.ensures.worn
+
+pub returns-in_err-flush_all-clause-worn_where : goal.returns-in_err-flush_all-clause-worn_where
+returns-in_err-flush_all-clause-worn_where g c =
+    let p = err_from_is_err_and c.from_residual.result c.from_residual.ensures.1 in
+    rw (p.1, p.2) (worn_from c.in_err-flush_all.field-0.0 (IsAlone c.booted-node.result) (IsWornForNext g.B.Board c.flush_all.new.board c.flush_all.new.self.lines) _
+    (λ w. inr (c.flush_all.new.self.lines, w)) (booted_alone c.in-Ok.lines c.booted-node.result c.booted-node.ensures c.in-Ok.ensures.alone) c.in_err-flush_all.ensures.keeps.worn_next)
+
+pub returns-in-Err-clause-left_alone : goal.returns-in-Err-clause-left_alone
+returns-in-Err-clause-left_alone g c = λ told place bad.
+    let alone = c.in-Err.ensures.left_alone told place bad in
+    record { moment = alone.moment; words = alone.words; refused = tt; read = fault_at c.in-Err.error c.error_of.result (λ kind. kind ≡ Read) c.error_of.ensures alone.read }
+
+pub returns-in_err-flush_all-clause-left_alone : goal.returns-in_err-flush_all-clause-left_alone
+returns-in_err-flush_all-clause-left_alone g c = λ told place bad. absurd (c.in-Ok.ensures.left_alone (c.flush_all.ensures.keeps.told told) place bad).refused
+
+pub returns-clause-left_alone : goal.returns-clause-left_alone
+returns-clause-left_alone g c = λ told place bad. absurd (c.in-Ok.ensures.left_alone (c.flush_all.ensures.keeps.told told) place bad).refused

@@ -5,8 +5,9 @@ use Rattle.mav_messages.specs.declared.messages.Message.TheVariants.{Heartbeat}
 use Rattle.vehicle_core.specs.Vehicle.{Vehicle, Told}
 use Rattle.vehicle_core.specs.Replies.{AreRepliesOf}
 use Rattle.vehicle_node.specs.Frames.{deliveries, deliveries_of}
-use Rattle.vehicle_node.specs.Sending.{SendDone}
-use Rattle.vehicle_node.proofs.RepliesSent.{keeps_then, done_then, done_short, vehicle_stays, told_at, all_told, told-more, told-rest}
+use Rattle.vehicle_node.specs.Steps.Sending.{SendDone}
+use Rattle.vehicle_node.proofs.Keeping.{lines_none, lines_then}
+use Rattle.vehicle_node.proofs.RepliesSent.{done_then, done_short, vehicle_stays, told_at, all_told, told-more, told-rest}
 use Rattle.vehicle_node.proofs.Node.send_replies.Goals as goal
 
 abbrev no_reply : Reply
@@ -29,9 +30,7 @@ loop-reply-preserved g c =
           (vehicle_stays b (deliveries v (take n told)) old c.args.board.now c.loop-reply.self c.loop-reply.board before) (e.done at.one at.says) in
           done_then b (deliveries v (take n told)) (deliveries_of v at.one) (deliveries v (take (n + 1) told)) old c.args.board.now
           c.loop-reply.self c.loop-reply.board (Ok tt) c.send_reply.new.self c.send_reply.new.board before sent (told-more v told n at.one at.next);
-      lines = e.lines ∙ i.lines;
-      words = keeps_then b c.args.board.now c.loop-reply.board c.send_reply.new.board i.words e.words;
-      faults = λ k. omega (arith, i.faults k, e.counts k);
+      keeps = lines_then b old c.args.board.now c.loop-reply.self c.loop-reply.board (Ok tt) c.send_reply.new.self c.send_reply.new.board i.keeps e.keeps;
     }
 
 pub returns-in_err-send_reply-clause-done : goal.returns-in_err-send_reply-clause-done

@@ -1,9 +1,10 @@
-use Rattle.std.proofs.Common.{◌+◌, ◌-◌, [], ◌∷◌, Ok, ◌∙◌, arith, subst}
+use Rattle.std.proofs.Common.{◌+◌, ◌-◌, [], ◌∷◌, Ok, arith, subst, refl}
 use Rattle.std.specs.List.{range_with_len}
 use Rattle.vehicle_core.specs.Vehicle.{Vehicle}
 use Rattle.vehicle_node.specs.Frames.{stations}
-use Rattle.vehicle_node.specs.Sending.{SendDone, deliveries_to}
-use Rattle.vehicle_node.proofs.RepliesSent.{keeps_then, done_then, done_short, vehicle_stays, to-more, to-rest}
+use Rattle.vehicle_node.specs.Steps.Sending.{SendDone, deliveries_to}
+use Rattle.vehicle_node.proofs.Keeping.{lines_none, lines_then}
+use Rattle.vehicle_node.proofs.RepliesSent.{done_then, done_short, vehicle_stays, to-more, to-rest}
 use Rattle.vehicle_node.proofs.Node.send_to_all.Goals as goal
 
 pub loop-station-preserved : goal.loop-station-preserved
@@ -21,9 +22,7 @@ loop-station-preserved g c =
           (vehicle_stays b (deliveries_to v (range_with_len 0 n) content) old c.args.board.now c.loop-station.self c.loop-station.board before) (e.done content tells) in
           done_then b (deliveries_to v (range_with_len 0 n) content) (deliveries_to v (n ∷ []) content) (deliveries_to v (range_with_len 0 (n + 1)) content) old c.args.board.now
           c.loop-station.self c.loop-station.board (Ok tt) c.send_if_heard.new.self c.send_if_heard.new.board before sent (to-more v n content);
-      lines = e.lines ∙ i.lines;
-      words = keeps_then b c.args.board.now c.loop-station.board c.send_if_heard.new.board i.words e.words;
-      faults = λ k. omega (arith, i.faults k, e.counts k);
+      keeps = lines_then b old c.args.board.now c.loop-station.self c.loop-station.board (Ok tt) c.send_if_heard.new.self c.send_if_heard.new.board i.keeps e.keeps;
     }
 
 pub returns-in_err-send_if_heard-clause-done : goal.returns-in_err-send_if_heard-clause-done

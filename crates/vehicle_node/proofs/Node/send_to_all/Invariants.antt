@@ -1,10 +1,9 @@
-use Rattle.std.proofs.Common.{◌≡◌, ◌≤◌, Ok}
+use Rattle.std.proofs.Common.{Ok}
 use Rattle.std.specs.List.{range_with_len}
-use Rattle.flash_traits.specs.declared.board.Fault.{Fault}
-use Rattle.flash_traits.specs.Losses.{KeepsWords}
 use Rattle.vehicle_core.specs.Vehicle.{Content}
 use Rattle.vehicle_core.specs.Replies.{Tells}
-use Rattle.vehicle_node.specs.Sending.{SendDone, deliveries_to}
+use Rattle.vehicle_node.specs.Steps.Calls.{KeepsLines}
+use Rattle.vehicle_node.specs.Steps.Sending.{SendDone, deliveries_to}
 use Rattle.vehicle_node.proofs.Node.send_to_all.Given as goal
 
 abbrev pub invariant-loop-station : goal.invariant-loop-station
@@ -12,7 +11,5 @@ invariant-loop-station g l =
     let b = g.B.Board in
     record {
       done : (content : Content) → Tells content l.message → SendDone b (deliveries_to l.fn.self.machine.vehicle (range_with_len 0 l.station) content) l.fn.self l.fn.board (Ok tt) l.self l.board;
-      lines : l.self.lines ≡ l.fn.self.lines;
-      words : KeepsWords b.sector_bytes b.tells b.words l.fn.board l.board;
-      faults : (k : Fault) → b.faults l.fn.board k ≤ b.faults l.board k;
+      keeps : KeepsLines b l.fn.self l.fn.board (Ok tt) l.self l.board;
     }

@@ -1,30 +1,55 @@
-use Rattle.std.proofs.Common.{◌∙◌, refl, arith, Ok}
+use Rattle.std.proofs.Common.{◌+◌, sym, subst, take, arith, Ok}
 use Rattle.vehicle_core.specs.Acts.{Stream}
-use Rattle.vehicle_node.proofs.Parts.{parts_none, turns_more, turns_cut}
+use Rattle.vehicle_node.specs.Reading.{streams}
+use Rattle.vehicle_node.specs.Standing.{Node}
+use Rattle.vehicle_node.specs.Steps.Calls.{Keeps, OfAnswer}
+use Rattle.vehicle_node.specs.Steps.Hearing.{ActsDone}
+use Rattle.vehicle_node.proofs.ActAnswers.{act_nothing, did_nothing}
+use Rattle.vehicle_node.proofs.ActsDone.{acts_none, turns_more, turns_cut}
+use Rattle.vehicle_node.proofs.Keeping.{keeps_none, keeps_then}
 use Rattle.vehicle_node.proofs.Node.stream_all.Goals as goal
+use Rattle.vehicle_node.proofs.Node.stream_all.Goals.{then-streams+in_ok-stream, else-streams}
 
 pub loop-station-init : goal.loop-station-init
 loop-station-init g c = record {
-  done = parts_none g.B.Board g.met.B.Board.reads c.args.self.now c.args.board.now c.requires.fits;
-  fits = c.requires.fits;
-  geometry = refl;
-  told = λ told. told;
-  counts = λ k. omega arith;
+  done = acts_none g.B.Board g.met.B.Board.reads c.args.self.now c.args.board.now c.requires.fits;
+  keeps = keeps_none g.B.Board OfAnswer c.args.self.now c.args.board.now c.requires.fits;
 }
 
 pub loop-station-preserved : goal.loop-station-preserved
 loop-station-preserved g c =
+    let b = g.B.Board in
     let i = c.loop-station.invariant in
-    let e = c.in_ok-stream.ensures in
-    record {
-      done = turns_more g.B.Board Stream c.args.self.now c.args.board.now c.loop-station.station (omega arith) c.loop-station.self c.loop-station.board (Ok tt) c.stream.new.self c.stream.new.board i.done e.done;
-      fits = e.fits;
-      geometry = e.geometry ∙ i.geometry;
-      told = λ told. i.told (e.told told);
-      counts = λ k. omega (arith, i.counts k, e.counts k);
-    }
+    let old = c.args.self.now in
+    let board = c.args.board.now in
+    let n = c.loop-station.station in
+    let mid = c.loop-station.self in
+    let mid_board = c.loop-station.board in
+    elim c.if-streams.branch [
+      | then-streams+in_ok-stream w ↦
+          let e = w.in_ok-stream.ensures in
+          let new = w.stream.new.self in
+          let last = w.stream.new.board in
+          record {
+            done = subst (λ (s : Node). ActsDone b old board (take (n + 1) streams) (Ok tt) s c.if-streams.board) (sym w.self-is)
+                (subst (λ (l : g.row.B.Denot). ActsDone b old board (take (n + 1) streams) (Ok tt) new l) (sym w.board-is)
+                (turns_more b Stream old board n (omega arith) mid mid_board (Ok tt) new last i.done e.done));
+            keeps = subst (λ (s : Node). Keeps b OfAnswer old board (Ok tt) s c.if-streams.board) (sym w.self-is)
+                (subst (λ (l : g.row.B.Denot). Keeps b OfAnswer old board (Ok tt) new l) (sym w.board-is)
+                (keeps_then b OfAnswer OfAnswer old board mid mid_board (Ok tt) new last (λ k is. is) i.keeps e.keeps));
+          }
+      | else-streams w ↦
+          let nothing_said = did_nothing c.self.inside mid (Stream n) c.self.view_is (c.streams.ensures w.if-streams.false) in
+          record {
+            done = subst (λ (s : Node). ActsDone b old board (take (n + 1) streams) (Ok tt) s c.if-streams.board) (sym w.self-is)
+                (subst (λ (l : g.row.B.Denot). ActsDone b old board (take (n + 1) streams) (Ok tt) mid l) (sym w.board-is)
+                (turns_more b Stream old board n (omega arith) mid mid_board (Ok tt) mid mid_board i.done (act_nothing b g.met.B.Board.reads mid (Stream n) mid_board i.keeps.fits nothing_said)));
+            keeps = subst (λ (s : Node). Keeps b OfAnswer old board (Ok tt) s c.if-streams.board) (sym w.self-is)
+                (subst (λ (l : g.row.B.Denot). Keeps b OfAnswer old board (Ok tt) mid l) (sym w.board-is) i.keeps);
+          }
+    ]
 
 pub returns-in_err-stream-clause-done : goal.returns-in_err-stream-clause-done
 returns-in_err-stream-clause-done g c =
-    turns_cut g.B.Board Stream c.args.self.now c.args.board.now c.loop-station.station (omega arith) c.loop-station.self c.loop-station.board c.in_err-stream.field-0.0 c.from_residual.result c.stream.new.self c.stream.new.board
-    c.from_residual.ensures.0 c.loop-station.invariant.done c.in_err-stream.ensures.done
+    turns_cut g.B.Board Stream c.args.self.now c.args.board.now c.loop-station.station (omega arith) c.loop-station.self c.loop-station.board c.stream.result c.from_residual.result c.stream.new.self c.stream.new.board
+    c.from_residual.ensures.0 c.loop-station.invariant.done c.stream.ensures.done

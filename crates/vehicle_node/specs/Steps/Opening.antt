@@ -5,7 +5,8 @@ use Rattle.block_store.specs.declared.OpenError.TheVariants as open_error
 use Rattle.block_store.specs.Store.{durable_of}
 use Rattle.dirty_lines.specs.Lines.{Lines, lines_of}
 use Rattle.vehicle_node.specs.Reading.{no_rests}
-use Rattle.vehicle_node.specs.Runs.{boot, new_machine}
+use Rattle.vehicle_node.specs.Frames.{new_machine}
+use Rattle.vehicle_node.specs.Runs.{boot}
 use Rattle.vehicle_node.specs.Standing.{Node, counts}
 use Rattle.vehicle_node.specs.declared.NodeError.{NodeError}
 use Rattle.vehicle_node.specs.declared.NodeError.TheVariants as node_error

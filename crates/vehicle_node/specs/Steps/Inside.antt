@@ -1,4 +1,4 @@
--- How the parts inside a node are seen.
+-- How the acts inside a node are seen.
 use Rattle.vehicle_node.specs.Standing.{Node}
 use Rattle.vehicle_node.specs.declared.Node.TheInside.{Inside}
 

@@ -1,0 +1,214 @@
+-- The acts of an event, one after another.
+use Rattle.std.proofs.Common.{◌≡◌, ℕ, ◌+◌, ◌*◌, ◌<◌, ◌≤◌, List, [], ◌∷◌, ◌++◌, length, map, take, drop, take-append-drop, refl, sym, ◌∙◌, ap, subst, arith, append_assoc, append-nil, length-append, Result, Ok, Err}
+use Rattle.std.specs.Prelude.{⊤, IsErr}
+use Rattle.std.proofs.lemmas.List.{take_more}
+use Rattle.std.proofs.lemmas.List.FromFn.{get_or-map-range_with_len}
+use Rattle.flash_traits.specs.declared.board.Board.{Ghosts}
+use Rattle.flash_traits.specs.Losses.{SentFrame, Outcome}
+use Rattle.flash_traits.proofs.Moments.{weaker}
+use Rattle.storage_lines.specs.declared.lines.LineWrite.{LineWrite}
+use Rattle.sector_image.specs.Stands.{Stands}
+use Rattle.block_store.specs.Store.{durable_of}
+use Rattle.vehicle_core.specs.Acts.{Act, Did}
+use Rattle.vehicle_node.specs.declared.NodeError.{NodeError}
+use Rattle.vehicle_node.specs.declared.TheConstants.{ROOM_FROM}
+use Rattle.vehicle_node.specs.Frames.{stations}
+use Rattle.vehicle_node.specs.Guard.{CountsUpTo}
+use Rattle.vehicle_node.specs.Runs.{Run, act_done, all_acts, did_in}
+use Rattle.vehicle_node.specs.Safe.{SafeAt, Adds}
+use Rattle.vehicle_node.specs.Standing.{Node, Fits, StandsAt, ceiling, raised_by}
+use Rattle.vehicle_node.specs.Steps.Answering.{did_at, deliveries_at, node_after, Answering, AnsweredAs, ActDone}
+use Rattle.vehicle_node.specs.Steps.Hearing.{StandsBelow, SafeInside, SafeIn, AnsweredAll, ActsAnswered, ActsDone}
+use Rattle.vehicle_node.proofs.RunLaws.{all_acts_floor, all_acts-append, Extends, extends_more, safe_extends}
+use Rattle.vehicle_node.proofs.At.{did_is, safe_still, safe_answering, stands_answered}
+use Rattle.vehicle_node.proofs.FramesSent.{raised-more}
+use Rattle.vehicle_node.proofs.Putting.{now_stands, now_within}
+use Rattle.vehicle_node.proofs.ActAnswers.{counts_more}
+use Rattle.vehicle_node.proofs.Passing.{on_ok, cut_call, begun, going_on, lists_kept, lists_then, sent_nothing, sent_both}
+
+-- what is safe inside an event
+pub inside_more : (limit : ℕ) (b : List ℕ) (r s : Run) (floor : ℕ) (sent : List SentFrame) (from o : Outcome) → Extends r s → SafeInside limit b r floor sent from o → SafeInside limit b s floor sent from o
+inside_more limit b r s floor sent from o x a = record {
+  events_are = a.events_are;
+  added_frames = a.added_frames;
+  frames_are = a.frames_are;
+  safe = safe_extends b r s floor (sent ++ a.added_frames) o.words a.safe x;
+  guard = counts_more (limit + 2 * length r.issued) (limit + 2 * length s.issued) o.words.guard (omega (arith, ap length x.issued.whole, length-append r.issued x.issued.rest)) a.guard;
+}
+
+pub inside_still : (node : Node) (limit : ℕ) (b : List ℕ) (r : Run) (sent : List SentFrame) → StandsBelow limit node b r sent → (o : Outcome) → Stands o.words (durable_of node.lines.store) → CountsUpTo (ceiling node) o.words.guard
+    → SafeInside limit b r r.floor sent o o
+inside_still node limit b r sent s o stands guard = record {
+  events_are = refl;
+  added_frames = [];
+  frames_are = sym (append-nil o.frames);
+  safe = subst (λ (l : List SentFrame). SafeAt b r r.floor l o.words) (sym (append-nil sent)) (safe_still node b r sent s.at o.words stands);
+  guard = counts_more (ceiling node) (limit + 2 * length r.issued) o.words.guard s.ahead guard;
+}
+
+pub inside_answering : (node : Node) (limit : ℕ) (b : List ℕ) (r : Run) (sent : List SentFrame) (act : Act) → StandsBelow limit node b r sent → (from o : Outcome)
+    → Answering (did_at node act).writes (deliveries_at node act) (node_after node act) from o → SafeInside limit b (act_done b r act) r.floor sent from o
+inside_answering node limit b r sent act s from o a = record {
+  events_are = a.events;
+  added_frames = a.sent;
+  frames_are = a.frames;
+  safe = safe_answering node b r sent s.at act from o a;
+  guard = counts_more (ceiling node + 2 * length (did_at node act).writes) (limit + 2 * length (r.issued ++ (did_in b r act).writes)) o.words.guard
+      (omega (arith, s.ahead, length-append r.issued (did_in b r act).writes, ap (λ (d : Did). length d.writes) (did_is node b r sent s.at act))) a.guard;
+}
+
+-- after acts that were answered
+pub inside_later : (limit : ℕ) (b : List ℕ) (r s : Run) (floor : ℕ) (sent frames : List SentFrame) (from mid o : Outcome) → r.floor ≡ floor → Adds [] frames from mid → SafeInside limit b s r.floor (sent ++ frames) mid o → SafeInside limit b s floor sent from o
+inside_later limit b r s floor sent frames from mid o same adds a = record {
+  events_are = a.events_are ∙ adds.events_are ∙ append-nil from.events;
+  added_frames = frames ++ a.added_frames;
+  frames_are = a.frames_are ∙ ap (λ (l : List SentFrame). l ++ a.added_frames) adds.frames_are ∙ append_assoc from.frames frames a.added_frames;
+  safe = subst (λ (n : ℕ). SafeAt b s n (sent ++ (frames ++ a.added_frames)) o.words) same
+      (subst (λ (l : List SentFrame). SafeAt b s r.floor l o.words) (append_assoc sent frames a.added_frames) a.safe);
+  guard = a.guard;
+}
+
+empty_front : (xs ys : List LineWrite) → xs ≡ [] → xs ++ ys ≡ ys
+empty_front xs ys none = ap (λ (l : List LineWrite). l ++ ys) none
+
+both_put : (put more mid last pending issued later : List LineWrite) → put ++ mid ≡ pending ++ issued → more ++ last ≡ mid ++ later → (put ++ more) ++ last ≡ pending ++ (issued ++ later)
+both_put put more mid last pending issued later first second =
+    append_assoc put more last
+    ∙ ap (λ (l : List LineWrite). put ++ l) second
+    ∙ sym (append_assoc put mid later)
+    ∙ ap (λ (l : List LineWrite). l ++ later) first
+    ∙ append_assoc pending issued later
+
+raised_none : (n : ℕ) → n ≡ raised_by 0 n
+raised_none n = omega arith
+
+module _ {B : Type 0} (g : Ghosts B) where
+  pub answered_none : (node : Node) (board : B) → AnsweredAll g node board [] node board
+  answered_none node board = record {
+    frames = [];
+    sent = sent_nothing g board;
+    stands = λ b r sent at. subst (StandsAt node b r) (sym (append-nil sent)) at;
+    issued = [];
+    grew = λ b r sent at. sym (append-nil r.issued);
+    counted = raised_none node.issued;
+    put = [];
+    split = sym (append-nil node.lines.pending);
+    few = λ few. refl;
+    ahead = omega arith;
+  }
+
+  pub answered_one : (old : Node) (board : B) (act : Act) (new : Node) (last : B) → AnsweredAs g (did_at old act).writes (deliveries_at old act) (node_after old act) board new last → AnsweredAll g old board (act ∷ []) new last
+  answered_one old board act new last d = record {
+    frames = d.frames;
+    sent = d.sent;
+    stands = λ b r sent at. stands_answered old b r sent at act d.frames new d.answered;
+    issued = (did_at old act).writes;
+    grew = λ b r sent at. ap (λ (e : Did). r.issued ++ e.writes) (sym (did_is old b r sent at act));
+    counted = d.answered.line_count;
+    put = d.answered.put;
+    split = d.answered.split;
+    few = λ few. d.answered.few (omega (arith, few));
+    ahead = d.answered.ahead;
+  }
+
+  -- acts of which nothing comes were answered
+  pub answered_then : (old : Node) (board : B) (ps : List Act) (mid : Node) (mid_board : B) (qs : List Act) (new : Node) (last : B)
+      → AnsweredAll g old board ps mid mid_board → AnsweredAll g mid mid_board qs new last → AnsweredAll g old board (ps ++ qs) new last
+  answered_then old board ps mid mid_board qs new last first second = record {
+    frames = first.frames ++ second.frames;
+    sent = sent_both g first.frames second.frames board mid_board last first.sent second.sent;
+    stands = λ b r sent at.
+        subst (λ (s : Run). StandsAt new b s (sent ++ (first.frames ++ second.frames))) (sym (all_acts-append b r ps qs))
+        (subst (StandsAt new b (all_acts b (all_acts b r ps) qs)) (append_assoc sent first.frames second.frames)
+        (second.stands b (all_acts b r ps) (sent ++ first.frames) (first.stands b r sent at)));
+    issued = first.issued ++ second.issued;
+    grew = λ b r sent at.
+        ap (λ (s : Run). s.issued) (all_acts-append b r ps qs)
+        ∙ second.grew b (all_acts b r ps) (sent ++ first.frames) (first.stands b r sent at)
+        ∙ ap (λ (l : List LineWrite). l ++ second.issued) (first.grew b r sent at)
+        ∙ append_assoc r.issued first.issued second.issued;
+    counted = second.counted ∙ ap (λ (n : ℕ). raised_by (length second.issued) n) first.counted
+        ∙ raised-more old.issued (length first.issued) (length second.issued)
+        ∙ ap (λ (n : ℕ). raised_by n old.issued) (sym (length-append first.issued second.issued));
+    put = first.put ++ second.put;
+    split = both_put first.put second.put mid.lines.pending new.lines.pending old.lines.pending first.issued second.issued first.split second.split;
+    few = few;
+    ahead = omega (arith, first.ahead, second.ahead, length-append first.issued second.issued);
+  }
+    where
+      few : length old.lines.pending + length (first.issued ++ second.issued) ≤ ROOM_FROM → first.put ++ second.put ≡ []
+      few le =
+          let none : first.put ≡ [] = first.few (omega (arith, le, length-append first.issued second.issued)) in
+          let pending : mid.lines.pending ≡ old.lines.pending ++ first.issued = sym (empty_front first.put mid.lines.pending none) ∙ first.split in
+          empty_front first.put second.put none
+          ∙ second.few (omega (arith, le, length-append first.issued second.issued, ap length pending, length-append old.lines.pending first.issued))
+
+  -- the node after acts that were answered
+  pub below_then : (limit : ℕ) (old : Node) (board : B) (ps : List Act) (mid : Node) (mid_board : B) (b : List ℕ) (r : Run) (sent : List SentFrame)
+      → (a : AnsweredAll g old board ps mid mid_board) → StandsBelow limit old b r sent → StandsBelow limit mid b (all_acts b r ps) (sent ++ a.frames)
+  below_then limit old board ps mid mid_board b r sent a s = record {
+    at = a.stands b r sent s.at;
+    ahead = omega (arith, a.ahead, s.ahead, ap length (a.grew b r sent s.at), length-append r.issued a.issued);
+  }
+
+  pub acts_none : (reads : (b : B) (o : Outcome) → g.now b o → g.tells b × (o.words ≡ g.words b)) (node : Node) (board : B) → Fits g board node → ActsDone g node board [] (Ok tt) node board
+  acts_none reads node board fits = record {
+    losses = begun g board (SafeIn node [])
+        (λ o is limit b r sent s. inside_still node limit b r sent s o (now_stands g reads board node.lines.store fits.store o is) (now_within g reads board node fits.store o is));
+    lists = lists_kept g board board (λ e f stood. stood);
+    done = record { rests = refl; answered = answered_none node board };
+  }
+
+  pub acts_one : (old : Node) (board : B) (act : Act) (result : Result ⊤ NodeError) (new : Node) (last : B) → ActDone g old board act result new last → ActsDone g old board (act ∷ []) result new last
+  acts_one old board act result new last d = record {
+    losses =
+        let S = SafeIn old (act ∷ []) in
+        weaker S S d.losses
+        (λ s o is a limit b r sent below. inside_answering old limit b r sent act below s o a)
+        (λ s o is a limit b r sent below. inside_answering old limit b r sent act below s o a);
+    lists = d.lists;
+    done = on_ok result (AnsweredAs g (did_at old act).writes (deliveries_at old act) (node_after old act) board new last) (ActsAnswered g old board (act ∷ []) new last)
+        (λ done. record { rests = done.answered.rests; answered = answered_one old board act new last done }) d.done;
+  }
+
+  pub acts_then : (old : Node) (board : B) (ps : List Act) (mid : Node) (mid_board : B) (qs : List Act) (result : Result ⊤ NodeError) (new : Node) (last : B)
+      → ActsDone g old board ps (Ok tt) mid mid_board → ActsDone g mid mid_board qs result new last → ActsDone g old board (ps ++ qs) result new last
+  acts_then old board ps mid mid_board qs result new last first second =
+      let all : ActsAnswered g old board ps mid mid_board = first.done in
+      let a = all.answered in
+      let S = SafeIn old (ps ++ qs) in
+      record {
+        losses = going_on g S [] a.frames
+            (weaker S S first.losses
+            (λ s o is x limit b r sent below. inside_more limit b (all_acts b r ps) (all_acts b r (ps ++ qs)) r.floor sent s o (extends_more b r ps qs) (x limit b r sent below))
+            (λ s o is x limit b r sent below. inside_more limit b (all_acts b r ps) (all_acts b r (ps ++ qs)) r.floor sent s o (extends_more b r ps qs) (x limit b r sent below)))
+            a.sent.here second.losses
+            (λ s m o was is adds x limit b r sent below. inside_later limit b (all_acts b r ps) (all_acts b r (ps ++ qs)) r.floor sent a.frames s m o (all_acts_floor b r ps) adds
+            (subst (λ (t : Run). SafeInside limit b t (all_acts b r ps).floor (sent ++ a.frames) m o) (sym (all_acts-append b r ps qs))
+            (x limit b (all_acts b r ps) (sent ++ a.frames) (below_then limit old board ps mid mid_board b r sent a below))));
+        lists = lists_then g board mid_board last first.lists second.lists;
+        done = on_ok result (ActsAnswered g mid mid_board qs new last) (ActsAnswered g old board (ps ++ qs) new last)
+            (λ more. record { rests = more.rests ∙ all.rests; answered = answered_then old board ps mid mid_board qs new last a more.answered }) second.done;
+      }
+
+  -- a prefix of the acts
+  pub acts_prefix : (old : Node) (board : B) (ps qs all : List Act) (e : Result ⊤ NodeError) (result : Result ⊤ NodeError) (new : Node) (last : B) → ps ++ qs ≡ all → IsErr result → ActsDone g old board ps e new last → ActsDone g old board all result new last
+  acts_prefix old board ps qs all e result new last is err d =
+      cut_call g (ActsAnswered g old board all new last) board last e result d err
+      (λ s o now x limit b r sent below. inside_more limit b (all_acts b r ps) (all_acts b r all) r.floor sent s o
+      (subst (λ (l : List Act). Extends (all_acts b r ps) (all_acts b r l)) is (extends_more b r ps qs)) (x limit b r sent below))
+
+  -- each station in its turn
+  module _ (turn : ℕ → Act) (old : Node) (board : B) (at : ℕ) (lt : at < 8) (mid : Node) (mid_board : B) (result : Result ⊤ NodeError) (new : Node) (last : B) where
+    more : take (at + 1) (map turn stations) ≡ take at (map turn stations) ++ turn at ∷ []
+    more = take_more (map turn stations) at (turn 0) lt ∙ ap (λ (p : Act). take at (map turn stations) ++ p ∷ []) (get_or-map-range_with_len turn 0 8 at at (turn 0) lt (omega arith))
+
+    pub turns_more : ActsDone g old board (take at (map turn stations)) (Ok tt) mid mid_board → ActDone g mid mid_board (turn at) result new last → ActsDone g old board (take (at + 1) (map turn stations)) result new last
+    turns_more first second = subst (λ (l : List Act). ActsDone g old board l result new last) (sym more)
+        (acts_then old board (take at (map turn stations)) mid mid_board (turn at ∷ []) result new last first (acts_one mid mid_board (turn at) result new last second))
+
+  pub turns_cut : (turn : ℕ → Act) (old : Node) (board : B) (at : ℕ) → at < 8 → (mid : Node) (mid_board : B) (e : Result ⊤ NodeError) (result : Result ⊤ NodeError) (new : Node) (last : B) → IsErr result
+      → ActsDone g old board (take at (map turn stations)) (Ok tt) mid mid_board → ActDone g mid mid_board (turn at) e new last → ActsDone g old board (map turn stations) result new last
+  turns_cut turn old board at lt mid mid_board e result new last err first second =
+      acts_prefix old board (take (at + 1) (map turn stations)) (drop (at + 1) (map turn stations)) (map turn stations) e result new last (take-append-drop (at + 1) (map turn stations)) err
+      (turns_more turn old board at lt mid mid_board e new last first second)

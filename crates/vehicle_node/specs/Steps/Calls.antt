@@ -1,0 +1,75 @@
+-- What every private call of a node says.
+use Rattle.std.specs.Prelude.{◌≡◌, ◌⊎◌, ◌≤◌, ℕ, List, ◌++◌, Result, ⊤, OnOk, IfErr}
+use Rattle.flash_traits.specs.declared.numbers.TheConstants.{GUARD_HALFWORDS}
+use Rattle.flash_traits.specs.declared.board.Board.{Ghosts}
+use Rattle.flash_traits.specs.declared.board.Fault.{Fault}
+use Rattle.flash_traits.specs.declared.board.Fault.TheVariants.{Read, Flash, Send}
+use Rattle.flash_traits.specs.Calls.{Passes}
+use Rattle.flash_traits.specs.Causes.{Rose}
+use Rattle.flash_traits.specs.Losses.{Received, SentFrame, Outcome, After, KeepsWords}
+use Rattle.block_store.specs.Refusals.{IsWorn}
+use Rattle.dirty_lines.specs.Losses.{IsWornForNext}
+use Rattle.vehicle_node.specs.Standing.{Node, Fits, IsAlone}
+use Rattle.vehicle_node.specs.Refusals.{OnMemory, OnFault, OnForeign, OnWorn}
+use Rattle.vehicle_node.specs.declared.NodeError.{NodeError}
+
+-- nothing was received, and maybe some frames were sent
+abbrev pub MaySend : {B : Type 0} → Ghosts B → B → B → Type 0
+MaySend g board after_board = (e : List Received) (f : List SentFrame) → g.has_lists board e f
+    → (sent : List SentFrame) × g.has_lists after_board e (f ++ sent)
+
+-- These frames were sent and nothing was received: the lists of the board grow so, and what a loss
+-- then leaves has made this step.
+pub record HasSent {B : Type 0} (g : Ghosts B) (frames : List SentFrame)
+    (step : Outcome → Outcome → Type 0) (board after_board : B) : Type 0 where
+  pub lists : (e : List Received) (f : List SentFrame) → g.has_lists board e f
+      → g.has_lists after_board e (f ++ frames)
+  pub here : (o : Outcome) → g.now after_board o → After (g.now board) step o
+  pub receptions : (g.moment after_board).receptions ≡ (g.moment board).receptions
+
+-- A call: what a loss inside leaves, what it does to the lists, and what was done where it wasn't
+-- cut short.
+pub record Call {B : Type 0} (g : Ghosts B) (lost : Outcome → Outcome → Type 0) (Done : Type 0)
+    (board : B) (result : Result ⊤ NodeError) (after_board : B) : Type 0 where
+  pub losses : Passes g board after_board lost lost
+  pub lists : MaySend g board after_board
+  pub done : OnOk result Done
+
+-- the faults that putting lines may meet
+abbrev pub OfFlash : Fault → Type 0
+OfFlash kind = kind ≡ Read ⊎ kind ≡ Flash
+
+-- those of an answer, which also sends
+abbrev pub OfAnswer : Fault → Type 0
+OfAnswer kind = kind ≡ Read ⊎ (kind ≡ Flash ⊎ kind ≡ Send)
+
+-- The node still fits the board and stands alone where it did, the geometry stays, no words are
+-- told that weren't, no count of faults falls, and the call stops only at a fault of these kinds or
+-- where the guard row is used up and home lacks room for the next entry.
+pub record Keeps {B : Type 0} (g : Ghosts B) (kinds : Fault → Type 0) (old : Node) (board : B)
+    (result : Result ⊤ NodeError) (new : Node) (after_board : B) : Type 0 where
+  pub fits : OnOk result (Fits g after_board new)
+  pub alone : OnOk result (IsAlone old → IsAlone new)
+  pub geometry : g.sector_bytes after_board ≡ g.sector_bytes board
+  pub told : g.tells after_board → g.tells board
+  pub never_memory : IfErr result (λ e. OnMemory e ⊥)
+  pub never_foreign : IfErr result (λ e. OnForeign e (λ place. ⊥))
+  pub worn : IfErr result (λ e. OnWorn e (λ count. (count ≡ GUARD_HALFWORDS) × (bytes : _)
+      × IsWorn g after_board bytes))
+  pub worn_next : IfErr result (λ e. OnWorn e (λ count. IsAlone old
+      → IsWornForNext g after_board new.lines))
+  pub fault : IfErr result (λ e. OnFault e (λ kind. kinds kind
+      × Rose (g.faults board kind) (g.faults after_board kind)))
+  pub counts : (k : Fault) → g.faults board k ≤ g.faults after_board k
+
+-- A call that only sends keeps lines and words, and stops only where a sending failed.
+pub record KeepsLines {B : Type 0} (g : Ghosts B) (old : Node) (board : B)
+    (result : Result ⊤ NodeError) (new : Node) (after_board : B) : Type 0 where
+  pub lines : new.lines ≡ old.lines
+  pub words : KeepsWords g.sector_bytes g.tells g.words board after_board
+  pub never_memory : IfErr result (λ e. OnMemory e ⊥)
+  pub never_foreign : IfErr result (λ e. OnForeign e (λ place. ⊥))
+  pub never_worn : IfErr result (λ e. OnWorn e (λ count. ⊥))
+  pub fault : IfErr result (λ e. OnFault e (λ kind. (kind ≡ Send)
+      × Rose (g.faults board kind) (g.faults after_board kind)))
+  pub counts : (k : Fault) → g.faults board k ≤ g.faults after_board k

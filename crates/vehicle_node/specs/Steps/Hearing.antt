@@ -1,0 +1,155 @@
+-- Several acts of an event, one after another: what was answered, and what a loss inside leaves.
+use Rattle.std.specs.Prelude.{◌≡◌, ◌≤◌, ℕ, ◌+◌, ◌*◌, List, [], ◌++◌, length, Option, Some, Result, ⊤, slice_get, slice_set}
+use Rattle.flash_traits.specs.declared.board.Board.{Ghosts}
+use Rattle.flash_traits.specs.Losses.{Received, SentFrame, Outcome}
+use Rattle.storage_lines.specs.declared.lines.LineWrite.{LineWrite}
+use Rattle.mav_frames.specs.Cut.{Piece, Cut, Pushes, frames_in}
+use Rattle.vehicle_core.specs.Acts.{Act}
+use Rattle.vehicle_node.specs.Guard.{CountsUpTo}
+use Rattle.vehicle_node.specs.Reading.{AreSaid, IsEvent}
+use Rattle.vehicle_node.specs.Runs.{Run, all_acts}
+use Rattle.vehicle_node.specs.Safe.{SafeAt, Adds}
+use Rattle.vehicle_node.specs.Standing.{Node, StandsAt, ceiling, raised_by}
+use Rattle.vehicle_node.specs.Steps.Calls.{HasSent, Call}
+use Rattle.vehicle_node.specs.declared.NodeError.{NodeError}
+use Rattle.vehicle_node.specs.declared.TheConstants.{ROOM_FROM}
+
+-- The node is where this run is, and the guard count can't rise above the limit and two more for
+-- each line of the run.
+pub record StandsBelow (limit : ℕ) (node : Node) (b : List ℕ) (r : Run) (sent : List SentFrame)
+    : Type 0 where
+  pub at : StandsAt node b r sent
+  pub ahead : ceiling node ≤ limit + 2 * length r.issued
+
+-- Nothing was received, and these frames with those that were added are safe in the run.
+pub record SafeInside (limit : ℕ) (b : List ℕ) (r : Run) (floor : ℕ) (sent : List SentFrame)
+    (from o : Outcome) : Type 0 where
+  pub events_are : o.events ≡ from.events
+  pub added_frames : List SentFrame
+  pub frames_are : o.frames ≡ from.frames ++ added_frames
+  pub safe : SafeAt b r floor (sent ++ added_frames) o.words
+  pub guard : CountsUpTo (limit + 2 * length r.issued) o.words.guard
+
+-- These acts were answered: wherever the node was in a run, it is after these acts. Where there are
+-- few lines enough, none was put.
+pub record AnsweredAll {B : Type 0} (g : Ghosts B) (old : Node) (board : B) (acts : List Act)
+    (new : Node)
+    (after_board : B) : Type 0 where
+  pub frames : List SentFrame
+  pub sent : HasSent g frames (Adds [] frames) board after_board
+  pub stands : (b : List ℕ) (r : Run) (sent : List SentFrame) → StandsAt old b r sent
+      → StandsAt new b (all_acts b r acts) (sent ++ frames)
+  pub issued : List LineWrite
+  pub grew : (b : List ℕ) (r : Run) (sent : List SentFrame) → StandsAt old b r sent
+      → (all_acts b r acts).issued ≡ r.issued ++ issued
+  pub counted : new.issued ≡ raised_by (length issued) old.issued
+  pub put : List LineWrite
+  pub split : put ++ new.lines.pending ≡ old.lines.pending ++ issued
+  pub few : length old.lines.pending + length issued ≤ ROOM_FROM → put ≡ []
+  pub ahead : ceiling new ≤ ceiling old + 2 * length issued
+
+-- wherever the node was in a run, what a loss leaves is safe in the run with these acts
+abbrev pub SafeIn : Node → List Act → Outcome → Outcome → Type 0
+SafeIn node acts from o = (limit : ℕ) (b : List ℕ) (r : Run) (sent : List SentFrame)
+    → StandsBelow limit node b r sent → SafeInside limit b (all_acts b r acts) r.floor sent from o
+
+pub record ActsAnswered {B : Type 0} (g : Ghosts B) (old : Node) (board : B) (acts : List Act)
+    (new : Node)
+    (after_board : B) : Type 0 where
+  pub rests : new.rests ≡ old.rests
+  pub answered : AnsweredAll g old board acts new after_board
+
+-- acts that are known were answered, or a prefix of them
+abbrev pub ActsDone : {B : Type 0} → Ghosts B → Node → B → List Act → Result ⊤ NodeError → Node → B
+    → Type 0
+ActsDone g old board acts result new after_board =
+    Call g (SafeIn old acts) (ActsAnswered g old board acts new after_board) board result after_board
+
+-- These bytes of a station were cut into frames after its rest, and the frames say this.
+pub record IsHeard (station : ℕ) (bytes : List ℕ) (old : List (List ℕ)) (said : List Act)
+    (new : List (List ℕ)) : Type 0 where
+  pub rest : List ℕ
+  pub rest_is : slice_get old station ≡ Some rest
+  pub pieces : List Piece
+  pub new_rest : List ℕ
+  pub cut : Cut (rest ++ bytes) pieces new_rest
+  pub are_said : AreSaid station (frames_in pieces) said
+  pub new_is : new ≡ slice_set old station new_rest
+
+-- The cutter of a station took a byte, with which maybe a frame is whole.
+pub record Pushed (station byte : ℕ) (frame : Option (List ℕ)) (old new : List (List ℕ))
+    : Type 0 where
+  pub rest : List ℕ
+  pub rest_is : slice_get old station ≡ Some rest
+  pub new_rest : List ℕ
+  pub pushes : Pushes rest byte frame new_rest
+  pub new_is : new ≡ slice_set old station new_rest
+
+-- at most the rests have changed
+abbrev pub KeepsButRests : Node → Node → Type 0
+KeepsButRests old new = new ≡ record old { rests = new.rests }
+
+-- a station has a rest, which begins neither with a whole frame nor with a byte to skip
+pub record HasRest (station : ℕ) (rests : List (List ℕ)) : Type 0 where
+  pub rest : List ℕ
+  pub rest_is : slice_get rests station ≡ Some rest
+  pub cut : Cut rest [] rest
+
+-- A prefix of a station's bytes was heard, and what was sent and put is safe in the run with what
+-- it says.
+pub record SafeHearing (station : ℕ) (bytes : List ℕ) (rests : List (List ℕ)) (limit : ℕ)
+    (b : List ℕ)
+    (r : Run) (sent : List SentFrame) (from o : Outcome) : Type 0 where
+  pub first : List ℕ
+  pub more : List ℕ
+  pub split : first ++ more ≡ bytes
+  pub said : List Act
+  pub mid : List (List ℕ)
+  pub heard : IsHeard station first rests said mid
+  pub inside : SafeInside limit b (all_acts b r said) r.floor sent from o
+
+-- wherever the node was in a run, what a loss leaves is safe in the run with a prefix of the bytes
+abbrev pub SafeHeard : ℕ → List ℕ → Node → Outcome → Outcome → Type 0
+SafeHeard station bytes node from o = (limit : ℕ) (b : List ℕ) (r : Run) (sent : List SentFrame)
+    → StandsBelow limit node b r sent → SafeHearing station bytes node.rests limit b r sent from o
+
+-- what a station's bytes say was answered
+pub record HeardAll {B : Type 0} (g : Ghosts B) (old : Node) (board : B) (station : ℕ)
+    (bytes : List ℕ)
+    (new : Node) (after_board : B) : Type 0 where
+  pub said : List Act
+  pub heard : IsHeard station bytes old.rests said new.rests
+  pub answered : AnsweredAll g old board said new after_board
+
+-- the same where the bytes may have been heard in part alone
+abbrev pub HearDone : {B : Type 0} → Ghosts B → Node → B → ℕ → List ℕ → Result ⊤ NodeError → Node
+    → B → Type 0
+HearDone g old board station bytes result new after_board =
+    Call g (SafeHeard station bytes old)
+    (HeardAll g old board station bytes new after_board) board result after_board
+
+-- The event can be read so that what was sent and put is safe in the run with its acts.
+pub record SafeTaking (event : Received) (rests : List (List ℕ)) (limit : ℕ) (b : List ℕ) (r : Run)
+    (sent : List SentFrame) (from o : Outcome) : Type 0 where
+  pub acts : List Act
+  pub new_rests : List (List ℕ)
+  pub reads : IsEvent rests event acts new_rests
+  pub inside : SafeInside limit b (all_acts b r acts) r.floor sent from o
+
+-- wherever the node was in a run, what a loss leaves is safe in the run with the event
+abbrev pub SafeTaken : Received → Node → Outcome → Outcome → Type 0
+SafeTaken event node from o = (limit : ℕ) (b : List ℕ) (r : Run) (sent : List SentFrame)
+    → StandsBelow limit node b r sent → SafeTaking event node.rests limit b r sent from o
+
+-- all acts of an event were answered
+pub record TakenAll {B : Type 0} (g : Ghosts B) (event : Received) (old : Node) (board : B)
+    (new : Node)
+    (after_board : B) : Type 0 where
+  pub acts : List Act
+  pub reads : IsEvent old.rests event acts new.rests
+  pub answered : AnsweredAll g old board acts new after_board
+
+abbrev pub TakeDone : {B : Type 0} → Ghosts B → Received → Node → B → Result ⊤ NodeError → Node → B
+    → Type 0
+TakeDone g event old board result new after_board =
+    Call g (SafeTaken event old) (TakenAll g event old board new after_board) board result after_board
