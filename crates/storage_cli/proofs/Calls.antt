@@ -9,7 +9,7 @@ use Rattle.vehicle_node.specs.declared.Turn.TheVariants as turn
 use Rattle.vehicle_node.specs.Safe.{Safe, SafeSince, Adds}
 use Rattle.vehicle_node.specs.Standing.{Node, StandsForRun, Finished}
 use Rattle.storage_cli.specs.Serving.{HasNoEnd}
-use Rattle.storage_cli.specs.Progress.{IsSafe, Progress, Finishes}
+use Rattle.storage_cli.specs.Steps.Progress.{IsSafe, Progress, Finishes}
 
 adds_none : (s : Outcome) → Adds [] [] s s
 adds_none s = record { events_are = sym (append-nil s.events); frames_are = sym (append-nil s.frames) }
@@ -23,7 +23,7 @@ adds_then es more fs others s m o first second = record {
 pub some_safe : (b : List ℕ) (e : List Received) (f : List SentFrame) (n : ℕ) (s o : Outcome) → SafeSince b e f n s o → IsSafe b e f s o
 some_safe b e f n s o since = record { finished = n; since = since }
 
--- what is safe behind an addition is safe with it
+-- what is safe after an addition is safe with it
 pub safe_later : (b : List ℕ) (e es : List Received) (f fs : List SentFrame) (n : ℕ) (s m o : Outcome) → Adds es fs s m → SafeSince b (e ++ es) (f ++ fs) n m o → IsSafe b e f s o
 safe_later b e es f fs n s m o adds since = record {
   finished = n;
@@ -38,8 +38,8 @@ safe_later b e es f fs n s m o adds since = record {
 }
 
 -- nothing was added before
-pub safe_behind : (b : List ℕ) (s m o : Outcome) → Adds [] [] s m → IsSafe b [] [] m o → IsSafe b [] [] s o
-safe_behind b s m o adds safe = safe_later b [] [] [] [] safe.finished s m o adds safe.since
+pub safe_after : (b : List ℕ) (s m o : Outcome) → Adds [] [] s m → IsSafe b [] [] m o → IsSafe b [] [] s o
+safe_after b s m o adds safe = safe_later b [] [] [] [] safe.finished s m o adds safe.since
 
 no_end_push : (events : List Received) (e : Received) → HasNoEnd events → e ≢ End → HasNoEnd (events ++ e ∷ [])
 no_end_push [] e all this = (this, tt)

@@ -1,20 +1,22 @@
 -- Why a serve stops, by the error of its node's opening.
-use Rattle.std.proofs.Common.{◌≡◌, ◌⊎◌, inl, inr, ℕ, List, Result, Err}
+use Rattle.std.proofs.Common.{◌≡◌, ◌≤◌, ◌⊎◌, inl, inr, ℕ, List, Result, Ok, Err, sym, ◌∙◌, ap, subst, arith}
+use Rattle.std.specs.Prelude.{IfErr, IsErrAnd, OnErr}
 use Rattle.flash_traits.specs.declared.board.Fault.{Fault}
 use Rattle.flash_traits.specs.declared.board.Fault.TheVariants as fault
 use Rattle.flash_traits.specs.Causes.{Rose}
 use Rattle.flash_traits.specs.Words.{Words}
 use Rattle.sector_image.specs.FirstBad.{Place, FirstBad, place_of}
-use Rattle.sector_image.specs.Stands.{Stands}
+use Rattle.sector_image.specs.Stands.{Stands, IsUsedUp}
 use Rattle.sector_image.proofs.ImageLaws as image
 use Rattle.vehicle_node.specs.declared.NodeError.{NodeError}
 use Rattle.vehicle_node.specs.declared.NodeError.TheVariants as node_error
 use Rattle.vehicle_node.specs.Refusals as node
-use Rattle.storage_cli.specs.declared.endings.Served.{Served}
-use Rattle.storage_cli.specs.declared.endings.Stop.{Stop}
-use Rattle.storage_cli.specs.declared.endings.Stop.TheVariants as stop
-use Rattle.storage_cli.specs.Serving.{IsUsedUp}
-use Rattle.storage_cli.specs.Ends.{stop_of_fault, stop_of, IsFirst, IsDone, IsEventStop, StopsEarly, StopsWorn}
+use Rattle.storage_cli.specs.declared.stop.Served.{Served}
+use Rattle.storage_cli.specs.declared.stop.Stop.{Stop}
+use Rattle.storage_cli.specs.declared.stop.Stop.TheVariants as stop
+use Rattle.storage_cli.specs.Serving.{HasToVoid}
+use Rattle.storage_cli.specs.Steps.Stops.{stop_of_fault, stop_of, IsFirst, IsDone, IsServeStop, IsEventStop, IsCausedBy, OnForeign, OnMemory, OnWorn, StopsByCause, StopsEarly, StopsWorn}
+use Rattle.flash_traits.specs.declared.board.Board.{Ghosts}
 
 -- words never stand for bytes and have a foreign halfword
 pub never_both : (words : Words) (place : Place) → (b : List ℕ) × Stands words b → FirstBad words place → ⊥
@@ -46,21 +48,19 @@ not_done (stop.Turns n) event done = event
 not_done stop.Attach event done = done
 
 -- what the stop of an opening is, where there is a foreign halfword and where the guard row is used up
-early_fault : (kind : Fault) → (kind ≡ fault.Read) ⊎ (kind ≡ fault.Flash) → (let r : Result Served Stop = Err (stop_of_fault kind) in StopsEarly r)
+early_fault : (kind : Fault) → kind ≡ fault.Read → (let r : Result Served Stop = Err (stop_of_fault kind) in StopsEarly r)
 early_fault fault.Attach is = tt
 early_fault fault.Read is = tt
-early_fault fault.Flash is = tt
-early_fault fault.Recv (inl is) = absurd (cc)
-early_fault fault.Recv (inr is) = absurd (cc)
-early_fault fault.Send (inl is) = absurd (cc)
-early_fault fault.Send (inr is) = absurd (cc)
+early_fault fault.Flash is = absurd (cc)
+early_fault fault.Recv is = absurd (cc)
+early_fault fault.Send is = absurd (cc)
 
 module _ (words : Words) (told : Type 0) (before now : Fault → ℕ) where
-  pub opens_early : (e : NodeError) → node.OnFault e (λ kind. ((kind ≡ fault.Read) ⊎ (kind ≡ fault.Flash)) × Rose (before kind) (now kind))
+  pub opens_early : (e : NodeError) → node.OnFault e (λ kind. kind ≡ fault.Read)
       → node.OnWorn e (λ count. told → (b : List ℕ) × Stands words b)
       → told → (place : Place) → FirstBad words place → (let r : Result Served Stop = Err (stop_of e) in StopsEarly r)
   opens_early node_error.Memory fails worn t place bad = tt
-  opens_early (node_error.Fault kind) fails worn t place bad = early_fault kind fails.0
+  opens_early (node_error.Fault kind) fails worn t place bad = early_fault kind fails
   opens_early (node_error.Foreign region offset word) fails worn t place bad = tt
   opens_early (node_error.Worn count) fails worn t place bad = absurd (never_both words place (worn t) bad)
 
@@ -79,3 +79,189 @@ module _ (words : Words) (told : Type 0) (before now : Fault → ℕ) where
   opens_worn (node_error.Fault kind) fails foreign t used = worn_fault_stop kind fails.0
   opens_worn (node_error.Foreign region offset word) fails foreign t used = absurd (image.never_both words used.reading (place_of region offset word) used.reads (foreign t))
   opens_worn (node_error.Worn count) fails foreign t used = tt
+
+-- what the errors of a node make of a result: `?` gives the stop of the error
+module _ {T : Type 0} (r : Result T Stop) (why : Stop) (is : IsErrAnd r (λ e. e ≡ why)) where
+  err_is : {S : Type 0} (q : Result S Stop) → IsErrAnd q (λ e. e ≡ why) → q ≡ Err why
+  err_is (Ok x) given = absurd given
+  err_is (Err e) given = ap Err given
+
+  pub stopped_by : r ≡ Err why
+  stopped_by = err_is r is
+
+  pub on_stop : (P : Stop → Type 0) → P why → IfErr r P
+  on_stop P p = subst (λ (q : Result T Stop). IfErr q P) (sym stopped_by) p
+
+  pub on_result : (P : Result T Stop → Type 0) → P (Err why) → P r
+  on_result P p = subst P (sym stopped_by) p
+
+  pub caused : (before now : Fault → ℕ) → ((k : Fault) → before k ≤ now k) → IsCausedBy why before now → StopsByCause before now r
+  caused before now later cause = record {
+    later = later;
+    cause = λ other same. let one : why ≡ other = err_one why other (sym stopped_by ∙ same) in subst (λ (w : Stop). IsCausedBy w before now) one cause;
+  }
+    where
+      err_one : (a b : Stop) → (let x : Result T Stop = Err a in x ≡ Err b) → a ≡ b
+      err_one a b e = cc
+
+-- a failed call has its cause
+pub fault_cause : (kind : Fault) (before now : Fault → ℕ) → Rose (before kind) (now kind) → IsCausedBy (stop_of_fault kind) before now
+fault_cause fault.Attach before now rose = rose
+fault_cause fault.Read before now rose = rose
+fault_cause fault.Flash before now rose = rose
+fault_cause fault.Recv before now rose = inl rose
+fault_cause fault.Send before now rose = inr rose
+
+rose_later : (a b c : ℕ) → a ≤ b → Rose b c → Rose a c
+rose_later a b c before rose = omega arith
+
+pub node_cause : (e : NodeError) (before mid now : Fault → ℕ) (K : Fault → Type 0) → ((k : Fault) → before k ≤ mid k) → node.OnFault e (λ kind. K kind × Rose (mid kind) (now kind)) → IsCausedBy (stop_of e) before now
+node_cause node_error.Memory before mid now K earlier fails = tt
+node_cause (node_error.Fault kind) before mid now K earlier fails = fault_cause kind before now (rose_later (before kind) (mid kind) (now kind) (earlier kind) fails.1)
+node_cause (node_error.Foreign region offset word) before mid now K earlier fails = tt
+node_cause (node_error.Worn count) before mid now K earlier fails = tt
+
+-- the cause of a stop inside a longer stretch
+pub cause_later : (why : Stop) (before mid now : Fault → ℕ) → ((k : Fault) → before k ≤ mid k) → IsCausedBy why mid now → IsCausedBy why before now
+cause_later stop.Words before mid now earlier cause = tt
+cause_later stop.Memory before mid now earlier cause = tt
+cause_later (stop.Foreign found) before mid now earlier cause = tt
+cause_later stop.Read before mid now earlier cause = rose_later (before fault.Read) (mid fault.Read) (now fault.Read) (earlier fault.Read) cause
+cause_later stop.Flash before mid now earlier cause = rose_later (before fault.Flash) (mid fault.Flash) (now fault.Flash) (earlier fault.Flash) cause
+cause_later stop.Link before mid now earlier (inl cause) = inl (rose_later (before fault.Recv) (mid fault.Recv) (now fault.Recv) (earlier fault.Recv) cause)
+cause_later stop.Link before mid now earlier (inr cause) = inr (rose_later (before fault.Send) (mid fault.Send) (now fault.Send) (earlier fault.Send) cause)
+cause_later stop.Worn before mid now earlier cause = tt
+cause_later (stop.Turns n) before mid now earlier cause = tt
+cause_later stop.Attach before mid now earlier cause = rose_later (before fault.Attach) (mid fault.Attach) (now fault.Attach) (earlier fault.Attach) cause
+
+pub on_err : {T E : Type 0} (r : Result T E) (P : Type 0) → P → OnErr r P
+on_err (Ok x) P p = tt
+on_err (Err e) P p = p
+
+fault_stop : (kind : Fault) → IsEventStop (stop_of_fault kind)
+fault_stop fault.Attach = tt
+fault_stop fault.Read = tt
+fault_stop fault.Flash = tt
+fault_stop fault.Recv = tt
+fault_stop fault.Send = tt
+
+pub event_stop : (e : NodeError) → node.OnMemory e ⊥ → node.OnForeign e (λ place. ⊥) → IsEventStop (stop_of e)
+event_stop node_error.Memory memory foreign = memory
+event_stop (node_error.Fault kind) memory foreign = fault_stop kind
+event_stop (node_error.Foreign region offset word) memory foreign = foreign
+event_stop (node_error.Worn count) memory foreign = tt
+
+-- why an event stops a serve is why a serve stops
+pub serve_event : (why : Stop) → IsEventStop why → IsServeStop why
+serve_event stop.Words event = event
+serve_event stop.Memory event = absurd event
+serve_event (stop.Foreign found) event = absurd event
+serve_event stop.Read event = tt
+serve_event stop.Flash event = tt
+serve_event stop.Link event = tt
+serve_event stop.Worn event = tt
+serve_event (stop.Turns n) event = absurd event
+serve_event stop.Attach event = tt
+
+pub serve_stop : (e : NodeError) → IsServeStop (stop_of e)
+serve_stop node_error.Memory = tt
+serve_stop (node_error.Fault kind) = serve_event (stop_of_fault kind) (fault_stop kind)
+serve_stop (node_error.Foreign region offset word) = tt
+serve_stop (node_error.Worn count) = tt
+
+-- no event and no close tells of memory or of a foreign halfword
+pub event_memory : (why : Stop) (P : Type 0) → IsEventStop why → OnMemory why P
+event_memory stop.Words P event = tt
+event_memory stop.Memory P event = absurd event
+event_memory (stop.Foreign found) P event = tt
+event_memory stop.Read P event = tt
+event_memory stop.Flash P event = tt
+event_memory stop.Link P event = tt
+event_memory stop.Worn P event = tt
+event_memory (stop.Turns n) P event = tt
+event_memory stop.Attach P event = tt
+
+pub event_first : (why : Stop) (words : Words) → IsEventStop why → IsFirst words why
+event_first stop.Words words event = tt
+event_first stop.Memory words event = tt
+event_first (stop.Foreign found) words event = absurd event
+event_first stop.Read words event = tt
+event_first stop.Flash words event = tt
+event_first stop.Link words event = tt
+event_first stop.Worn words event = tt
+event_first (stop.Turns n) words event = tt
+event_first stop.Attach words event = tt
+
+pub event_foreign : (why : Stop) (P : Type 0) → IsEventStop why → OnForeign why P
+event_foreign stop.Words P event = tt
+event_foreign stop.Memory P event = tt
+event_foreign (stop.Foreign found) P event = absurd event
+event_foreign stop.Read P event = tt
+event_foreign stop.Flash P event = tt
+event_foreign stop.Link P event = tt
+event_foreign stop.Worn P event = tt
+event_foreign (stop.Turns n) P event = tt
+event_foreign stop.Attach P event = tt
+
+fault_memory : (kind : Fault) (P : Type 0) → OnMemory (stop_of_fault kind) P
+fault_memory kind P = event_memory (stop_of_fault kind) P (fault_stop kind)
+
+pub memory_stop : (e : NodeError) (P : Type 0) → node.OnMemory e P → OnMemory (stop_of e) P
+memory_stop node_error.Memory P p = p
+memory_stop (node_error.Fault kind) P p = fault_memory kind P
+memory_stop (node_error.Foreign region offset word) P p = tt
+memory_stop (node_error.Worn count) P p = tt
+
+pub foreign_stop : (e : NodeError) (P : Type 0) → node.OnForeign e (λ place. P) → OnForeign (stop_of e) P
+foreign_stop node_error.Memory P p = tt
+foreign_stop (node_error.Fault kind) P p = event_foreign (stop_of_fault kind) P (fault_stop kind)
+foreign_stop (node_error.Foreign region offset word) P p = p
+foreign_stop (node_error.Worn count) P p = tt
+
+fault_worn : (kind : Fault) (P : Type 0) → OnWorn (stop_of_fault kind) P
+fault_worn fault.Attach P = tt
+fault_worn fault.Read P = tt
+fault_worn fault.Flash P = tt
+fault_worn fault.Recv P = tt
+fault_worn fault.Send P = tt
+
+pub worn_stop : (e : NodeError) (Q : ℕ → Type 0) (P : Type 0) → ((count : ℕ) → Q count → P) → node.OnWorn e Q → OnWorn (stop_of e) P
+worn_stop node_error.Memory Q P f q = tt
+worn_stop (node_error.Fault kind) Q P f q = fault_worn kind P
+worn_stop (node_error.Foreign region offset word) Q P f q = tt
+worn_stop (node_error.Worn count) Q P f q = f count q
+
+pub worn_map : (why : Stop) (Q P : Type 0) → (Q → P) → OnWorn why Q → OnWorn why P
+worn_map stop.Words Q P f q = tt
+worn_map stop.Memory Q P f q = tt
+worn_map (stop.Foreign found) Q P f q = tt
+worn_map stop.Read Q P f q = tt
+worn_map stop.Flash Q P f q = tt
+worn_map stop.Link Q P f q = tt
+worn_map stop.Worn Q P f q = f q
+worn_map (stop.Turns n) Q P f q = tt
+worn_map stop.Attach Q P f q = tt
+
+-- the image as it was attached
+pub void_from : {B : Type 0} (g : Ghosts B) (words before : Words) (board : B) → (g.tells board → words ≡ before) → HasToVoid g words board → HasToVoid g before board
+void_from g words before board same (inl used) = inl (λ t. subst IsUsedUp (same t) (used t))
+void_from g words before board same (inr next) = inr next
+
+pub worn_in : {T : Type 0} (r : Result T Stop) (Q P : Type 0) → (Q → P) → IfErr r (λ why. OnWorn why Q) → IfErr r (λ why. OnWorn why P)
+worn_in (Ok x) Q P f q = tt
+worn_in (Err why) Q P f q = worn_map why Q P f q
+
+foreign_map : (why : Stop) (Q P : Type 0) → (Q → P) → OnForeign why Q → OnForeign why P
+foreign_map stop.Words Q P f q = tt
+foreign_map stop.Memory Q P f q = tt
+foreign_map (stop.Foreign found) Q P f q = f q
+foreign_map stop.Read Q P f q = tt
+foreign_map stop.Flash Q P f q = tt
+foreign_map stop.Link Q P f q = tt
+foreign_map stop.Worn Q P f q = tt
+foreign_map (stop.Turns n) Q P f q = tt
+foreign_map stop.Attach Q P f q = tt
+
+pub foreign_in : {T : Type 0} (r : Result T Stop) (Q P : Type 0) → (Q → P) → IfErr r (λ why. OnForeign why Q) → IfErr r (λ why. OnForeign why P)
+foreign_in (Ok x) Q P f q = tt
+foreign_in (Err why) Q P f q = foreign_map why Q P f q

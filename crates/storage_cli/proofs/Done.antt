@@ -3,14 +3,14 @@ use Rattle.std.proofs.Common.{◌≡◌, ◌≢◌, ◌⊎◌, inl, inr, ℕ, Li
 use Rattle.std.specs.Prelude.{⊤}
 use Rattle.flash_traits.specs.declared.board.Board.{Ghosts}
 use Rattle.flash_traits.specs.Words.{Words}
-use Rattle.vehicle_node.specs.Standing.{counts}
-use Rattle.storage_cli.specs.declared.endings.Served.{Served}
-use Rattle.storage_cli.specs.declared.endings.Stop.{Stop}
-use Rattle.storage_cli.specs.declared.endings.Stop.TheVariants as stop
+use Rattle.flash_traits.specs.Counts.{counts}
+use Rattle.storage_cli.specs.declared.stop.Served.{Served}
+use Rattle.storage_cli.specs.declared.stop.Stop.{Stop}
+use Rattle.storage_cli.specs.declared.stop.Stop.TheVariants as stop
 use Rattle.storage_cli.specs.Texts.{served_line, turns_line}
 use Rattle.storage_cli.specs.Serving.{Serves}
-use Rattle.storage_cli.specs.Ends.{status_of_stop, line_of_stop, IsDone}
-use Rattle.storage_cli.specs.Progress.{Completes}
+use Rattle.storage_cli.specs.Steps.Stops.{status_of_stop, line_of_stop, IsDone}
+use Rattle.storage_cli.specs.Steps.Progress.{Completes}
 use Rattle.storage_cli.proofs.Outcomes.{Gives, other, ends_turns}
 
 module _ {B : Type 0} (g : Ghosts B) (board : B) (before : Words) (turns status : ℕ) (printed : List ℕ → Type 0) where

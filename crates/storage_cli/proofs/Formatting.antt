@@ -10,21 +10,12 @@ use Rattle.flash_traits.specs.declared.board.Region.TheVariants.{S0, S1, Guard}
 use Rattle.flash_traits.specs.Words.{Words, halfwords_in, region_length, blank, programmed, HasShape, IsSectorSize}
 use Rattle.flash_traits.specs.Losses.{ByResult}
 use Rattle.flash_traits.specs.Pairs.{ProgramsPair}
+use Rattle.flash_traits.proofs.Sizes.{half_at_least}
 use Rattle.storage_cli.specs.Fresh.{header_only, fresh_word, IsFreshImage}
-
-small_header : (n : ℕ) → IsSectorSize n → 2 ≤ region_length n S0
-small_header n (inl is) = omega (arith, is)
-small_header n (inr (inl is)) = omega (arith, is)
-small_header n (inr (inr (inl is))) = omega (arith, is)
-small_header n (inr (inr (inr is))) = omega (arith, is)
 
 pub on_ok_part : {T E : Type 0} (r : Result T E) (P : Type 0) → is_err r ≡ false → OnOk r P → P
 on_ok_part (Ok x) P ok p = p
 on_ok_part (Err e) P ok p = absurd (true≢false ok)
-
-pub done_part : {T E X : Type 0} (r : Result T E) (done lost : X → X → Type 0) (u w : X) → is_err r ≡ false → ByResult r done lost u w → done u w
-done_part (Ok v) done lost u w ok is = is
-done_part (Err e) done lost u w ok is = absurd (true≢false ok)
 
 -- a row whose first two halfwords were programmed
 abbrev with_first : List ℕ → ℕ → List ℕ
@@ -62,9 +53,9 @@ blank_row : (n i : ℕ) → i < length {A = ℕ} (replicate n 65535) → (let v 
 blank_row n i less = get_or-replicate n i 65535 0 (omega (arith, less, length-replicate {A = ℕ} n 65535))
 
 half_long : (n : ℕ) → IsSectorSize n → 2 ≤ length {A = ℕ} (replicate (n / 2) 65535)
-half_long n known = omega (arith, length-replicate {A = ℕ} (n / 2) 65535, small_header n known)
+half_long n known = omega (arith, length-replicate {A = ℕ} (n / 2) 65535, half_at_least n known)
 
--- the words behind both headers
+-- the words after both headers
 abbrev formatted : ℕ → Words
 formatted n = programmed (programmed (programmed (programmed (blank n) S1 0 0x5BFF) S1 1 0x5168) S0 0 0x5BFE) S0 1 0x5168
 

@@ -1,4 +1,3 @@
-pub mod Hex
 pub mod Lines
 pub mod Formatting
 pub mod Outcomes
@@ -8,3 +7,4 @@ pub mod Causes
 pub mod Serves
 pub mod Done
 pub mod TextEndings
+pub mod Completeness

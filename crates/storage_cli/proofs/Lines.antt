@@ -1,9 +1,9 @@
 -- Each stop has one of the lines.
-use Rattle.storage_cli.specs.declared.endings.Stop.{Stop}
-use Rattle.storage_cli.specs.declared.endings.Stop.TheVariants as stop
+use Rattle.storage_cli.specs.declared.stop.Stop.{Stop}
+use Rattle.storage_cli.specs.declared.stop.Stop.TheVariants as stop
 use Rattle.storage_cli.specs.Texts as texts
 use Rattle.storage_cli.specs.Texts.{Line}
-use Rattle.storage_cli.specs.Ends.{line_of_stop}
+use Rattle.storage_cli.specs.Steps.Stops.{line_of_stop}
 
 pub line_is : (why : Stop) → Line (line_of_stop why)
 line_is stop.Words = texts.Words

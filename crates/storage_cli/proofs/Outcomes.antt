@@ -3,13 +3,13 @@ use Rattle.std.proofs.Common.{◌≡◌, ◌≢◌, ◌⊎◌, inl, inr, ℕ, Li
 use Rattle.flash_traits.specs.declared.board.Fault.{Fault}
 use Rattle.flash_traits.specs.Words.{Words}
 use Rattle.sector_image.specs.FirstBad.{place_of}
-use Rattle.storage_cli.specs.declared.endings.Served.{Served}
-use Rattle.storage_cli.specs.declared.endings.Foreign.{Foreign}
-use Rattle.storage_cli.specs.declared.endings.Stop.{Stop}
-use Rattle.storage_cli.specs.declared.endings.Stop.TheVariants as stop
+use Rattle.storage_cli.specs.declared.stop.Served.{Served}
+use Rattle.storage_cli.specs.declared.stop.Foreign.{Foreign}
+use Rattle.storage_cli.specs.declared.stop.Stop.{Stop}
+use Rattle.storage_cli.specs.declared.stop.Stop.TheVariants as stop
 use Rattle.storage_cli.specs.Statuses.{IsServeStatus, IsFormatStatus, IsPastAttach, TellsFaults, PrintsStatus}
 use Rattle.storage_cli.specs.Serving.{NamesForeign}
-use Rattle.storage_cli.specs.Ends.{status_of_stop, line_of_stop, IsServeStop, IsFormatStop, IsCausedBy, IsFirst, IsAttached, OnMemory, OnWorn, StopsEarly, StopsWorn}
+use Rattle.storage_cli.specs.Steps.Stops.{status_of_stop, line_of_stop, IsServeStop, IsFormatStop, IsCausedBy, IsFirst, IsAttached, OnForeign, OnMemory, OnWorn, StopsEarly, StopsWorn}
 
 -- the status of an ending, or that of a failing output
 abbrev pub Gives : ℕ → ℕ → Type 0
@@ -250,6 +250,9 @@ module _ (status : ℕ) (why : Stop) (gives : Gives status (status_of_stop why))
   pub memory_told : (P : Type 0) → OnMemory why P → status ≡ 2 → P
   memory_told P holds e = subst (λ (w : Stop). OnMemory w P) (ends_memory e) holds
 
+  pub foreign_told : (P : Type 0) → OnForeign why P → status ≡ 3 → P
+  foreign_told P holds e = let found = ends_foreign e in subst (λ (w : Stop). OnForeign w P) found.1 holds
+
   pub worn_told : (P : Type 0) → OnWorn why P → status ≡ 7 → P
   worn_told P holds e = subst (λ (w : Stop). OnWorn w P) (ends_worn e) holds
 
@@ -267,14 +270,14 @@ attached T status before now stop.Attach (inl is) cause past = past.attach is
 attached T status before now stop.Attach (inr is) cause past = past.output is cause
 
 -- what an early stop and a used up guard row leave for the status
-pub stops_early : (status : ℕ) (why : Stop) → Gives status (status_of_stop why) → (let r : Result Served Stop = Err why in StopsEarly r) → status ≢ 13 → (status ≡ 2) ⊎ (status ≡ 3) ⊎ (status ≡ 4) ⊎ (status ≡ 5) ⊎ (status ≡ 10)
-stops_early status why (inr is) early past = inr (inr (inr (inr is)))
+pub stops_early : (status : ℕ) (why : Stop) → Gives status (status_of_stop why) → (let r : Result Served Stop = Err why in StopsEarly r) → status ≢ 13 → (status ≡ 2) ⊎ (status ≡ 3) ⊎ (status ≡ 4) ⊎ (status ≡ 10)
+stops_early status why (inr is) early past = inr (inr (inr is))
 stops_early status stop.Memory (inl is) early past = inl is
 stops_early status (stop.Foreign found) (inl is) early past = inr (inl is)
 stops_early status stop.Read (inl is) early past = inr (inr (inl is))
 stops_early status stop.Attach (inl is) early past = absurd (past is)
 stops_early status stop.Words (inl is) early past = absurd early
-stops_early status stop.Flash (inl is) early past = inr (inr (inr (inl is)))
+stops_early status stop.Flash (inl is) early past = absurd early
 stops_early status stop.Link (inl is) early past = absurd early
 stops_early status stop.Worn (inl is) early past = absurd early
 stops_early status (stop.Turns n) (inl is) early past = absurd early

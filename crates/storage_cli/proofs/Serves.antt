@@ -10,14 +10,15 @@ use Rattle.sector_image.specs.Stands.{Stands}
 use Rattle.storage_lines.specs.Lines.{after}
 use Rattle.vehicle_node.specs.Runs.{Run}
 use Rattle.vehicle_node.specs.Safe.{Safe, SafeSince, Adds}
-use Rattle.vehicle_node.specs.Standing.{Node, StandsAt, StandsForRun, counts}
-use Rattle.storage_cli.specs.declared.endings.Served.{Served}
-use Rattle.storage_cli.specs.declared.endings.Stop.{Stop}
-use Rattle.storage_cli.specs.declared.endings.Stop.TheVariants as stop
+use Rattle.flash_traits.specs.Counts.{counts}
+use Rattle.vehicle_node.specs.Standing.{Node, StandsAt, StandsForRun}
+use Rattle.storage_cli.specs.declared.stop.Served.{Served}
+use Rattle.storage_cli.specs.declared.stop.Stop.{Stop}
+use Rattle.storage_cli.specs.declared.stop.Stop.TheVariants as stop
 use Rattle.storage_cli.specs.Serving.{IsWhole}
-use Rattle.storage_cli.specs.Progress.{IsSafe, IsSafeRun, Finishes, Completes, EndsSo}
+use Rattle.storage_cli.specs.Steps.Progress.{IsSafe, IsSafeRun, Finishes, Completes, EndsSo}
 use Rattle.storage_cli.proofs.FewerEvents.{one_fewer, safe_none}
-use Rattle.storage_cli.proofs.Calls.{ending, some_safe, safe_later, safe_behind}
+use Rattle.storage_cli.proofs.Calls.{ending, some_safe, safe_later, safe_after}
 
 -- What a loss since the attach leaves is safe: the lists began there.
 pub safe_run : {B : Type 0} (g : Ghosts B) (reads : (b : B) (o : Outcome) → g.now b o → g.tells b × (o.words ≡ g.words b)) (only_now : (b : B) (o : Outcome) → g.left b (g.moment b) o → g.now b o)
@@ -51,12 +52,12 @@ module _ {B : Type 0} (g : Ghosts B) (b : List ℕ) (a m : B) (opens : Passes g 
   open_lost = weaker (IsSafe b [] []) (IsSafe b [] []) opens (λ s o now since. some_safe b [] [] 0 s o since) (λ s o now since. some_safe b [] [] 0 s o since)
 
   module _ (here : (o : Outcome) → g.now m o → After (g.now a) (Adds [] []) o) where
-    -- the calls behind it
+    -- the calls after it
     pub open_then : (c : B) → Passes g m c (IsSafe b [] []) (IsSafe b [] []) → Passes g a c (IsSafe b [] []) (IsSafe b [] [])
     open_then c calls = chained (IsSafe b [] []) (IsSafe b [] []) (ending g (Adds [] []) opens here) calls
         (λ s o since. some_safe b [] [] 0 s o since)
-        (λ s n o now adds safe. safe_behind b s n o adds safe)
-        (λ s n o now adds safe. safe_behind b s n o adds safe)
+        (λ s n o now adds safe. safe_after b s n o adds safe)
+        (λ s n o now adds safe. safe_after b s n o adds safe)
 
     pub open_closed : (c d : B) (es : List Received) (fs : List SentFrame) (n : ℕ) → Passes g m c (IsSafe b [] []) (Adds es fs) → Passes g c d (SafeSince b es fs n) (SafeSince b es fs n)
         → Passes g a d (IsSafe b [] []) (IsSafe b [] [])
@@ -80,7 +81,7 @@ module _ {B : Type 0} (g : Ghosts B) (a m c d : B) (node new : Node) (turns : �
   whole : g.tells d → (b : List ℕ) → Stands (g.words a) b → IsWhole b p.events p.frames (g.words d)
   whole t b stands =
       let r = runs t b stands in
-      record { parts = r.parts; rests = new.rests; reads = r.reads; all_answers = r.at.sent; all_lines = done t b _ p.frames r.at }
+      record { acts = r.acts; rests = new.rests; reads = r.reads; all_answers = r.at.sent; all_lines = done t b _ p.frames r.at }
 
   sent : g.tells d → new.frames ≡ counts (length p.frames)
   sent t = let b = image (p.progress.told (told t)) in (runs t b.0 b.1).at.frame_count

@@ -12,18 +12,18 @@ use Rattle.image_report.specs.declared.errors.ReportError.TheVariants as errors
 use Rattle.image_report.specs.Refusals.{OnForeign, OnOutput, OnceRead}
 use Rattle.image_report.specs.Dumps.{IsDump}
 use Rattle.image_report.specs.Reports.{IsReport}
-use Rattle.image_report.specs.Writes.{WritesFirstPart}
+use Rattle.image_report.specs.Writes.{WritesPrefix}
 use Rattle.image_report.proofs.TextLaws.{dump_of}
-use Rattle.storage_cli.specs.declared.endings.Stop.{Stop}
-use Rattle.storage_cli.specs.declared.endings.Stop.TheVariants as stop
+use Rattle.storage_cli.specs.declared.stop.Stop.{Stop}
+use Rattle.storage_cli.specs.declared.stop.Stop.TheVariants as stop
 use Rattle.storage_cli.specs.declared.printing.ImageText.{ImageText}
 use Rattle.storage_cli.specs.declared.printing.ImageText.TheVariants as image_text
 use Rattle.storage_cli.specs.declared.printing.Printed.{Printed}
 use Rattle.storage_cli.specs.declared.printing.Printed.TheVariants as printed
-use Rattle.storage_cli.specs.Ends.{status_of_stop, IsFirst}
+use Rattle.storage_cli.specs.Steps.Stops.{status_of_stop, IsFirst}
 use Rattle.storage_cli.specs.Statuses.{IsCutShort, IsTextCutShort}
 use Rattle.storage_cli.specs.Texts.{Line}
-use Rattle.storage_cli.specs.Printing.{IsTextOf, IsTextStatus, IsTextStop, OnWhole, OnFirstPart, status_of_printed, ending_of}
+use Rattle.storage_cli.specs.Steps.Printing.{IsTextOf, IsTextStatus, IsTextStop, OnWhole, OnPrefix, status_of_printed, ending_of}
 use Rattle.storage_cli.proofs.Causes.{never_both, first_fault}
 use Rattle.storage_cli.proofs.Outcomes.{Gives}
 
@@ -42,14 +42,14 @@ once_all (Err (errors.Fault kind)) P p = tt
 once_all (Err (errors.Foreign region offset word)) P p = tt
 once_all (Err errors.Output) P p = p
 
-cut_of : (IsText : List ℕ → Type 0) (old new : List ℕ) → (text : List ℕ) × IsText text → WritesFirstPart IsText old new → IsCutShort IsText old new
+cut_of : (IsText : List ℕ → Type 0) (old new : List ℕ) → (text : List ℕ) × IsText text → WritesPrefix IsText old new → IsCutShort IsText old new
 cut_of IsText old new has part =
     let some = part has.0 has.1 in
     record { text = has.0; is_text = has.1; count = some.0; written = some.1 }
 
 -- where the output failed, the text of the words was cut short
 cut_output : {T : Type 0} (told told_out : Type 0) (IsText : List ℕ → Type 0) (old new : List ℕ) (r : Result T ReportError) → OnceRead r (told → (text : List ℕ) × IsText text)
-    → (told → told_out → WritesFirstPart IsText old new) → IfErr r (λ e. OnOutput e (told → told_out → IsCutShort IsText old new))
+    → (told → told_out → WritesPrefix IsText old new) → IfErr r (λ e. OnOutput e (told → told_out → IsCutShort IsText old new))
 cut_output told told_out IsText old new (Ok done) has part = tt
 cut_output told told_out IsText old new (Err errors.Memory) has part = tt
 cut_output told told_out IsText old new (Err (errors.Fault kind)) has part = tt
@@ -57,13 +57,13 @@ cut_output told told_out IsText old new (Err (errors.Foreign region offset word)
 cut_output told told_out IsText old new (Err errors.Output) has part = λ t o. cut_of IsText old new (has t) (part t o)
 
 module _ {T : Type 0} (told told_out : Type 0) (w : Words) (old new : List ℕ) (r : Result T ReportError) (text : ImageText) where
-  pub cut_dump : text ≡ image_text.Dump → OnceRead r (told → (bytes : List ℕ) × Stands w bytes) → (told → told_out → WritesFirstPart (IsDump w) old new)
+  pub cut_dump : text ≡ image_text.Dump → OnceRead r (told → (bytes : List ℕ) × Stands w bytes) → (told → told_out → WritesPrefix (IsDump w) old new)
       → IfErr r (λ e. OnOutput e (told → told_out → IsCutShort (IsTextOf text w) old new))
   cut_dump is stands part =
       let has = once_map r (told → (bytes : List ℕ) × Stands w bytes) (told → (t : List ℕ) × IsDump w t) (λ s t. dump_of w (s t).0 (s t).1) stands in
       subst (λ (x : ImageText). IfErr r (λ e. OnOutput e (told → told_out → IsCutShort (IsTextOf x w) old new))) (sym is) (cut_output told told_out (IsDump w) old new r has part)
 
-  pub cut_report : text ≡ image_text.Report → (told → (t : List ℕ) × IsReport w t) → (told → told_out → WritesFirstPart (IsReport w) old new)
+  pub cut_report : text ≡ image_text.Report → (told → (t : List ℕ) × IsReport w t) → (told → told_out → WritesPrefix (IsReport w) old new)
       → IfErr r (λ e. OnOutput e (told → told_out → IsCutShort (IsTextOf text w) old new))
   cut_report is has part =
       let once = once_all r (told → (t : List ℕ) × IsReport w t) has in
@@ -86,15 +86,15 @@ stops_ending errors.Output told w stands t place bad = absurd (never_both w plac
 module _ (n : ℕ) where
   pub printed_gives : (p : Printed) → n ≡ status_of_printed p → Gives n 0
   printed_gives printed.Whole is = inl is
-  printed_gives printed.FirstPart is = inr is
+  printed_gives printed.Prefix is = inr is
 
-  pub first_part_at_10 : (p : Printed) (P : Type 0) → n ≡ status_of_printed p → OnFirstPart p P → n ≡ 10 → P
-  first_part_at_10 printed.Whole P is holds e = absurd (omega (arith, is, e))
-  first_part_at_10 printed.FirstPart P is holds e = holds
+  pub prefix_at_10 : (p : Printed) (P : Type 0) → n ≡ status_of_printed p → OnPrefix p P → n ≡ 10 → P
+  prefix_at_10 printed.Whole P is holds e = absurd (omega (arith, is, e))
+  prefix_at_10 printed.Prefix P is holds e = holds
 
   pub whole_at_0 : (p : Printed) (P : Type 0) → n ≡ status_of_printed p → OnWhole p P → n ≡ 0 → P
   whole_at_0 printed.Whole P is holds e = holds
-  whole_at_0 printed.FirstPart P is holds e = absurd (omega (arith, is, e))
+  whole_at_0 printed.Prefix P is holds e = absurd (omega (arith, is, e))
 
   pub text_done : (text : ImageText) → Gives n 0 → IsTextStatus text n
   text_done image_text.Dump (inl is) = inl is
@@ -125,7 +125,7 @@ module _ (n : ℕ) where
   text_stopped image_text.Report (stop.Turns count) stops (inl is) = absurd stops
   text_stopped image_text.Report stop.Attach stops (inl is) = inr (inr (inr (inr is)))
 
-  -- a dump that stopped behind its attach
+  -- a dump that stopped after its attach
   pub dump_stopped : (text : ImageText) (why : Stop) → IsTextStop text why → Gives n (status_of_stop why) → n ≢ 13 → (n ≡ 2) ⊎ (n ≡ 3) ⊎ (n ≡ 4) ⊎ (n ≡ 10)
   dump_stopped text why stops (inr is) past = inr (inr (inr is))
   dump_stopped text stop.Words stops (inl is) past = absurd stops

@@ -1,16 +1,19 @@
 -- What a `serve` and a `format` have done.
-use Rattle.std.specs.Prelude.{◌≡◌, ◌≢◌, ℕ, ◌-◌, List, [], ◌∷◌, ◌++◌, length, IsTrue}
+use Rattle.std.specs.Prelude.{◌≡◌, ◌≢◌, ◌⊎◌, ℕ, ◌-◌, List, [], ◌∷◌, ◌++◌, length, IsTrue}
 use Rattle.flash_traits.specs.Words.{Words}
+use Rattle.flash_traits.specs.declared.board.Board.{Ghosts}
+use Rattle.dirty_lines.specs.Lines.{Lines}
+use Rattle.dirty_lines.specs.Losses.{IsWornForNext}
 use Rattle.flash_traits.specs.Losses.{Received, End, SentFrame, Moment}
 use Rattle.storage_lines.specs.Lines.{after}
 use Rattle.sector_image.specs.FirstBad.{Place, FirstBad}
-use Rattle.sector_image.specs.Stands as image
-use Rattle.sector_image.specs.Stands.{Stands, Reading, is_due, count_in}
+use Rattle.sector_image.specs.Stands.{Stands, IsUsedUp}
 use Rattle.vehicle_core.specs.Acts.{Act}
 use Rattle.vehicle_node.specs.Frames.{AreFramesOf}
 use Rattle.vehicle_node.specs.Reading.{Reads, no_rests}
 use Rattle.vehicle_node.specs.Runs.{run_of}
-use Rattle.vehicle_node.specs.Standing.{counts}
+use Rattle.flash_traits.specs.Counts.{counts}
+use Rattle.storage_cli.specs.declared.status.TheConstants.{DONE, TURNS_OVER}
 use Rattle.storage_cli.specs.Texts.{foreign_line, served_line}
 
 -- no event is an end
@@ -22,45 +25,55 @@ HasNoEnd (event ∷ events) = (event ≢ End) × HasNoEnd events
 abbrev pub EndsOnce : List Received → Type 0
 EndsOnce events = (front : List Received) × (events ≡ front ++ End ∷ []) × HasNoEnd front
 
--- The whole run over these events, from these bytes: the frames are all its answers, and the words stand for the bytes with all of
--- its lines.
-pub record IsWhole (b : List ℕ) (events : List Received) (frames : List SentFrame) (words : Words) : Type 0 where
-  pub parts : List (List Act)
+-- The whole run over these events, from these bytes: the frames are all its answers, and the words
+-- stand for the bytes with all of its lines.
+pub record IsWhole (b : List ℕ) (events : List Received) (frames : List SentFrame) (words : Words)
+    : Type 0 where
+  pub acts : List (List Act)
   pub rests : List (List ℕ)
-  pub reads : Reads no_rests events parts rests
-  pub all_answers : AreFramesOf (run_of b parts).answers frames
-  pub all_lines : Stands words (after b (run_of b parts).issued)
+  pub reads : Reads no_rests events acts rests
+  pub all_answers : AreFramesOf (run_of b acts).answers frames
+  pub all_lines : Stands words (after b (run_of b acts).issued)
 
--- What a `serve` of so many turns has done that ends with 0 or 8, between the words of its attach and those of its end.
--- `stands` and `told` are what the board says at the end, and `printed` what was printed.
-pub record Serves (stands : List Received → List SentFrame → Type 0) (told : Type 0) (before now : Words) (turns status : ℕ) (printed : List ℕ → Type 0) : Type 0 where
+-- What a `serve` of so many turns has done that came to the end or to the last of its turns,
+-- between the words of its attach and those of its end. `has_lists` and `told` are what the board
+-- says at the end, and `printed` what was printed.
+pub record Serves (has_lists : List Received → List SentFrame → Type 0) (told : Type 0)
+    (before now : Words) (turns status : ℕ) (printed : List ℕ → Type 0) : Type 0 where
   pub events : List Received
   pub frames : List SentFrame
   -- the board has received these events and sent these frames
-  pub are_these : stands events frames
-  -- at 0 the last event was an end, and no earlier one
-  pub ends : status ≡ 0 → EndsOnce events
-  -- at 8 that many events came, and none was an end
-  pub over : status ≡ 8 → HasNoEnd events × (length events ≡ turns)
+  pub are_these : has_lists events frames
+  -- where all was done the last event was an end, and no earlier one
+  pub ends : status ≡ DONE → EndsOnce events
+  -- where the turns are over that many events came, and none was an end
+  pub over : status ≡ TURNS_OVER → HasNoEnd events × (length events ≡ turns)
   -- all frames of the run were sent, and all of its lines are in the image
   pub whole : told → (b : List ℕ) → Stands before b → IsWhole b events frames now
-  -- at 0 the events before the end and the frames are printed; a count of 64 bits stands still at its end
+  -- where all was done the events before the end and the frames are printed; a count of 64 bits
+  -- stands still at its end
   pub sent : ℕ
   pub count : told → sent ≡ counts (length frames)
-  pub line : status ≡ 0 → printed (served_line (length events - 1) sent)
+  pub line : status ≡ DONE → printed (served_line (length events - 1) sent)
 
 -- The line names a foreign halfword: where the words are told, the first one.
-pub record NamesForeign (told : Type 0) (words : Words) (printed : List ℕ → Type 0) : Type 0 where
+pub record NamesForeign (told : Type 0) (words : Words) (printed : List ℕ → Type 0)
+    : Type 0 where
   pub place : Place
   pub first : told → FirstBad words place
   pub line : printed (foreign_line place.region place.at place.word)
 
--- a sector of the image is to be voided, and the guard row is used up
-pub record IsUsedUp (words : Words) : Type 0 where
-  pub reading : Reading
-  pub reads : image.Reads words reading
-  pub due : IsTrue (is_due reading)
-  pub count : count_in reading ≡ 8192
+-- The guard row is used up where a sector has to be voided: the image that was attached has one, or
+-- the words left are spilled with every chunk copied, and home's free bytes are fewer than those of
+-- the next entry of the lines that wait.
+abbrev pub HasToVoid : {B : Type 0} → Ghosts B → Words → B → Type 0
+HasToVoid g words board = (g.tells board → IsUsedUp words)
+    ⊎ ((lines : Lines) × IsWornForNext g board lines)
+
+-- the moment and the words are as they were
+pub record IsLeftAlone {B : Type 0} (g : Ghosts B) (old new : B) : Type 0 where
+  pub moment : g.moment new ≡ g.moment old
+  pub words : g.words new ≡ g.words old
 
 -- nothing was received and nothing sent between two moments
 pub record LeavesLink (before now : Moment) : Type 0 where

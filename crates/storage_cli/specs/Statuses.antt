@@ -4,95 +4,132 @@ use Rattle.std.specs.Borrow.{Bor}
 use Rattle.flash_traits.specs.declared.board.Fault.{Fault}
 use Rattle.flash_traits.specs.declared.board.Fault.TheVariants.{Attach, Read, Flash, Recv, Send}
 use Rattle.flash_traits.specs.Causes.{Rose}
+use Rattle.flash_traits.specs.declared.stream.Sink.{Ghosts}
 use Rattle.command_line.specs.Arguments.{Text}
 use Rattle.flash_traits.specs.Words.{Words}
 use Rattle.command_line.specs.Lines.{CommandLine, serve, format, dump, report, line_of_words}
 use Rattle.image_report.specs.Dumps.{IsDump}
 use Rattle.image_report.specs.Reports.{IsReport}
+use Rattle.storage_cli.specs.declared.status.TheConstants.{ATTACH_FAILED, DONE, FLASH_FAILED, FOREIGN_WORD, LINK_FAILED, NO_COMMAND, NO_MEMORY, OUTPUT_FAILED, READ_FAILED, TURNS_OVER, WORN}
 use Rattle.storage_cli.specs.Texts.{words_line, memory_line, read_line, flash_line, link_line, worn_line, attach_line}
 
 -- the texts that words point to
 abbrev pub texts : List (Bor Text) → List Text
 texts words = map (λ word. word.now) words
 
--- The statuses of each command: 0 all work was done, 1 no command line, 2 want of memory, 3 a foreign halfword, 4 a read failed,
--- 5 a program or an erase failed, 6 a call of the link failed, 7 the guard row is used up, 8 the turns are over, 10 the output
--- failed, 13 the attach failed. Memory may be wanting while the words are read, for every command.
+-- The statuses of each command. Memory may be wanting while the words are read, for every command.
 abbrev pub IsServeStatus : ℕ → Type 0
-IsServeStatus n = (n ≡ 0) ⊎ (n ≡ 2) ⊎ (n ≡ 3) ⊎ (n ≡ 4) ⊎ (n ≡ 5) ⊎ (n ≡ 6) ⊎ (n ≡ 7) ⊎ (n ≡ 8) ⊎ (n ≡ 10) ⊎ (n ≡ 13)
+IsServeStatus n = (n ≡ DONE) ⊎ (n ≡ NO_MEMORY) ⊎ (n ≡ FOREIGN_WORD) ⊎ (n ≡ READ_FAILED)
+    ⊎ (n ≡ FLASH_FAILED) ⊎ (n ≡ LINK_FAILED) ⊎ (n ≡ WORN) ⊎ (n ≡ TURNS_OVER)
+    ⊎ (n ≡ OUTPUT_FAILED) ⊎ (n ≡ ATTACH_FAILED)
 
 abbrev pub IsFormatStatus : ℕ → Type 0
-IsFormatStatus n = (n ≡ 0) ⊎ (n ≡ 2) ⊎ (n ≡ 5) ⊎ (n ≡ 10) ⊎ (n ≡ 13)
+IsFormatStatus n = (n ≡ DONE) ⊎ (n ≡ NO_MEMORY) ⊎ (n ≡ FLASH_FAILED) ⊎ (n ≡ OUTPUT_FAILED)
+    ⊎ (n ≡ ATTACH_FAILED)
 
 abbrev pub IsDumpStatus : ℕ → Type 0
-IsDumpStatus n = (n ≡ 0) ⊎ (n ≡ 2) ⊎ (n ≡ 3) ⊎ (n ≡ 4) ⊎ (n ≡ 10) ⊎ (n ≡ 13)
+IsDumpStatus n = (n ≡ DONE) ⊎ (n ≡ NO_MEMORY) ⊎ (n ≡ FOREIGN_WORD) ⊎ (n ≡ READ_FAILED)
+    ⊎ (n ≡ OUTPUT_FAILED) ⊎ (n ≡ ATTACH_FAILED)
 
 abbrev pub IsReportStatus : ℕ → Type 0
-IsReportStatus n = (n ≡ 0) ⊎ (n ≡ 2) ⊎ (n ≡ 4) ⊎ (n ≡ 10) ⊎ (n ≡ 13)
+IsReportStatus n = (n ≡ DONE) ⊎ (n ≡ NO_MEMORY) ⊎ (n ≡ READ_FAILED) ⊎ (n ≡ OUTPUT_FAILED)
+    ⊎ (n ≡ ATTACH_FAILED)
 
+-- the statuses of a command line
 abbrev pub IsStatusOf : Option CommandLine → ℕ → Type 0
-IsStatusOf None n = (n ≡ 1) ⊎ (n ≡ 2) ⊎ (n ≡ 10)
+IsStatusOf None n = (n ≡ NO_COMMAND) ⊎ (n ≡ NO_MEMORY) ⊎ (n ≡ OUTPUT_FAILED)
 IsStatusOf (Some (serve image port turns)) n = IsServeStatus n
 IsStatusOf (Some (format image sector_bytes)) n = IsFormatStatus n
 IsStatusOf (Some (dump image)) n = IsDumpStatus n
 IsStatusOf (Some (report image)) n = IsReportStatus n
 
--- The attach didn't fail: it failed where status 13 comes, or where the count of failed attaches rose and then the output failed
--- too.
-pub record IsPastAttach (status : ℕ) (before now : Fault → ℕ) : Type 0 where
-  pub attach : status ≢ 13
-  pub output : status ≡ 10 → Rose (before Attach) (now Attach) → ⊥
+-- what is answered to an image with a foreign halfword, after the attach
+abbrev pub IsForeignStatus : ℕ → Type 0
+IsForeignStatus n = (n ≡ NO_MEMORY) ⊎ (n ≡ FOREIGN_WORD) ⊎ (n ≡ READ_FAILED)
+    ⊎ (n ≡ OUTPUT_FAILED)
 
--- Memory was wanting for the words, before the attach: the board is as it was (`same`), and the status is 2, or 10 where the
--- output failed too.
+-- what a serve answers to an image whose guard row is used up where a sector is to be voided
+abbrev pub IsWornStatus : ℕ → Type 0
+IsWornStatus n = (n ≡ NO_MEMORY) ⊎ (n ≡ READ_FAILED) ⊎ (n ≡ FLASH_FAILED) ⊎ (n ≡ WORN)
+    ⊎ (n ≡ OUTPUT_FAILED)
+
+-- The attach didn't fail: it failed where its status comes, or where the count of failed attaches
+-- rose and then the output failed too.
+pub record IsPastAttach (status : ℕ) (before now : Fault → ℕ) : Type 0 where
+  pub attach : status ≢ ATTACH_FAILED
+  pub output : status ≡ OUTPUT_FAILED → Rose (before Attach) (now Attach) → ⊥
+
+-- Memory was wanting for the words, before the attach: the board is as it was (`same`), and the
+-- status is that of want of memory, or of the output where that failed too.
 pub record IsUnasked (status : ℕ) (same : Type 0) : Type 0 where
-  pub status_is : (status ≡ 2) ⊎ (status ≡ 10)
+  pub status_is : (status ≡ NO_MEMORY) ⊎ (status ≡ OUTPUT_FAILED)
   pub board : same
 
--- what holds of a `serve` behind its attach, by its turns
+-- what holds of a `serve` on this condition, by its turns
 abbrev pub OnServe : List Text → Type 0 → (ℕ → Type 0) → Type 0
-OnServe words past P = (image : Text) (port turns : ℕ) → line_of_words words ≡ Some (serve image port turns) → past → P turns
+OnServe words condition P = (image : Text) (port turns : ℕ)
+    → line_of_words words ≡ Some (serve image port turns) → condition → P turns
 
--- what holds of a `format` behind its attach, by its sector size
+-- what holds of a `format` on this condition, by its sector size
 abbrev pub OnFormat : List Text → Type 0 → (ℕ → Type 0) → Type 0
-OnFormat words past P = (image : Text) (sector_bytes : ℕ) → line_of_words words ≡ Some (format image sector_bytes) → past → P sector_bytes
+OnFormat words condition P = (image : Text) (sector_bytes : ℕ)
+    → line_of_words words ≡ Some (format image sector_bytes) → condition → P sector_bytes
 
--- what holds of a `dump`, of a `report`, and of both
+-- what holds of a `dump` on this condition, of a `report`, and of both
 abbrev pub OnDump : List Text → Type 0 → Type 0 → Type 0
-OnDump words past P = (image : Text) → line_of_words words ≡ Some (dump image) → past → P
+OnDump words condition P = (image : Text) → line_of_words words ≡ Some (dump image) → condition → P
 
 abbrev pub OnReport : List Text → Type 0 → Type 0 → Type 0
-OnReport words past P = (image : Text) → line_of_words words ≡ Some (report image) → past → P
+OnReport words condition P = (image : Text) → line_of_words words ≡ Some (report image)
+    → condition → P
 
 abbrev pub OnDumpOrReport : List Text → Type 0 → Type 0 → Type 0
-OnDumpOrReport words past P = OnDump words past P × OnReport words past P
+OnDumpOrReport words condition P = OnDump words condition P × OnReport words condition P
 
 -- a status that tells a fault comes only where the count of its kind rose
 pub record TellsFaults (status : ℕ) (before now : Fault → ℕ) : Type 0 where
-  pub attach : status ≡ 13 → Rose (before Attach) (now Attach)
-  pub read : status ≡ 4 → Rose (before Read) (now Read)
-  pub flash : status ≡ 5 → Rose (before Flash) (now Flash)
-  pub link : status ≡ 6 → Rose (before Recv) (now Recv) ⊎ Rose (before Send) (now Send)
+  pub attach : status ≡ ATTACH_FAILED → Rose (before Attach) (now Attach)
+  pub read : status ≡ READ_FAILED → Rose (before Read) (now Read)
+  pub flash : status ≡ FLASH_FAILED → Rose (before Flash) (now Flash)
+  pub link : status ≡ LINK_FAILED → Rose (before Recv) (now Recv)
+      ⊎ Rose (before Send) (now Send)
+
+-- the sink has this text after what it had, where it tells its bytes
+abbrev pub Prints : {K : Type 0} → Ghosts K → K → K → List ℕ → Type 0
+Prints g old new text = g.tells_written new → g.written new ≡ g.written old ++ text
 
 -- the line of each status that says no more than itself
 pub record PrintsStatus (status : ℕ) (printed : List ℕ → Type 0) : Type 0 where
-  pub words : status ≡ 1 → printed words_line
-  pub memory : status ≡ 2 → printed memory_line
-  pub read : status ≡ 4 → printed read_line
-  pub flash : status ≡ 5 → printed flash_line
-  pub link : status ≡ 6 → printed link_line
-  pub worn : status ≡ 7 → printed worn_line
-  pub attach : status ≡ 13 → printed attach_line
+  pub words : status ≡ NO_COMMAND → printed words_line
+  pub memory : status ≡ NO_MEMORY → printed memory_line
+  pub read : status ≡ READ_FAILED → printed read_line
+  pub flash : status ≡ FLASH_FAILED → printed flash_line
+  pub link : status ≡ LINK_FAILED → printed link_line
+  pub worn : status ≡ WORN → printed worn_line
+  pub attach : status ≡ ATTACH_FAILED → printed attach_line
 
--- where the output failed, a first part of one of these texts was written
-pub record IsCutShort (IsText : List ℕ → Type 0) (written_before written_now : List ℕ) : Type 0 where
+-- where the output failed, a prefix of one of these texts was written
+pub record IsCutShort (IsText : List ℕ → Type 0) (written_before written_now : List ℕ)
+    : Type 0 where
   pub text : List ℕ
   pub is_text : IsText text
   pub count : ℕ
   pub written : written_now ≡ written_before ++ take count text
 
--- A `dump` or a `report` of these words was cut short in its text. It is known what that text is where the words are told.
+-- A `dump` or a `report` of these words was cut short in its text. It is known what that text is
+-- where the words are told.
 abbrev pub IsTextCutShort : Option CommandLine → Type 0 → Words → List ℕ → List ℕ → Type 0
-IsTextCutShort (Some (dump image)) told words written_before written_now = told → IsCutShort (IsDump words) written_before written_now
-IsTextCutShort (Some (report image)) told words written_before written_now = told → IsCutShort (IsReport words) written_before written_now
+IsTextCutShort (Some (dump image)) told words written_before written_now =
+    told → IsCutShort (IsDump words) written_before written_now
+IsTextCutShort (Some (report image)) told words written_before written_now =
+    told → IsCutShort (IsReport words) written_before written_now
 IsTextCutShort _ told words written_before written_now = ⊥
+
+-- no call of the board or of the output failed: no count of failed calls rose
+pub record NothingFailed (before now : Fault → ℕ) (output_before output_now : ℕ) : Type 0 where
+  pub board : (kind : Fault) → Rose (before kind) (now kind) → ⊥
+  pub output : Rose output_before output_now → ⊥
+
+-- all work was done, or memory was wanting
+abbrev pub IsDoneUnlessMemory : ℕ → Type 0
+IsDoneUnlessMemory n = (n ≡ DONE) ⊎ (n ≡ NO_MEMORY)

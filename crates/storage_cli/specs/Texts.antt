@@ -1,55 +1,52 @@
 -- The lines that a call prints.
-use Rattle.std.specs.Prelude.{ℕ, List, [], ◌∷◌, ◌++◌, codes, decimal}
-use Rattle.std.specs.Int.{to_be_bytes, w16}
-use Rattle.hex.specs.Hex.{encode_upper}
+use Rattle.std.specs.Prelude.{ℕ, List, ◌++◌, codes, decimal}
 use Rattle.flash_traits.specs.declared.board.Region.{Region}
-use Rattle.flash_traits.specs.declared.board.Region.TheVariants.{S0, S1, Guard}
+use Rattle.printed_text.specs.Names.{region_name}
+use Rattle.printed_text.specs.Pieces.{with_newline, place_text}
 
--- each line ends with LF (10)
-abbrev pub line_of : List ℕ → List ℕ
-line_of text = text ++ 10 ∷ []
-
+-- where the words are no command line
 abbrev pub words_line : List ℕ
-words_line = line_of (codes "error 1 words")
+words_line = with_newline (codes "error 1 words")
 
+-- where memory is wanting
 abbrev pub memory_line : List ℕ
-memory_line = line_of (codes "error 2 memory")
+memory_line = with_newline (codes "error 2 memory")
 
+-- where a read failed
 abbrev pub read_line : List ℕ
-read_line = line_of (codes "error 4 read")
+read_line = with_newline (codes "error 4 read")
 
+-- where a program or an erase failed
 abbrev pub flash_line : List ℕ
-flash_line = line_of (codes "error 5 flash")
+flash_line = with_newline (codes "error 5 flash")
 
+-- where a call of the link failed
 abbrev pub link_line : List ℕ
-link_line = line_of (codes "error 6 link")
+link_line = with_newline (codes "error 6 link")
 
--- the guard row has 8,192 halfwords
+-- where the guard row is used up: it has 8,192 halfwords
 abbrev pub worn_line : List ℕ
-worn_line = line_of (codes "error 7 worn 8192")
+worn_line = with_newline (codes "error 7 worn 8192")
 
+-- where the attach failed
 abbrev pub attach_line : List ℕ
-attach_line = line_of (codes "error 13 attach")
+attach_line = with_newline (codes "error 13 attach")
 
-abbrev pub region_name : Region → List ℕ
-region_name S0 = codes "s0"
-region_name S1 = codes "s1"
-region_name Guard = codes "guard"
-
--- a halfword as four upper-case hexadecimal digits, those of its high byte first
-abbrev pub word_text : ℕ → List ℕ
-word_text word = encode_upper (to_be_bytes w16 word)
-
--- the place of a foreign halfword, its offset in halfwords and in decimal
+-- the place of a foreign halfword and its digits
 abbrev pub foreign_line : Region → ℕ → ℕ → List ℕ
-foreign_line region offset word = line_of (codes "error 3 foreign " ++ region_name region ++ codes " " ++ decimal offset ++ codes " " ++ word_text word)
+foreign_line region offset word =
+    with_newline (codes "error 3 foreign " ++ region_name region ++ codes " "
+    ++ place_text offset word)
 
+-- where so many turns are over
 abbrev pub turns_line : ℕ → List ℕ
-turns_line turns = line_of (codes "error 8 turns " ++ decimal turns)
+turns_line turns = with_newline (codes "error 8 turns " ++ decimal turns)
 
 -- how many events came before the end, and how many frames were sent
 abbrev pub served_line : ℕ → ℕ → List ℕ
-served_line events frames = line_of (codes "served " ++ decimal events ++ codes " events " ++ decimal frames ++ codes " frames")
+served_line events frames =
+    with_newline (codes "served " ++ decimal events ++ codes " events " ++ decimal frames
+    ++ codes " frames")
 
 -- the lines that a call may print
 pub data Line : List ℕ → Type 0 where

@@ -1,26 +1,19 @@
-// Makes a fresh image.
+//! A `format`: a fresh image is made.
 ghost use Rattle.std.specs.Prelude.{◌≡◌, [], IfErr, IsOk};
 ghost use Rattle.flash_traits.specs.Words.{IsSectorSize};
-ghost use Rattle.storage_cli.specs.Ends.{IsAttached, IsFormatStop, StopsByCause};
+ghost use Rattle.storage_cli.specs.Steps.Stops.{IsAttached, IsFormatStop, StopsByCause};
 ghost use Rattle.storage_cli.specs.Serving.{LeavesLink};
 ghost use Rattle.storage_cli.specs.Fresh.{IsFreshImage};
 
-use crate::endings::Stop;
-use flash_traits::{Board, Region, program_pair};
-
-/// The first halfword of a sector that is in use.
-const IN_USE: u16 = 0x5BFE;
-
-/// The first halfword of a sector that is available.
-const AVAILABLE: u16 = 0x5BFF;
-
-/// The second halfword of a sector's header.
-const SIGNATURE: u16 = 0x5168;
+use crate::stop::Stop;
+use flash_traits::{Board, Mark, Region};
+use sector_log::begin_sector;
 
 /// Makes a fresh image with sectors of that size.
 pub(crate) fn format<B: Board>(board: &mut B, image: &str, sector_bytes: u32) -> Result<(), Stop>
     requires { IsSectorSize sector_bytes }
-    ensures fresh { IsOk result → B.tells board.new → IsFreshImage sector_bytes (B.words board.new) }
+    ensures fresh { IsOk result → B.tells board.new
+        → IsFreshImage sector_bytes (B.words board.new) }
     ensures size { IsAttached result → B.sector_bytes board.new ≡ sector_bytes }
     ensures no_link { IsAttached result → B.has_lists board.new [] [] }
     ensures link { LeavesLink (B.moment board.old) (B.moment board.new) }
@@ -30,11 +23,7 @@ pub(crate) fn format<B: Board>(board: &mut B, image: &str, sector_bytes: u32) ->
     if board.attach(image, 0, Some(sector_bytes)).is_err() {
         return Err(Stop::Attach);
     }
-    if program_pair(board, Region::S1, 0, AVAILABLE, SIGNATURE).is_err() {
-        return Err(Stop::Flash);
-    }
-    if program_pair(board, Region::S0, 0, IN_USE, SIGNATURE).is_err() {
-        return Err(Stop::Flash);
-    }
+    begin_sector(board, Region::S1, Mark::Available)?;
+    begin_sector(board, Region::S0, Mark::InUse)?;
     Ok(())
 }

@@ -1,14 +1,19 @@
-//! The commands of the storage: what the words ask for, done over a board, and what is printed of it.
+//! The commands of the storage: what the words ask for, done over a board, and what is printed of
+//! it.
 #![tactic(auto)]
 
-mod endings;
+mod commands;
 mod format;
 mod printing;
 mod serving;
+mod status;
+mod stop;
 mod texts;
-mod top;
 
-pub use top::{Status, run};
+pub use commands::run;
+pub use status::{
+    ATTACH_FAILED, DONE, FLASH_FAILED, FOREIGN_WORD, LINK_FAILED, NO_COMMAND, NO_MEMORY, OUTPUT_FAILED, READ_FAILED, Status, TURNS_OVER, WORN,
+};
 
 #[cfg(test)]
 mod tests;

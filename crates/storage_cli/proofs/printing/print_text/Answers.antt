@@ -2,9 +2,9 @@ use Rattle.std.proofs.Common.{◌≡◌, ◌∙◌, sym, subst, Result, true}
 use Rattle.std.specs.Prelude.{IfErr, is_err}
 use Rattle.flash_traits.specs.Words.{Words}
 use Rattle.sector_image.specs.FirstBad.{FirstBad}
-use Rattle.storage_cli.specs.declared.endings.Stop.{Stop}
+use Rattle.storage_cli.specs.declared.stop.Stop.{Stop}
 use Rattle.storage_cli.specs.declared.printing.Printed.{Printed}
-use Rattle.storage_cli.specs.Ends.{IsFirst}
+use Rattle.storage_cli.specs.Steps.Stops.{IsFirst}
 use Rattle.storage_cli.proofs.Causes.{never_both}
 use Rattle.storage_cli.proofs.Formatting.{on_ok_part}
 use Rattle.storage_cli.proofs.TextEndings.{first_ending, stops_ending}

@@ -2,6 +2,8 @@ use Rattle.std.proofs.Common.{◌∙◌, sym, subst}
 use Rattle.flash_traits.specs.Words.{Words}
 use Rattle.sector_image.specs.FirstBad.{FirstBad}
 use Rattle.sector_image.specs.Stands.{Stands}
+use Rattle.storage_cli.specs.Serving.{HasToVoid}
+use Rattle.storage_cli.proofs.Causes.{void_from, worn_in, foreign_in}
 use Rattle.storage_cli.proofs.Formatting.{on_ok_part}
 use Rattle.storage_cli.proofs.Serves.{safe_run, completes_attached}
 use Rattle.storage_cli.proofs.serving.serve.Goals as goal
@@ -26,3 +28,23 @@ returns-clause-foreign_where g c = λ told place bad.
     let ok = sym c.is_err.ensures.value ∙ c.if-is_err.false in
     let same = on_ok_part c.attach.result _ ok c.attach.ensures.words (c.serve_image.ensures.told told) in
     c.serve_image.ensures.foreign_where told place (subst (λ (w : Words). FirstBad w place) (sym same) bad)
+
+pub returns-clause-worn_only : goal.returns-clause-worn_only
+returns-clause-worn_only g c =
+    let ok = sym c.is_err.ensures.value ∙ c.if-is_err.false in
+    let words = g.B.Board.words c.attach.new.self in
+    let before = g.B.Board.words c.args.board.now in
+    let same = λ (t : g.B.Board.tells c.serve_image.new.board). on_ok_part c.attach.result _ ok c.attach.ensures.words (c.serve_image.ensures.told t) in
+    worn_in c.serve_image.result (HasToVoid g.B.Board words c.serve_image.new.board) (HasToVoid g.B.Board before c.serve_image.new.board)
+    (void_from g.B.Board words before c.serve_image.new.board same) c.serve_image.ensures.worn_only
+
+pub returns-clause-foreign_idle : goal.returns-clause-foreign_idle
+returns-clause-foreign_idle g c =
+    foreign_in c.serve_image.result _ _ (λ idle. idle ∙ c.attach.ensures.moment) c.serve_image.ensures.foreign_idle
+
+pub returns-clause-left_alone : goal.returns-clause-left_alone
+returns-clause-left_alone g c = λ attached told place bad.
+    let ok = sym c.is_err.ensures.value ∙ c.if-is_err.false in
+    let same = on_ok_part c.attach.result _ ok c.attach.ensures.words (c.serve_image.ensures.told told) in
+    let left = c.serve_image.ensures.left_alone told place (subst (λ (w : Words). FirstBad w place) (sym same) bad) in
+    record { moment = left.moment ∙ c.attach.ensures.moment; words = left.words ∙ same }

@@ -1,28 +1,58 @@
-use Rattle.std.proofs.Common.{arith}
+use Rattle.std.proofs.Common.{◌≤◌, arith}
+use Rattle.flash_traits.specs.declared.board.Fault.{Fault}
+use Rattle.dirty_lines.specs.Lines.{Lines}
+use Rattle.dirty_lines.specs.Losses.{IsWornForNext}
+use Rattle.storage_cli.specs.Steps.Stops.{stop_of, IsEventStop, OnWorn}
 use Rattle.storage_cli.proofs.Calls.{finishes_none, finishes_more, finishes_end, progress_lost}
+use Rattle.storage_cli.proofs.Causes.{on_err, on_stop, caused, node_cause, event_stop, worn_stop}
 use Rattle.storage_cli.proofs.serving.serve_events.Goals as goal
 
 pub loop-events-init : goal.loop-events-init
 loop-events-init g c = record {
   finishes = finishes_none g.B.Board c.args.node.now c.args.board.now;
   fits = c.requires.fits;
+  alone = λ alone. alone;
   faults = λ k. omega arith;
 }
 
-pub returns-in-Err-clause-losses : goal.returns-in-Err-clause-losses
-returns-in-Err-clause-losses g c = λ b e f m runs.
+pub returns-in_err-turn-clause-losses : goal.returns-in_err-turn-clause-losses
+returns-in_err-turn-clause-losses g c =
     let i = c.loop-events.invariant.finishes in
-    progress_lost g.B.Board c.args.node.now c.args.board.now c.loop-events.node c.loop-events.board c.event.new.self c.event.new.board i.events i.frames i.progress b e f m runs c.in-Err.ensures.losses
+    on_err c.from_residual.result _ (λ b e f m runs. progress_lost g.B.Board c.args.node.now c.args.board.now c.loop-events.node c.loop-events.board c.event.new.self c.event.new.board i.events i.frames i.progress b e f m runs c.in_err-turn.ensures.losses)
+
+pub returns-in_err-turn-clause-stops : goal.returns-in_err-turn-clause-stops
+returns-in_err-turn-clause-stops g c =
+    let e = c.in_err-turn.ensures in
+    on_stop c.from_residual.result (stop_of c.in_err-turn.field-0.0) c.from_residual.ensures.1 IsEventStop (event_stop c.in_err-turn.field-0.0 e.never_memory e.never_foreign)
+
+pub returns-in_err-turn-clause-worn : goal.returns-in_err-turn-clause-worn
+returns-in_err-turn-clause-worn g c =
+    on_stop c.from_residual.result (stop_of c.in_err-turn.field-0.0) c.from_residual.ensures.1 (λ why. OnWorn why _) (worn_stop c.in_err-turn.field-0.0 _ _ (λ count worn. worn.1) c.in_err-turn.ensures.worn)
+
+pub returns-in_err-turn-clause-worn_next : goal.returns-in_err-turn-clause-worn_next
+returns-in_err-turn-clause-worn_next g c = λ alone.
+    let next = c.in_err-turn.ensures.worn_next in
+    on_stop c.from_residual.result (stop_of c.in_err-turn.field-0.0) c.from_residual.ensures.1
+    (λ why. OnWorn why ((lines : Lines) × IsWornForNext g.B.Board c.event.new.board lines))
+    (worn_stop c.in_err-turn.field-0.0 _ _ (λ count worn. (c.event.new.self.lines, worn (c.loop-events.invariant.alone alone))) next)
+
+pub returns-in_err-turn-clause-cause : goal.returns-in_err-turn-clause-cause
+returns-in_err-turn-clause-cause g c =
+    let e = c.in_err-turn.ensures in
+    let later : (k : Fault) → g.B.Board.faults c.args.board.now k ≤ g.B.Board.faults c.event.new.board k = λ k. omega (arith, c.loop-events.invariant.faults k, e.counts k) in
+    caused c.from_residual.result (stop_of c.in_err-turn.field-0.0) c.from_residual.ensures.1 (g.B.Board.faults c.args.board.now) (g.B.Board.faults c.event.new.board) later
+    (node_cause c.in_err-turn.field-0.0 (g.B.Board.faults c.args.board.now) (g.B.Board.faults c.loop-events.board) (g.B.Board.faults c.event.new.board) _ c.loop-events.invariant.faults e.fault)
 
 pub returns-in-End-clause-finished : goal.returns-in-End-clause-finished
 returns-in-End-clause-finished g c =
     finishes_end g.B.Board c.args.node.now c.args.board.now c.loop-events.node c.loop-events.board c.event.new.self c.event.new.board c.loop-events.events
-    c.loop-events.invariant.finishes c.in-Ok.turn c.in-Ok.ensures.finished c.in-Ok.ensures.told c.in-Ok.ensures.losses c.args.turns c.in-End.is
+    c.loop-events.invariant.finishes c.in_ok-turn.turn c.in_ok-turn.ensures.finished c.in_ok-turn.ensures.told c.in_ok-turn.ensures.losses c.args.turns c.in-End.is
 
 pub loop-events-preserved : goal.loop-events-preserved
 loop-events-preserved g c = record {
   finishes = finishes_more g.B.Board c.args.node.now c.args.board.now c.loop-events.node c.loop-events.board c.event.new.self c.event.new.board c.loop-events.events
-      c.loop-events.invariant.finishes c.in-Ok.turn c.in-Ok.ensures.finished c.in-Ok.ensures.told c.in-Ok.ensures.losses c.in-More.is;
-  fits = c.in-Ok.ensures.fits;
-  faults = λ k. omega (arith, c.loop-events.invariant.faults k, c.in-Ok.ensures.counts k);
+      c.loop-events.invariant.finishes c.in_ok-turn.turn c.in_ok-turn.ensures.finished c.in_ok-turn.ensures.told c.in_ok-turn.ensures.losses c.in-More.is;
+  fits = c.in_ok-turn.ensures.fits;
+  alone = λ alone. c.in_ok-turn.ensures.alone (c.loop-events.invariant.alone alone);
+  faults = λ k. omega (arith, c.loop-events.invariant.faults k, c.in_ok-turn.ensures.counts k);
 }

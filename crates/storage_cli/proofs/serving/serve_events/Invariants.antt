@@ -1,11 +1,12 @@
 use Rattle.std.proofs.Common.{◌≤◌, None}
-use Rattle.vehicle_node.specs.Standing.{Fits}
-use Rattle.storage_cli.specs.Progress.{Finishes}
+use Rattle.vehicle_node.specs.Standing.{Fits, IsAlone}
+use Rattle.storage_cli.specs.Steps.Progress.{Finishes}
 use Rattle.storage_cli.proofs.serving.serve_events.Given as goal
 
 abbrev pub invariant-loop-events : goal.invariant-loop-events
 invariant-loop-events g l = record {
   finishes : Finishes g.B.Board l.fn.node l.fn.board l.node l.board l.events None;
   fits : Fits g.B.Board l.board l.node;
+  alone : IsAlone l.fn.node → IsAlone l.node;
   faults : (k : _) → g.B.Board.faults l.fn.board k ≤ g.B.Board.faults l.board k;
 }

@@ -1,90 +1,228 @@
-use Rattle.std.proofs.Common.{sym, subst, ◌+◌, [], length, Err}
-use Rattle.storage_cli.specs.declared.endings.Served.{Served}
-use Rattle.storage_cli.specs.declared.endings.Stop.{Stop}
-use Rattle.storage_cli.specs.Ends.{IsFirst, StopsEarly, StopsWorn}
-use Rattle.storage_cli.proofs.Causes.{never_both, is_first, opens_early, opens_worn, not_done}
+use Rattle.std.proofs.Common.{◌≡◌, ◌≤◌, arith, inr, refl, sym, subst, ◌+◌, [], length, Result, Err}
+use Rattle.std.specs.Prelude.{IfErr}
+use Rattle.flash_traits.specs.declared.board.Fault.{Fault}
+use Rattle.flash_traits.specs.Words.{Words}
+use Rattle.storage_cli.specs.declared.stop.Served.{Served}
+use Rattle.storage_cli.specs.declared.stop.Stop.{Stop}
+use Rattle.storage_cli.specs.Serving.{HasToVoid}
+use Rattle.storage_cli.specs.Steps.Stops.{stop_of, IsFirst, IsServeStop, IsDone, OnForeign, OnMemory, OnWorn, StopsEarly, StopsWorn}
+use Rattle.storage_cli.proofs.Causes.{never_both, is_first, opens_early, opens_worn, not_done, on_stop, on_result, caused, node_cause, cause_later, event_stop, serve_event, serve_stop, event_memory, event_first, event_foreign, memory_stop, foreign_stop, worn_stop, worn_map, stopped_by}
 use Rattle.storage_cli.proofs.Serves.{open_lost, open_then, open_closed, completes_end, completes_turns}
 use Rattle.storage_cli.proofs.serving.serve_image.Goals as goal
 
-pub returns-in-Err-clause-losses : goal.returns-in-Err-clause-losses
-returns-in-Err-clause-losses g c = λ b stands. open_lost g.B.Board b c.args.board.now c.open.new.board (c.in-Err.ensures.losses b stands)
+pub returns-in_err-node-clause-losses : goal.returns-in_err-node-clause-losses
+returns-in_err-node-clause-losses g c = λ b stands. open_lost g.B.Board b c.args.board.now c.open.new.board (c.in_err-node.ensures.losses b stands)
 
-pub returns-in-Err-clause-foreign : goal.returns-in-Err-clause-foreign
-returns-in-Err-clause-foreign g c = λ told.
+pub returns-in_err-node-clause-foreign : goal.returns-in_err-node-clause-foreign
+returns-in_err-node-clause-foreign g c = λ told.
     let words = g.B.Board.words c.args.board.now in
-    subst (λ (why : Stop). IsFirst words why) (sym c.stop_of.ensures) (is_first c.in-Err.error (g.B.Board.tells c.open.new.board) words c.in-Err.ensures.foreign told)
+    on_stop c.from_residual.result (stop_of c.in_err-node.field-0.0) c.from_residual.ensures.1 (IsFirst words)
+    (is_first c.in_err-node.field-0.0 (g.B.Board.tells c.open.new.board) words c.in_err-node.ensures.foreign told)
 
-pub returns-in-Err-clause-foreign_where : goal.returns-in-Err-clause-foreign_where
-returns-in-Err-clause-foreign_where g c = λ told place bad.
-    let e = c.in-Err.ensures in
-    subst (λ (why : Stop). StopsEarly {T = Served} (Err why)) (sym c.stop_of.ensures)
-    (opens_early (g.B.Board.words c.args.board.now) (g.B.Board.tells c.open.new.board) (g.B.Board.faults c.args.board.now) (g.B.Board.faults c.open.new.board) c.in-Err.error e.fault e.worn_image told place bad)
+pub returns-in_err-node-clause-foreign_where : goal.returns-in_err-node-clause-foreign_where
+returns-in_err-node-clause-foreign_where g c = λ told place bad.
+    let e = c.in_err-node.ensures in
+    on_result c.from_residual.result (stop_of c.in_err-node.field-0.0) c.from_residual.ensures.1 (λ r. StopsEarly r)
+    (opens_early (g.B.Board.words c.args.board.now) (g.B.Board.tells c.open.new.board) (g.B.Board.faults c.args.board.now) (g.B.Board.faults c.open.new.board) c.in_err-node.field-0.0 ((e.left_alone told place bad).read) e.worn_image told place bad)
 
-pub returns-in-Err-clause-worn_where : goal.returns-in-Err-clause-worn_where
-returns-in-Err-clause-worn_where g c = λ told used.
-    let e = c.in-Err.ensures in
-    subst (λ (why : Stop). StopsWorn {T = Served} (Err why)) (sym c.stop_of.ensures)
-    (opens_worn (g.B.Board.words c.args.board.now) (g.B.Board.tells c.open.new.board) (g.B.Board.faults c.args.board.now) (g.B.Board.faults c.open.new.board) c.in-Err.error e.fault e.foreign told used)
+pub returns-in_err-node-clause-worn_where : goal.returns-in_err-node-clause-worn_where
+returns-in_err-node-clause-worn_where g c = λ told used.
+    let e = c.in_err-node.ensures in
+    on_result c.from_residual.result (stop_of c.in_err-node.field-0.0) c.from_residual.ensures.1 (λ r. StopsWorn r)
+    (opens_worn (g.B.Board.words c.args.board.now) (g.B.Board.tells c.open.new.board) (g.B.Board.faults c.args.board.now) (g.B.Board.faults c.open.new.board) c.in_err-node.field-0.0 e.fault e.foreign told used)
 
-pub returns-in-Err-serve_events-clause-losses : goal.returns-in-Err-serve_events-clause-losses
-returns-in-Err-serve_events-clause-losses g c = λ b stands.
-    let o = c.in-Ok.ensures in
+pub returns-in_err-node-clause-worn : goal.returns-in_err-node-clause-worn
+returns-in_err-node-clause-worn g c =
+    on_stop c.from_residual.result (stop_of c.in_err-node.field-0.0) c.from_residual.ensures.1 (λ why. OnWorn why _) (worn_stop c.in_err-node.field-0.0 _ _ (λ count worn. worn.1) c.in_err-node.ensures.worn)
+
+pub returns-in_err-node-clause-worn_only : goal.returns-in_err-node-clause-worn_only
+returns-in_err-node-clause-worn_only g c =
+    on_stop c.from_residual.result (stop_of c.in_err-node.field-0.0) c.from_residual.ensures.1
+    (λ why. OnWorn why (HasToVoid g.B.Board (g.B.Board.words c.args.board.now) c.open.new.board))
+    (worn_stop c.in_err-node.field-0.0 _ _ (λ count where. where) c.in_err-node.ensures.worn_where)
+
+pub returns-in_err-node-clause-foreign_idle : goal.returns-in_err-node-clause-foreign_idle
+returns-in_err-node-clause-foreign_idle g c =
+    on_stop c.from_residual.result (stop_of c.in_err-node.field-0.0) c.from_residual.ensures.1 (λ why. OnForeign why _) (foreign_stop c.in_err-node.field-0.0 _ c.in_err-node.ensures.foreign_idle)
+
+pub returns-in_err-node-clause-memory : goal.returns-in_err-node-clause-memory
+returns-in_err-node-clause-memory g c =
+    on_stop c.from_residual.result (stop_of c.in_err-node.field-0.0) c.from_residual.ensures.1 (λ why. OnMemory why _) (memory_stop c.in_err-node.field-0.0 _ c.in_err-node.ensures.memory)
+
+pub returns-in_err-node-clause-stops : goal.returns-in_err-node-clause-stops
+returns-in_err-node-clause-stops g c =
+    on_stop c.from_residual.result (stop_of c.in_err-node.field-0.0) c.from_residual.ensures.1 IsServeStop (serve_stop c.in_err-node.field-0.0)
+
+pub returns-in_err-node-clause-cause : goal.returns-in_err-node-clause-cause
+returns-in_err-node-clause-cause g c =
+    let before = g.B.Board.faults c.args.board.now in
+    caused c.from_residual.result (stop_of c.in_err-node.field-0.0) c.from_residual.ensures.1 before (g.B.Board.faults c.open.new.board) c.in_err-node.ensures.counts
+    (node_cause c.in_err-node.field-0.0 before before (g.B.Board.faults c.open.new.board) _ (λ k. omega arith) c.in_err-node.ensures.fault)
+
+pub returns-in_err-end-clause-losses : goal.returns-in_err-end-clause-losses
+returns-in_err-end-clause-losses g c = λ b stands.
+    let o = c.in_ok-node.ensures in
     open_then g.B.Board b c.args.board.now c.open.new.board (o.losses b stands) o.here c.serve_events.new.board
-    (c.in-Err-serve_events.ensures.losses b [] [] 0 (λ t. o.stands t b (stands (o.told t))))
+    (c.in_err-end.ensures.losses b [] [] 0 (λ t. o.stands t b (stands (o.told t))))
 
-pub returns-in-Err-serve_events-clause-completes : goal.returns-in-Err-serve_events-clause-completes
-returns-in-Err-serve_events-clause-completes g c = λ done. absurd (not_done c.in-Err-serve_events.stop c.in-Err-serve_events.ensures.stops done)
+pub returns-in_err-end-clause-completes : goal.returns-in_err-end-clause-completes
+returns-in_err-end-clause-completes g c = λ done.
+    absurd (not_done c.in_err-end.field-0.0 c.in_err-end.ensures.stops (subst (λ (r : Result Served Stop). IsDone r) (stopped_by c.from_residual-in_err-end.result c.in_err-end.field-0.0 c.from_residual-in_err-end.ensures.1) done))
 
-pub returns-in-Err-serve_events-clause-foreign_where : goal.returns-in-Err-serve_events-clause-foreign_where
-returns-in-Err-serve_events-clause-foreign_where g c = λ told place bad.
-    absurd (never_both (g.B.Board.words c.args.board.now) place (c.in-Ok.ensures.not_foreign (c.in-Err-serve_events.ensures.told told)) bad)
+pub returns-in_err-end-clause-foreign : goal.returns-in_err-end-clause-foreign
+returns-in_err-end-clause-foreign g c = λ told.
+    let words = g.B.Board.words c.args.board.now in
+    on_stop c.from_residual-in_err-end.result c.in_err-end.field-0.0 c.from_residual-in_err-end.ensures.1 (IsFirst words) (event_first c.in_err-end.field-0.0 words c.in_err-end.ensures.stops)
 
-pub returns-in-Err-close-clause-losses : goal.returns-in-Err-close-clause-losses
-returns-in-Err-close-clause-losses g c = λ b stands.
-    let o = c.in-Ok.ensures in
-    let p = c.in-Ok-serve_events.ensures.finished in
+pub returns-in_err-end-clause-worn : goal.returns-in_err-end-clause-worn
+returns-in_err-end-clause-worn g c = on_stop c.from_residual-in_err-end.result c.in_err-end.field-0.0 c.from_residual-in_err-end.ensures.1 (λ why. OnWorn why _) c.in_err-end.ensures.worn
+
+pub returns-in_err-end-clause-worn_only : goal.returns-in_err-end-clause-worn_only
+returns-in_err-end-clause-worn_only g c =
+    on_stop c.from_residual-in_err-end.result c.in_err-end.field-0.0 c.from_residual-in_err-end.ensures.1
+    (λ why. OnWorn why (HasToVoid g.B.Board (g.B.Board.words c.args.board.now) c.serve_events.new.board))
+    (worn_map c.in_err-end.field-0.0 _ _ (λ next. inr next) (c.in_err-end.ensures.worn_next c.in_ok-node.ensures.alone))
+
+pub returns-in_err-end-clause-worn_where : goal.returns-in_err-end-clause-worn_where
+returns-in_err-end-clause-worn_where g c = λ told used.
+    absurd (c.in_ok-node.ensures.used_up (c.serve_events.ensures.told told) used.reading used.reads used.due used.count)
+
+pub returns-in_err-end-clause-foreign_idle : goal.returns-in_err-end-clause-foreign_idle
+returns-in_err-end-clause-foreign_idle g c =
+    on_stop c.from_residual-in_err-end.result c.in_err-end.field-0.0 c.from_residual-in_err-end.ensures.1 (λ why. OnForeign why _) (event_foreign c.in_err-end.field-0.0 _ c.in_err-end.ensures.stops)
+
+pub returns-in_err-end-clause-memory : goal.returns-in_err-end-clause-memory
+returns-in_err-end-clause-memory g c =
+    on_stop c.from_residual-in_err-end.result c.in_err-end.field-0.0 c.from_residual-in_err-end.ensures.1 (λ why. OnMemory why _) (event_memory c.in_err-end.field-0.0 _ c.in_err-end.ensures.stops)
+
+pub returns-in_err-end-clause-stops : goal.returns-in_err-end-clause-stops
+returns-in_err-end-clause-stops g c = on_stop c.from_residual-in_err-end.result c.in_err-end.field-0.0 c.from_residual-in_err-end.ensures.1 IsServeStop (serve_event c.in_err-end.field-0.0 c.in_err-end.ensures.stops)
+
+pub returns-in_err-end-clause-cause : goal.returns-in_err-end-clause-cause
+returns-in_err-end-clause-cause g c =
+    let before = g.B.Board.faults c.args.board.now in
+    let mid = g.B.Board.faults c.open.new.board in
+    let now = g.B.Board.faults c.serve_events.new.board in
+    let cause = c.in_err-end.ensures.cause in
+    let later : (k : Fault) → before k ≤ now k = λ k. omega (arith, c.in_ok-node.ensures.counts k, cause.later k) in
+    caused c.from_residual-in_err-end.result c.in_err-end.field-0.0 c.from_residual-in_err-end.ensures.1 before now later
+    (cause_later c.in_err-end.field-0.0 before mid now c.in_ok-node.ensures.counts (cause.cause c.in_err-end.field-0.0 refl))
+
+pub returns-in_err-end-clause-foreign_where : goal.returns-in_err-end-clause-foreign_where
+returns-in_err-end-clause-foreign_where g c = λ told place bad.
+    absurd (never_both (g.B.Board.words c.args.board.now) place (c.in_ok-node.ensures.not_foreign (c.serve_events.ensures.told told)) bad)
+
+pub returns-in_err-close-clause-losses : goal.returns-in_err-close-clause-losses
+returns-in_err-close-clause-losses g c = λ b stands.
+    let o = c.in_ok-node.ensures in
+    let p = c.in_ok-end.ensures.finished in
     let begins = λ (t : g.B.Board.tells c.open.new.board). o.stands t b (stands (o.told t)) in
     open_closed g.B.Board b c.args.board.now c.open.new.board (o.losses b stands) o.here c.serve_events.new.board c.close.new.board p.events p.frames (0 + length p.events)
     (p.progress.losses b [] [] 0 begins) (c.close.ensures.losses b p.events p.frames (0 + length p.events) (λ t. p.progress.stands b [] [] 0 (begins (p.progress.told t))))
 
-pub returns-in-Err-close-clause-foreign_where : goal.returns-in-Err-close-clause-foreign_where
-returns-in-Err-close-clause-foreign_where g c = λ told place bad.
-    absurd (never_both (g.B.Board.words c.args.board.now) place (c.in-Ok.ensures.not_foreign (c.in-Ok-serve_events.ensures.told (c.in-Err-close.ensures.told told))) bad)
+pub returns-in_err-close-clause-completes : goal.returns-in_err-close-clause-completes
+returns-in_err-close-clause-completes g c = λ done.
+    absurd (not_done (stop_of c.in_err-close.field-0.0) (event_stop c.in_err-close.field-0.0 c.in_err-close.ensures.never_memory c.in_err-close.ensures.never_foreign)
+    (subst (λ (r : Result Served Stop). IsDone r) (stopped_by c.from_residual-in_err-close.result (stop_of c.in_err-close.field-0.0) c.from_residual-in_err-close.ensures.1) done))
+
+pub returns-in_err-close-clause-foreign : goal.returns-in_err-close-clause-foreign
+returns-in_err-close-clause-foreign g c = λ told.
+    let words = g.B.Board.words c.args.board.now in
+    on_stop c.from_residual-in_err-close.result (stop_of c.in_err-close.field-0.0) c.from_residual-in_err-close.ensures.1 (IsFirst words) (event_first (stop_of c.in_err-close.field-0.0) words (event_stop c.in_err-close.field-0.0 c.in_err-close.ensures.never_memory c.in_err-close.ensures.never_foreign))
+
+pub returns-in_err-close-clause-worn : goal.returns-in_err-close-clause-worn
+returns-in_err-close-clause-worn g c =
+    on_stop c.from_residual-in_err-close.result (stop_of c.in_err-close.field-0.0) c.from_residual-in_err-close.ensures.1 (λ why. OnWorn why _) (worn_stop c.in_err-close.field-0.0 _ _ (λ count worn. worn.1) c.in_err-close.ensures.worn)
+
+pub returns-in_err-close-clause-worn_only : goal.returns-in_err-close-clause-worn_only
+returns-in_err-close-clause-worn_only g c =
+    on_stop c.from_residual-in_err-close.result (stop_of c.in_err-close.field-0.0) c.from_residual-in_err-close.ensures.1
+    (λ why. OnWorn why (HasToVoid g.B.Board (g.B.Board.words c.args.board.now) c.close.new.board))
+    (worn_stop c.in_err-close.field-0.0 _ _ (λ count next. inr (next (c.in_ok-end.ensures.alone c.in_ok-node.ensures.alone))) c.in_err-close.ensures.worn_next)
+
+pub returns-in_err-close-clause-worn_where : goal.returns-in_err-close-clause-worn_where
+returns-in_err-close-clause-worn_where g c = λ told used.
+    absurd (c.in_ok-node.ensures.used_up (c.in_ok-end.ensures.told (c.close.ensures.told told)) used.reading used.reads used.due used.count)
+
+pub returns-in_err-close-clause-foreign_idle : goal.returns-in_err-close-clause-foreign_idle
+returns-in_err-close-clause-foreign_idle g c =
+    on_stop c.from_residual-in_err-close.result (stop_of c.in_err-close.field-0.0) c.from_residual-in_err-close.ensures.1 (λ why. OnForeign why _) (event_foreign (stop_of c.in_err-close.field-0.0) _ (event_stop c.in_err-close.field-0.0 c.in_err-close.ensures.never_memory c.in_err-close.ensures.never_foreign))
+
+pub returns-in_err-close-clause-memory : goal.returns-in_err-close-clause-memory
+returns-in_err-close-clause-memory g c =
+    on_stop c.from_residual-in_err-close.result (stop_of c.in_err-close.field-0.0) c.from_residual-in_err-close.ensures.1 (λ why. OnMemory why _) (event_memory (stop_of c.in_err-close.field-0.0) _ (event_stop c.in_err-close.field-0.0 c.in_err-close.ensures.never_memory c.in_err-close.ensures.never_foreign))
+
+pub returns-in_err-close-clause-stops : goal.returns-in_err-close-clause-stops
+returns-in_err-close-clause-stops g c = on_stop c.from_residual-in_err-close.result (stop_of c.in_err-close.field-0.0) c.from_residual-in_err-close.ensures.1 IsServeStop (serve_stop c.in_err-close.field-0.0)
+
+pub returns-in_err-close-clause-cause : goal.returns-in_err-close-clause-cause
+returns-in_err-close-clause-cause g c =
+    let before = g.B.Board.faults c.args.board.now in
+    let mid = g.B.Board.faults c.serve_events.new.board in
+    let now = g.B.Board.faults c.close.new.board in
+    let earlier : (k : Fault) → before k ≤ mid k = λ k. omega (arith, c.in_ok-node.ensures.counts k, c.in_ok-end.ensures.cause.later k) in
+    let later : (k : Fault) → before k ≤ now k = λ k. omega (arith, earlier k, c.in_err-close.ensures.counts k) in
+    caused c.from_residual-in_err-close.result (stop_of c.in_err-close.field-0.0) c.from_residual-in_err-close.ensures.1 before now later
+    (node_cause c.in_err-close.field-0.0 before mid now _ earlier c.in_err-close.ensures.fault)
+
+pub returns-in_err-close-clause-foreign_where : goal.returns-in_err-close-clause-foreign_where
+returns-in_err-close-clause-foreign_where g c = λ told place bad.
+    absurd (never_both (g.B.Board.words c.args.board.now) place (c.in_ok-node.ensures.not_foreign (c.in_ok-end.ensures.told (c.close.ensures.told told))) bad)
 
 pub returns-in-Some-clause-losses : goal.returns-in-Some-clause-losses
 returns-in-Some-clause-losses g c = λ b stands.
-    let o = c.in-Ok.ensures in
-    let p = c.in-Ok-serve_events.ensures.finished in
+    let o = c.in_ok-node.ensures in
+    let p = c.in_ok-end.ensures.finished in
     let begins = λ (t : g.B.Board.tells c.open.new.board). o.stands t b (stands (o.told t)) in
     open_closed g.B.Board b c.args.board.now c.open.new.board (o.losses b stands) o.here c.serve_events.new.board c.close.new.board p.events p.frames (0 + length p.events)
     (p.progress.losses b [] [] 0 begins) (c.close.ensures.losses b p.events p.frames (0 + length p.events) (λ t. p.progress.stands b [] [] 0 (begins (p.progress.told t))))
 
 pub returns-in-Some-clause-completes : goal.returns-in-Some-clause-completes
 returns-in-Some-clause-completes g c = λ _.
-    let o = c.in-Ok.ensures in
-    completes_end g.B.Board c.args.board.now c.open.new.board c.serve_events.new.board c.close.new.board c.in-Ok.node c.serve_events.new.node c.args.turns
-    c.in-Ok-close.ensures.told o.lists o.stands o.not_foreign c.in-Ok-close.ensures.lists c.in-Ok-close.ensures.done c.in-Ok-serve_events.end c.in-Ok-serve_events.ensures.finished
+    let o = c.in_ok-node.ensures in
+    completes_end g.B.Board c.args.board.now c.open.new.board c.serve_events.new.board c.close.new.board c.in_ok-node.node c.serve_events.new.node c.args.turns
+    c.in_ok-close.ensures.told o.lists o.stands o.not_foreign c.in_ok-close.ensures.lists c.in_ok-close.ensures.done c.in_ok-end.end c.in_ok-end.ensures.finished
     c.in-Some.events c.frames-frames.result c.in-Some.is c.frames-frames.ensures
 
 pub returns-in-Some-clause-foreign_where : goal.returns-in-Some-clause-foreign_where
 returns-in-Some-clause-foreign_where g c = λ told place bad.
-    never_both (g.B.Board.words c.args.board.now) place (c.in-Ok.ensures.not_foreign (c.in-Ok-serve_events.ensures.told (c.in-Ok-close.ensures.told told))) bad
+    never_both (g.B.Board.words c.args.board.now) place (c.in_ok-node.ensures.not_foreign (c.in_ok-end.ensures.told (c.in_ok-close.ensures.told told))) bad
 
 pub returns-in-None-clause-losses : goal.returns-in-None-clause-losses
 returns-in-None-clause-losses g c = λ b stands.
-    let o = c.in-Ok.ensures in
-    let p = c.in-Ok-serve_events.ensures.finished in
+    let o = c.in_ok-node.ensures in
+    let p = c.in_ok-end.ensures.finished in
     let begins = λ (t : g.B.Board.tells c.open.new.board). o.stands t b (stands (o.told t)) in
     open_closed g.B.Board b c.args.board.now c.open.new.board (o.losses b stands) o.here c.serve_events.new.board c.close.new.board p.events p.frames (0 + length p.events)
     (p.progress.losses b [] [] 0 begins) (c.close.ensures.losses b p.events p.frames (0 + length p.events) (λ t. p.progress.stands b [] [] 0 (begins (p.progress.told t))))
 
 pub returns-in-None-clause-completes : goal.returns-in-None-clause-completes
 returns-in-None-clause-completes g c = λ _.
-    let o = c.in-Ok.ensures in
-    completes_turns g.B.Board c.args.board.now c.open.new.board c.serve_events.new.board c.close.new.board c.in-Ok.node c.serve_events.new.node c.args.turns
-    c.in-Ok-close.ensures.told o.lists o.stands o.not_foreign c.in-Ok-close.ensures.lists c.in-Ok-close.ensures.done c.in-Ok-serve_events.end c.in-Ok-serve_events.ensures.finished
+    let o = c.in_ok-node.ensures in
+    completes_turns g.B.Board c.args.board.now c.open.new.board c.serve_events.new.board c.close.new.board c.in_ok-node.node c.serve_events.new.node c.args.turns
+    c.in_ok-close.ensures.told o.lists o.stands o.not_foreign c.in_ok-close.ensures.lists c.in_ok-close.ensures.done c.in_ok-end.end c.in_ok-end.ensures.finished
     c.in-None.is
 
 pub returns-in-None-clause-foreign_where : goal.returns-in-None-clause-foreign_where
 returns-in-None-clause-foreign_where g c = λ told place bad.
-    never_both (g.B.Board.words c.args.board.now) place (c.in-Ok.ensures.not_foreign (c.in-Ok-serve_events.ensures.told (c.in-Ok-close.ensures.told told))) bad
+    never_both (g.B.Board.words c.args.board.now) place (c.in_ok-node.ensures.not_foreign (c.in_ok-end.ensures.told (c.in_ok-close.ensures.told told))) bad
+
+pub returns-in_err-node-clause-left_alone : goal.returns-in_err-node-clause-left_alone
+returns-in_err-node-clause-left_alone g c = λ told place bad.
+    let left = c.in_err-node.ensures.left_alone told place bad in record { moment = left.moment; words = left.words }
+
+pub returns-in_err-end-clause-left_alone : goal.returns-in_err-end-clause-left_alone
+returns-in_err-end-clause-left_alone g c = λ told place bad.
+    absurd (never_both (g.B.Board.words c.args.board.now) place (c.in_ok-node.ensures.not_foreign (c.serve_events.ensures.told told)) bad)
+
+pub returns-in_err-close-clause-left_alone : goal.returns-in_err-close-clause-left_alone
+returns-in_err-close-clause-left_alone g c = λ told place bad.
+    absurd (never_both (g.B.Board.words c.args.board.now) place (c.in_ok-node.ensures.not_foreign (c.in_ok-end.ensures.told (c.close.ensures.told told))) bad)
+
+pub returns-in-Some-clause-left_alone : goal.returns-in-Some-clause-left_alone
+returns-in-Some-clause-left_alone g c = λ told place bad.
+    absurd (never_both (g.B.Board.words c.args.board.now) place (c.in_ok-node.ensures.not_foreign (c.in_ok-end.ensures.told (c.in_ok-close.ensures.told told))) bad)
+
+pub returns-in-None-clause-left_alone : goal.returns-in-None-clause-left_alone
+returns-in-None-clause-left_alone g c = λ told place bad.
+    absurd (never_both (g.B.Board.words c.args.board.now) place (c.in_ok-node.ensures.not_foreign (c.in_ok-end.ensures.told (c.in_ok-close.ensures.told told))) bad)

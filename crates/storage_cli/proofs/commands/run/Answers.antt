@@ -4,7 +4,7 @@ use Rattle.command_line.specs.Lines.{line_of_words}
 use Rattle.command_line.specs.declared.Command.TheVariants as command
 use Rattle.storage_cli.specs.Statuses.{texts}
 use Rattle.storage_cli.proofs.TextEndings.{cut_short_of, line_given}
-use Rattle.storage_cli.proofs.top.run.Goals as goal
+use Rattle.storage_cli.proofs.commands.run.Goals as goal
 
 pub returns-in-Ok-Some-Dump-clause-cut_short : goal.returns-in-Ok-Some-Dump-clause-cut_short
 returns-in-Ok-Some-Dump-clause-cut_short g c = λ failed told_out.
@@ -23,3 +23,12 @@ returns-in-Ok-Some-Report-clause-cut_short g c = λ failed told_out.
     let ran = c.run_text-in-Ok-Some-Report in
     cut_short_of line (Some (line_of (command.Report a.image))) (g.B.Board.tells ran.new.board) (g.B.Board.words c.args.board.now) (g.K.Sink.written c.args.out.now) (g.K.Sink.written ran.new.out)
     (line_given line a.field-0 a.field-0-0 (command.Report a.image) a.ensures.value a.field-0-is a.field-0-0-is) (ran.ensures.cut_short failed told_out)
+
+pub returns-in-Ok-Some-Dump-clause-dump_complete : goal.returns-in-Ok-Some-Dump-clause-dump_complete
+returns-in-Ok-Some-Dump-clause-dump_complete g c = λ image is nothing told b stands. c.run_text.ensures.complete nothing (λ _. (told, (b, stands)))
+
+pub returns-in-Ok-Some-Report-clause-report_complete : goal.returns-in-Ok-Some-Report-clause-report_complete
+returns-in-Ok-Some-Report-clause-report_complete g c = λ image is nothing. c.run_text-in-Ok-Some-Report.ensures.complete nothing (λ e. absurd (cc))
+
+pub returns-in-Err-clause-left_alone : goal.returns-in-Err-clause-left_alone
+returns-in-Err-clause-left_alone g c = λ image port turns is past told place bad. record { moment = refl; words = refl }

@@ -5,13 +5,14 @@ use Rattle.image_report.specs.declared.errors.ReportError.{ReportError}
 use Rattle.image_report.specs.declared.errors.ReportError.TheVariants as errors
 use Rattle.image_report.specs.Dumps.{IsDump}
 use Rattle.image_report.specs.Reports.{IsReport}
-use Rattle.storage_cli.specs.declared.endings.Stop.{Stop}
-use Rattle.storage_cli.specs.declared.endings.Stop.TheVariants as stop
+use Rattle.storage_cli.specs.declared.stop.Stop.{Stop}
+use Rattle.storage_cli.specs.declared.stop.Stop.TheVariants as stop
 use Rattle.storage_cli.specs.declared.printing.ImageText.{ImageText}
 use Rattle.storage_cli.specs.declared.printing.ImageText.TheVariants as image_text
 use Rattle.storage_cli.specs.declared.printing.Printed.{Printed}
 use Rattle.storage_cli.specs.declared.printing.Printed.TheVariants as printed
-use Rattle.storage_cli.specs.Ends.{stop_of_fault}
+use Rattle.storage_cli.specs.declared.status.TheConstants.{DONE, OUTPUT_FAILED}
+use Rattle.storage_cli.specs.Steps.Stops.{stop_of_fault}
 use Rattle.storage_cli.specs.Statuses.{IsDumpStatus, IsReportStatus}
 
 -- this text of the words
@@ -29,7 +30,8 @@ abbrev pub IsTextStatus : ImageText → ℕ → Type 0
 IsTextStatus image_text.Dump n = IsDumpStatus n
 IsTextStatus image_text.Report n = IsReportStatus n
 
--- why its command may stop: want of memory, a failed read, a failed attach, or for a dump a foreign halfword
+-- why its command may stop: want of memory, a failed read, a failed attach, or for a dump a foreign
+-- halfword
 abbrev pub IsTextStop : ImageText → Stop → Type 0
 IsTextStop text stop.Memory = Unit {0}
 IsTextStop text stop.Read = Unit {0}
@@ -40,20 +42,22 @@ IsTextStop text _ = ⊥
 -- what holds where the whole text was printed
 abbrev pub OnWhole : Printed → Type 0 → Type 0
 OnWhole printed.Whole P = P
-OnWhole printed.FirstPart P = Unit {0}
+OnWhole printed.Prefix P = Unit {0}
 
--- what holds where the output failed behind a first part
-abbrev pub OnFirstPart : Printed → Type 0 → Type 0
-OnFirstPart printed.Whole P = Unit {0}
-OnFirstPart printed.FirstPart P = P
+-- what holds where the output failed after a prefix
+abbrev pub OnPrefix : Printed → Type 0 → Type 0
+OnPrefix printed.Whole P = Unit {0}
+OnPrefix printed.Prefix P = P
 
+-- the status where a text was printed so far
 abbrev pub status_of_printed : Printed → ℕ
-status_of_printed printed.Whole = 0
-status_of_printed printed.FirstPart = 10
+status_of_printed printed.Whole = DONE
+status_of_printed printed.Prefix = OUTPUT_FAILED
 
 -- how a command ends where its text isn't printed as a whole
 abbrev pub ending_of : ReportError → Result Printed Stop
 ending_of errors.Memory = Err stop.Memory
 ending_of (errors.Fault kind) = Err (stop_of_fault kind)
-ending_of (errors.Foreign region offset word) = Err (stop.Foreign (record { region = region; offset = offset; word = word }))
-ending_of errors.Output = Ok printed.FirstPart
+ending_of (errors.Foreign region offset word) =
+    Err (stop.Foreign (record { region = region; offset = offset; word = word }))
+ending_of errors.Output = Ok printed.Prefix

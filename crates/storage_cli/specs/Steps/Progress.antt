@@ -6,25 +6,32 @@ use Rattle.flash_traits.specs.Losses.{Received, SentFrame, Outcome}
 use Rattle.flash_traits.specs.Calls.{Passes}
 use Rattle.sector_image.specs.Stands.{Stands}
 use Rattle.vehicle_node.specs.Safe.{Safe, SafeSince, Adds}
-use Rattle.vehicle_node.specs.Standing.{Node, StandsForRun, counts}
-use Rattle.storage_cli.specs.declared.endings.Served.{Served}
-use Rattle.storage_cli.specs.declared.endings.Stop.{Stop}
-use Rattle.storage_cli.specs.declared.endings.Stop.TheVariants as stop
+use Rattle.flash_traits.specs.Counts.{counts}
+use Rattle.vehicle_node.specs.Standing.{Node, StandsForRun}
+use Rattle.storage_cli.specs.declared.stop.Served.{Served}
+use Rattle.storage_cli.specs.declared.stop.Stop.{Stop}
+use Rattle.storage_cli.specs.declared.stop.Stop.TheVariants as stop
 use Rattle.storage_cli.specs.Serving.{HasNoEnd, EndsOnce, IsWhole}
 
 -- what has been added since an outcome is safe, with all events finished or all but one
-pub record IsSafe (b : List ℕ) (events : List Received) (frames : List SentFrame) (from o : Outcome) : Type 0 where
+pub record IsSafe (b : List ℕ) (events : List Received) (frames : List SentFrame)
+    (from o : Outcome) : Type 0 where
   pub finished : ℕ
   pub since : SafeSince b events frames finished from o
 
--- Events were received and finished, and frames were sent: whatever run the node stood for, it stands for the run with these,
--- and each loss inside is safe.
-pub record Progress {B : Type 0} (g : Ghosts B) (old : Node) (board : B) (new : Node) (after_board : B) (events : List Received) (frames : List SentFrame) : Type 0 where
+-- Events were received and finished, and frames were sent: whatever run the node stood for, it
+-- stands for the run with these, and each loss inside is safe.
+pub record Progress {B : Type 0} (g : Ghosts B) (old : Node) (board : B) (new : Node)
+    (after_board : B) (events : List Received) (frames : List SentFrame) : Type 0 where
   pub told : g.tells after_board → g.tells board
-  pub lists : (e : List Received) (f : List SentFrame) → g.has_lists board e f → g.has_lists after_board (e ++ events) (f ++ frames)
-  pub stands : (b : List ℕ) (e : List Received) (f : List SentFrame) (m : ℕ) → StandsForRun old b e f m → StandsForRun new b (e ++ events) (f ++ frames) (m + length events)
-  pub losses : (b : List ℕ) (e : List Received) (f : List SentFrame) (m : ℕ) → (g.tells board → StandsForRun old b e f m) →
-      Passes g board after_board (IsSafe b e f) (Adds events frames)
+  pub lists : (e : List Received) (f : List SentFrame) → g.has_lists board e f
+      → g.has_lists after_board (e ++ events) (f ++ frames)
+  pub stands : (b : List ℕ) (e : List Received) (f : List SentFrame) (m : ℕ)
+      → StandsForRun old b e f m
+      → StandsForRun new b (e ++ events) (f ++ frames) (m + length events)
+  pub losses : (b : List ℕ) (e : List Received) (f : List SentFrame) (m : ℕ)
+      → (g.tells board → StandsForRun old b e f m)
+      → Passes g board after_board (IsSafe b e f) (Adds events frames)
 
 -- how many events came before the end, where it came within so many turns
 abbrev pub EndsSo : Option ℕ → ℕ → List Received → Type 0
@@ -32,7 +39,8 @@ EndsSo (Some count) turns events = EndsOnce events × (count ≡ length events -
 EndsSo None turns events = HasNoEnd events × (length events ≡ turns)
 
 -- the events that were finished within so many turns
-pub record Finishes {B : Type 0} (g : Ghosts B) (old : Node) (board : B) (new : Node) (after_board : B) (turns : ℕ) (end : Option ℕ) : Type 0 where
+pub record Finishes {B : Type 0} (g : Ghosts B) (old : Node) (board : B) (new : Node)
+    (after_board : B) (turns : ℕ) (end : Option ℕ) : Type 0 where
   pub events : List Received
   pub frames : List SentFrame
   pub progress : Progress g old board new after_board events frames
@@ -49,13 +57,16 @@ abbrev pub CountsFrames : Result Served Stop → List SentFrame → Type 0
 CountsFrames (Ok served) frames = served.frames ≡ counts (length frames)
 CountsFrames (Err _) frames = Unit {0}
 
--- How a serve that was not cut off has left the board, from these words; `begun` says that the lists were empty at its start.
-pub record Completes {B : Type 0} (g : Ghosts B) (before : Words) (begun : Type 0) (board : B) (turns : ℕ) (result : Result Served Stop) : Type 0 where
+-- How a serve that was not cut off has left the board, from these words; `begun` says that the
+-- lists were empty at its start.
+pub record Completes {B : Type 0} (g : Ghosts B) (before : Words) (begun : Type 0) (board : B)
+    (turns : ℕ) (result : Result Served Stop) : Type 0 where
   pub events : List Received
   pub frames : List SentFrame
   pub lists : begun → g.has_lists board events frames
   pub ends : EndsBy result turns events
-  pub whole : g.tells board → (b : List ℕ) → Stands before b → IsWhole b events frames (g.words board)
+  pub whole : g.tells board → (b : List ℕ) → Stands before b
+      → IsWhole b events frames (g.words board)
   pub counted : g.tells board → CountsFrames result frames
 
 -- what a loss leaves of a serve

@@ -1,7 +1,7 @@
 use Rattle.std.proofs.Common.{◌∙◌, sym, subst, ℕ, List}
 use Rattle.storage_cli.specs.Texts.{Line}
 use Rattle.storage_cli.proofs.Lines.{line_is}
-use Rattle.storage_cli.proofs.top.stopped.Goals as goal
+use Rattle.storage_cli.proofs.commands.print_stop.Goals as goal
 
 pub returns-clause-cut : goal.returns-clause-cut
 returns-clause-cut g c = λ failed told.

@@ -1,4 +1,4 @@
--- How a command ends, as the program keeps it: its status, its line and its cause.
+-- Why a command stops, as the program keeps it: its status, its line and its cause.
 use Rattle.std.specs.Prelude.{◌≡◌, ◌⊎◌, ◌≤◌, ℕ, List, Result, Ok, Err}
 use Rattle.flash_traits.specs.Words.{Words}
 use Rattle.flash_traits.specs.Causes.{Rose}
@@ -7,22 +7,25 @@ use Rattle.flash_traits.specs.declared.board.Fault.TheVariants as fault
 use Rattle.sector_image.specs.FirstBad.{FirstBad, place_of}
 use Rattle.vehicle_node.specs.declared.NodeError.{NodeError}
 use Rattle.vehicle_node.specs.declared.NodeError.TheVariants as node_error
-use Rattle.storage_cli.specs.declared.endings.Served.{Served}
-use Rattle.storage_cli.specs.declared.endings.Stop.{Stop}
-use Rattle.storage_cli.specs.declared.endings.Stop.TheVariants as stop
+use Rattle.storage_cli.specs.declared.stop.Served.{Served}
+use Rattle.storage_cli.specs.declared.stop.Stop.{Stop}
+use Rattle.storage_cli.specs.declared.stop.Stop.TheVariants as stop
+use Rattle.storage_cli.specs.declared.status.TheConstants.{ATTACH_FAILED, FLASH_FAILED, FOREIGN_WORD, LINK_FAILED, NO_COMMAND, NO_MEMORY, READ_FAILED, TURNS_OVER, WORN}
 use Rattle.storage_cli.specs.Texts.{words_line, memory_line, foreign_line, read_line, flash_line, link_line, worn_line, turns_line, attach_line}
 
+-- the status of each stop
 abbrev pub status_of_stop : Stop → ℕ
-status_of_stop stop.Words = 1
-status_of_stop stop.Memory = 2
-status_of_stop (stop.Foreign foreign) = 3
-status_of_stop stop.Read = 4
-status_of_stop stop.Flash = 5
-status_of_stop stop.Link = 6
-status_of_stop stop.Worn = 7
-status_of_stop (stop.Turns turns) = 8
-status_of_stop stop.Attach = 13
+status_of_stop stop.Words = NO_COMMAND
+status_of_stop stop.Memory = NO_MEMORY
+status_of_stop (stop.Foreign foreign) = FOREIGN_WORD
+status_of_stop stop.Read = READ_FAILED
+status_of_stop stop.Flash = FLASH_FAILED
+status_of_stop stop.Link = LINK_FAILED
+status_of_stop stop.Worn = WORN
+status_of_stop (stop.Turns turns) = TURNS_OVER
+status_of_stop stop.Attach = ATTACH_FAILED
 
+-- the line of each stop
 abbrev pub line_of_stop : Stop → List ℕ
 line_of_stop stop.Words = words_line
 line_of_stop stop.Memory = memory_line
@@ -34,7 +37,7 @@ line_of_stop stop.Worn = worn_line
 line_of_stop (stop.Turns turns) = turns_line turns
 line_of_stop stop.Attach = attach_line
 
--- why a command stops where a call of the board failed, and where the node stopped
+-- why a command stops where a call of the board failed
 abbrev pub stop_of_fault : Fault → Stop
 stop_of_fault fault.Attach = stop.Attach
 stop_of_fault fault.Read = stop.Read
@@ -42,34 +45,44 @@ stop_of_fault fault.Flash = stop.Flash
 stop_of_fault fault.Recv = stop.Link
 stop_of_fault fault.Send = stop.Link
 
+-- why a command stops where its node did
 abbrev pub stop_of : NodeError → Stop
 stop_of node_error.Memory = stop.Memory
 stop_of (node_error.Fault kind) = stop_of_fault kind
-stop_of (node_error.Foreign region offset word) = stop.Foreign (record { region = region; offset = offset; word = word })
+stop_of (node_error.Foreign region offset word) =
+    stop.Foreign (record { region = region; offset = offset; word = word })
 stop_of (node_error.Worn count) = stop.Worn
 
 -- the fault that a stop tells has its cause
 abbrev pub IsCausedBy : Stop → (Fault → ℕ) → (Fault → ℕ) → Type 0
 IsCausedBy stop.Read before now = Rose (before fault.Read) (now fault.Read)
 IsCausedBy stop.Flash before now = Rose (before fault.Flash) (now fault.Flash)
-IsCausedBy stop.Link before now = Rose (before fault.Recv) (now fault.Recv) ⊎ Rose (before fault.Send) (now fault.Send)
+IsCausedBy stop.Link before now = Rose (before fault.Recv) (now fault.Recv)
+    ⊎ Rose (before fault.Send) (now fault.Send)
 IsCausedBy stop.Attach before now = Rose (before fault.Attach) (now fault.Attach)
 IsCausedBy _ before now = Unit {0}
 
 -- no count falls, and a stop has its cause
-pub record StopsByCause {T : Type 0} (before now : Fault → ℕ) (result : Result T Stop) : Type 0 where
+pub record StopsByCause {T : Type 0} (before now : Fault → ℕ) (result : Result T Stop)
+    : Type 0 where
   pub later : (k : Fault) → before k ≤ now k
   pub cause : (why : Stop) → result ≡ Err why → IsCausedBy why before now
 
 -- a foreign halfword is the first one
 abbrev pub IsFirst : Words → Stop → Type 0
-IsFirst words (stop.Foreign foreign) = FirstBad words (place_of foreign.region foreign.offset foreign.word)
+IsFirst words (stop.Foreign foreign) =
+    FirstBad words (place_of foreign.region foreign.offset foreign.word)
 IsFirst words _ = Unit {0}
 
 -- what holds where memory is wanting
 abbrev pub OnMemory : Stop → Type 0 → Type 0
 OnMemory stop.Memory P = P
 OnMemory _ P = Unit {0}
+
+-- what holds where the words are no image
+abbrev pub OnForeign : Stop → Type 0 → Type 0
+OnForeign (stop.Foreign foreign) P = P
+OnForeign _ P = Unit {0}
 
 -- what holds where the guard row is used up
 abbrev pub OnWorn : Stop → Type 0 → Type 0
@@ -112,7 +125,6 @@ abbrev pub StopsEarly : {T : Type 0} → Result T Stop → Type 0
 StopsEarly (Err stop.Memory) = Unit {0}
 StopsEarly (Err (stop.Foreign foreign)) = Unit {0}
 StopsEarly (Err stop.Read) = Unit {0}
-StopsEarly (Err stop.Flash) = Unit {0}
 StopsEarly (Err stop.Attach) = Unit {0}
 StopsEarly _ = ⊥
 

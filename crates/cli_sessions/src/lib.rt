@@ -1,0 +1,9 @@
+//! Sessions of commands over boards in memory: what is printed, what is sent, and what is asked of
+//! the board.
+#![tactic(auto)]
+
+#[cfg(test)]
+mod commands;
+
+#[cfg(test)]
+mod texts;

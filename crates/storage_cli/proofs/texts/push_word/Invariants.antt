@@ -1,6 +1,0 @@
-use Rattle.std.proofs.Common.{◌≡◌, ◌++◌, map, take}
-use Rattle.std.specs.Char.{to_ascii_uppercase}
-use Rattle.storage_cli.proofs.texts.push_word.Given as goal
-
-abbrev pub invariant-loop-digit : goal.invariant-loop-digit
-invariant-loop-digit l = l.line.items ≡ l.initial.line.items ++ map to_ascii_uppercase (take l.digit-index l.digit-items)

@@ -1,0 +1,5 @@
+-- What the private steps of a command say.
+pub mod Endings
+pub mod Printing
+pub mod Progress
+pub mod Stops

@@ -1,0 +1,38 @@
+//! How a call ended, as the number that the program ends with.
+
+/// How a call ended: 0 where the command did all of its work.
+#[derive(Clone, Copy, Debug, PartialEq, Eq)]
+pub struct Status(pub u8);
+
+/// The command did all of its work.
+pub const DONE: u8 = 0;
+
+/// The words are no command line.
+pub const NO_COMMAND: u8 = 1;
+
+/// There was no memory.
+pub const NO_MEMORY: u8 = 2;
+
+/// The words of the flash are no image.
+pub const FOREIGN_WORD: u8 = 3;
+
+/// A read failed.
+pub const READ_FAILED: u8 = 4;
+
+/// A program or an erase failed.
+pub const FLASH_FAILED: u8 = 5;
+
+/// A call of the link failed.
+pub const LINK_FAILED: u8 = 6;
+
+/// A sector is to be voided and the guard row is used up.
+pub const WORN: u8 = 7;
+
+/// All turns were taken, and no event was the end.
+pub const TURNS_OVER: u8 = 8;
+
+/// The output failed.
+pub const OUTPUT_FAILED: u8 = 10;
+
+/// The attach failed.
+pub const ATTACH_FAILED: u8 = 13;

@@ -1,0 +1,97 @@
+//! Why a command stops, and what one has done that doesn't.
+ghost use Rattle.std.specs.Prelude.{◌≡◌, ◌≢◌};
+ghost use Rattle.storage_cli.specs.Steps.Stops.{status_of_stop, stop_of, stop_of_fault};
+
+use crate::status::{ATTACH_FAILED, FLASH_FAILED, FOREIGN_WORD, LINK_FAILED, NO_COMMAND, NO_MEMORY, OUTPUT_FAILED, READ_FAILED, TURNS_OVER, WORN};
+use flash_traits::{Fault, Region};
+use vehicle_node::NodeError;
+
+/// What a `serve` has done by its end.
+#[derive(Clone, Copy, Debug, PartialEq, Eq)]
+pub(crate) struct Served {
+    /// The events before the end.
+    pub(crate) events: u32,
+    /// The frames sent.
+    pub(crate) frames: u64,
+}
+
+/// A halfword that no image has at its place.
+#[derive(Clone, Copy, Debug, PartialEq, Eq)]
+pub(crate) struct Foreign {
+    pub(crate) region: Region,
+    /// In halfwords from the start of the region.
+    pub(crate) offset: u32,
+    pub(crate) word: u16,
+}
+
+/// Why a command stopped before its work was done.
+#[derive(Clone, Copy, Debug, PartialEq, Eq)]
+pub(crate) enum Stop {
+    /// The words are no command.
+    Words,
+    Memory,
+    /// The words of the flash are no image.
+    Foreign(Foreign),
+    Read,
+    Flash,
+    Link,
+    /// A sector is to be voided and the guard row is used up.
+    Worn,
+    /// So many events were finished, and none was the end.
+    Turns(u32),
+    Attach,
+}
+
+impl Stop {
+    /// The status of a command that stopped so.
+    pub(crate) fn status(self) -> u8
+        ensures status { result ≡ status_of_stop self }
+        ensures not_output { result ≢ OUTPUT_FAILED }
+    {
+        match self {
+            Stop::Words => NO_COMMAND,
+            Stop::Memory => NO_MEMORY,
+            Stop::Foreign(_) => FOREIGN_WORD,
+            Stop::Read => READ_FAILED,
+            Stop::Flash => FLASH_FAILED,
+            Stop::Link => LINK_FAILED,
+            Stop::Worn => WORN,
+            Stop::Turns(_) => TURNS_OVER,
+            Stop::Attach => ATTACH_FAILED,
+        }
+    }
+}
+
+impl From<Fault> for Stop {
+    ghost from_gives = { λ kind stop. stop ≡ stop_of_fault kind };
+
+    fn from(kind: Fault) -> Stop {
+        match kind {
+            Fault::Attach => Stop::Attach,
+            Fault::Read => Stop::Read,
+            Fault::Flash => Stop::Flash,
+            Fault::Recv | Fault::Send => Stop::Link,
+        }
+    }
+}
+
+impl From<NodeError> for Stop {
+    ghost from_gives = { λ error stop. stop ≡ stop_of error };
+
+    fn from(error: NodeError) -> Stop {
+        match error {
+            NodeError::Memory => Stop::Memory,
+            NodeError::Fault(kind) => Stop::from(kind),
+            NodeError::Foreign {
+                region,
+                offset,
+                word,
+            } => Stop::Foreign(Foreign {
+                region,
+                offset,
+                word,
+            }),
+            NodeError::Worn { .. } => Stop::Worn,
+        }
+    }
+}
