@@ -1,8 +1,11 @@
-//! The program: the words that it was started with, a file and a socket as the board, and standard input and output.
+//! The program: the words that it was started with, a file and a socket as the board, and standard
+//! input and output.
 #![tactic(auto)]
 
 mod file_board;
 mod image_file;
+mod link;
+mod places;
 mod streams;
 
 use file_board::FileBoard;
@@ -12,11 +15,15 @@ use std::io::ErrorKind;
 use std::net::Net;
 use std::process::ExitCode;
 use std::rt::Files;
+use std::time::Clock;
 use std::{env, io};
 use storage_cli::{Status, run};
 use streams::{ReaderSource, WriterSink};
 
-/// The words behind the program's name, and none where they are no texts.
+/// The status of a program or an erase that failed.
+const FLASH_FAILED: u8 = 5;
+
+/// The words after the program's name, and none where they are no texts.
 fn words_of<R: env::Env + AllocGlobal>(rt: &R) -> Result<Vec<String>, AllocError> {
     match env::args(rt) {
         Ok(all) => all.skip(1).collect(rt.alloc()),
@@ -25,10 +32,12 @@ fn words_of<R: env::Env + AllocGlobal>(rt: &R) -> Result<Vec<String>, AllocError
     }
 }
 
-/// Does what the words ask for. The error is want of memory for the words.
-fn answer<R: env::Env + AllocGlobal + Input + Print + Files<File = File> + Net>(
-    rt: &R,
-) -> Result<Status, AllocError> {
+/// Does what the words ask for. The error is want of memory for the words. Where the disk doesn't
+/// take what was done, the status says so, after the line that was printed.
+fn answer<R>(rt: &R) -> Result<Status, AllocError>
+where
+    R: env::Env + AllocGlobal + Input + Print + Files<File = File> + Net + Clock,
+{
     let owned = words_of(rt)?;
     let mut words: Vec<&str> = Vec::new(rt.alloc());
     for word in owned.iter() {
@@ -44,8 +53,10 @@ fn answer<R: env::Env + AllocGlobal + Input + Print + Files<File = File> + Net>(
         &mut input,
         &mut out,
     );
-    board.close();
-    Ok(status)
+    match board.close() {
+        Err(_) if status.0 == 0 => Ok(Status(FLASH_FAILED)),
+        _ => Ok(status),
+    }
 }
 
 fn main(rt: HostRuntime) -> ExitCode {

@@ -1,4 +1,4 @@
-// Standard input and output as a source and a sink.
+//! Standard input and output as a source and a sink, whose bytes nobody tells.
 ghost use Rattle.std.specs.Prelude.{[], ℕ};
 
 use flash_traits::{Failed, Sink, Source};
