@@ -4,6 +4,5 @@
 
 #[cfg(test)]
 mod commands;
-
 #[cfg(test)]
 mod texts;

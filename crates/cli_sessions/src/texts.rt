@@ -277,7 +277,8 @@ fn reads_nothing_of_a_void_sector(rt: HostRuntime) -> Result<(), Fail> {
     let alloc = rt.alloc();
     let mut out = SureSink::new(alloc, 1_000)?;
     report(alloc, &mut VoidFails, &mut out)?;
-    let expected = b"image 16384\nguard 1\ns0 void\ns1 inuse entries 0 torn 0 free 16380\nstate voided\n";
+    let expected =
+        b"image 16384\nguard 1\ns0 void\ns1 inuse entries 0 torn 0 free 16380\nstate voided\n";
     assert_eq!(rt; out.bytes(), expected.as_slice());
     Ok(())
 }

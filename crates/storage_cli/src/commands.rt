@@ -23,7 +23,10 @@ ghost use Rattle.storage_cli.specs.Serving.{Serves, NamesForeign, HasToVoid, IsL
 use crate::format::format;
 use crate::printing::{ImageText, print_text, status_of_printed};
 use crate::serving::serve;
-use crate::status::{ATTACH_FAILED, DONE, FLASH_FAILED, FOREIGN_WORD, LINK_FAILED, NO_COMMAND, NO_MEMORY, OUTPUT_FAILED, READ_FAILED, Status, TURNS_OVER, WORN};
+use crate::status::{
+    ATTACH_FAILED, DONE, FLASH_FAILED, FOREIGN_WORD, LINK_FAILED, NO_COMMAND, NO_MEMORY,
+    OUTPUT_FAILED, READ_FAILED, Status, TURNS_OVER, WORN,
+};
 use crate::stop::Stop;
 use crate::texts::{line_of_stop, served_line};
 use command_line::{Command, command_of};
@@ -90,10 +93,10 @@ fn run_serve<B: Board, K: Sink>(
         → Safe b o.events o.frames (length o.events - 1) o.words }
     ensures serves { (result.0 ≡ DONE) ⊎ (result.0 ≡ TURNS_OVER)
         → Serves (B.has_lists board.new) (B.tells board.new) (B.words board.old)
-            (B.words board.new) turns result.0 (Prints K.Sink out.old out.new) }
+        (B.words board.new) turns result.0 (Prints K.Sink out.old out.new) }
     ensures turns { result.0 ≡ TURNS_OVER → Prints K.Sink out.old out.new (turns_line turns) }
     ensures complete { NothingFailed (B.faults board.old) (B.faults board.new)
-            (K.faults out.old) (K.faults out.new)
+        (K.faults out.old) (K.faults out.new)
         → B.tells board.new → (b : List ℕ) → Stands (B.words board.old) b → result.0 ≢ WORN
         → IsDoneUnlessMemory result.0 ⊎ (result.0 ≡ TURNS_OVER) }
 {
@@ -129,7 +132,7 @@ fn run_format<B: Board, K: Sink>(
     ensures link { LeavesLink (B.moment board.old) (B.moment board.new) }
     ensures quiet { result.0 ≡ DONE → out.new ≡ out.old }
     ensures complete { NothingFailed (B.faults board.old) (B.faults board.new)
-            (K.faults out.old) (K.faults out.new)
+        (K.faults out.old) (K.faults out.new)
         → IsDoneUnlessMemory result.0 }
 {
     match format(board, image, sector_bytes) {
@@ -151,7 +154,7 @@ fn run_text<B: Board, K: Sink>(
     ensures cut_short { result.0 ≡ OUTPUT_FAILED → K.tells_written out.new
         → IsCutShort Line (K.written out.old) (K.written out.new)
         ⊎ (B.tells board.new → IsCutShort (IsTextOf text (B.words board.old))
-            (K.written out.old) (K.written out.new)) }
+        (K.written out.old) (K.written out.new)) }
     ensures foreign { result.0 ≡ FOREIGN_WORD → NamesForeign (B.tells board.new) (B.words board.old)
         (Prints K.Sink out.old out.new) }
     ensures foreign_where { text ≡ ImageText.Dump
@@ -164,9 +167,9 @@ fn run_text<B: Board, K: Sink>(
         → B.tells board.new → B.words board.new ≡ B.words board.old }
     ensures moment { B.moment board.new ≡ B.moment board.old }
     ensures complete { NothingFailed (B.faults board.old) (B.faults board.new)
-            (K.faults out.old) (K.faults out.new)
+        (K.faults out.old) (K.faults out.new)
         → (text ≡ ImageText.Dump
-            → B.tells board.new × ((b : List ℕ) × Stands (B.words board.old) b))
+        → B.tells board.new × ((b : List ℕ) × Stands (B.words board.old) b))
         → IsDoneUnlessMemory result.0 }
 {
     match print_text(alloc, board, out, image, text) {
@@ -218,7 +221,7 @@ pub fn run<'a, B: Board, S: Source, K: Sink>(
     ensures cut_short { result.0 ≡ OUTPUT_FAILED → K.tells_written out.new
         → IsCutShort Line (K.written out.old) (K.written out.new)
         ⊎ IsTextCutShort (line_of_words (texts words.entry.now)) (B.tells board.new)
-            (B.words board.old) (K.written out.old) (K.written out.new) }
+        (B.words board.old) (K.written out.old) (K.written out.new) }
 
     // Where memory is wanting nothing was programmed, erased, received or sent; a format hasn't
     // asked anything of the board.
@@ -262,14 +265,14 @@ pub fn run<'a, B: Board, S: Source, K: Sink>(
         (IsPastAttach result.0 (B.faults board.old) (B.faults board.new)) (λ turns.
         IsUnasked result.0 (board.new ≡ board.old)
         ⊎ ((b : List ℕ) → (B.tells board.old → Stands (B.words board.old) b)
-            → (o : Outcome) → B.left board.new (B.moment board.old) o
-            → Safe b o.events o.frames (length o.events - 1) o.words)) }
+        → (o : Outcome) → B.left board.new (B.moment board.old) o
+        → Safe b o.events o.frames (length o.events - 1) o.words)) }
 
     // What a serve has done that came to the end, or to the last of its turns.
     ensures serves { OnServe (texts words.entry.now)
         ((result.0 ≡ DONE) ⊎ (result.0 ≡ TURNS_OVER)) (λ turns.
         Serves (B.has_lists board.new) (B.tells board.new) (B.words board.old) (B.words board.new)
-            turns result.0 (Prints K.Sink out.old out.new)) }
+        turns result.0 (Prints K.Sink out.old out.new)) }
     ensures turns { OnServe (texts words.entry.now) (result.0 ≡ TURNS_OVER) (λ turns.
         Prints K.Sink out.old out.new (turns_line turns)) }
 
@@ -308,21 +311,21 @@ pub fn run<'a, B: Board, S: Source, K: Sink>(
     // work, unless memory is wanting; a serve may also use up its turns or the guard row.
     ensures serve_complete { OnServe (texts words.entry.now)
         (NothingFailed (B.faults board.old) (B.faults board.new)
-            (K.faults out.old) (K.faults out.new))
+        (K.faults out.old) (K.faults out.new))
         (λ turns. B.tells board.new → (b : List ℕ) → Stands (B.words board.old) b → result.0 ≢ WORN
         → IsDoneUnlessMemory result.0 ⊎ (result.0 ≡ TURNS_OVER)) }
     ensures format_complete { OnFormat (texts words.entry.now)
         (NothingFailed (B.faults board.old) (B.faults board.new)
-            (K.faults out.old) (K.faults out.new))
+        (K.faults out.old) (K.faults out.new))
         (λ sector_bytes. IsDoneUnlessMemory result.0) }
     ensures dump_complete { OnDump (texts words.entry.now)
         (NothingFailed (B.faults board.old) (B.faults board.new)
-            (K.faults out.old) (K.faults out.new))
+        (K.faults out.old) (K.faults out.new))
         (B.tells board.new → (b : List ℕ) → Stands (B.words board.old) b
         → IsDoneUnlessMemory result.0) }
     ensures report_complete { OnReport (texts words.entry.now)
         (NothingFailed (B.faults board.old) (B.faults board.new)
-            (K.faults out.old) (K.faults out.new))
+        (K.faults out.old) (K.faults out.new))
         (IsDoneUnlessMemory result.0) }
 {
     let _ = input;

@@ -55,7 +55,7 @@ fn serve_image<B: Board>(alloc: Global, board: &mut B, turns: u32) -> Result<Ser
         → Passes B.Board board.old board.new (IsSafe b [] []) (IsSafe b [] []) }
     ensures completes { IsDone result
         → Completes B.Board (B.words board.old) (B.has_lists board.old [] []) board.new
-            turns result }
+        turns result }
     ensures told { B.tells board.new → B.tells board.old }
     ensures foreign { B.tells board.new → IfErr result (IsFirst (B.words board.old)) }
     ensures foreign_where { B.tells board.new → (place : Place) → FirstBad (B.words board.old) place

@@ -2,7 +2,10 @@
 ghost use Rattle.std.specs.Prelude.{◌≡◌, ◌≢◌};
 ghost use Rattle.storage_cli.specs.Steps.Stops.{status_of_stop, stop_of, stop_of_fault};
 
-use crate::status::{ATTACH_FAILED, FLASH_FAILED, FOREIGN_WORD, LINK_FAILED, NO_COMMAND, NO_MEMORY, OUTPUT_FAILED, READ_FAILED, TURNS_OVER, WORN};
+use crate::status::{
+    ATTACH_FAILED, FLASH_FAILED, FOREIGN_WORD, LINK_FAILED, NO_COMMAND, NO_MEMORY, OUTPUT_FAILED,
+    READ_FAILED, TURNS_OVER, WORN,
+};
 use flash_traits::{Fault, Region};
 use vehicle_node::NodeError;
 

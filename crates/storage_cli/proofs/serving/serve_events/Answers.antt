@@ -27,7 +27,7 @@ returns-in_err-turn-clause-stops g c =
 
 pub returns-in_err-turn-clause-worn : goal.returns-in_err-turn-clause-worn
 returns-in_err-turn-clause-worn g c =
-    on_stop c.from_residual.result (stop_of c.in_err-turn.field-0.0) c.from_residual.ensures.1 (λ why. OnWorn why _) (worn_stop c.in_err-turn.field-0.0 _ _ (λ count worn. worn.1) c.in_err-turn.ensures.worn)
+    on_stop c.from_residual.result (stop_of c.in_err-turn.field-0.0) c.from_residual.ensures.1 (λ why. OnWorn why _) (worn_stop c.in_err-turn.field-0.0 _ _ (λ count worn. (worn.1, worn.2)) c.in_err-turn.ensures.worn)
 
 pub returns-in_err-turn-clause-worn_next : goal.returns-in_err-turn-clause-worn_next
 returns-in_err-turn-clause-worn_next g c = λ alone.

@@ -33,7 +33,7 @@ returns-in_err-node-clause-worn_where g c = λ told used.
 
 pub returns-in_err-node-clause-worn : goal.returns-in_err-node-clause-worn
 returns-in_err-node-clause-worn g c =
-    on_stop c.from_residual.result (stop_of c.in_err-node.field-0.0) c.from_residual.ensures.1 (λ why. OnWorn why _) (worn_stop c.in_err-node.field-0.0 _ _ (λ count worn. worn.1) c.in_err-node.ensures.worn)
+    on_stop c.from_residual.result (stop_of c.in_err-node.field-0.0) c.from_residual.ensures.1 (λ why. OnWorn why _) (worn_stop c.in_err-node.field-0.0 _ _ (λ count worn. (worn.1, worn.2)) c.in_err-node.ensures.worn)
 
 pub returns-in_err-node-clause-worn_only : goal.returns-in_err-node-clause-worn_only
 returns-in_err-node-clause-worn_only g c =
@@ -132,7 +132,7 @@ returns-in_err-close-clause-foreign g c = λ told.
 
 pub returns-in_err-close-clause-worn : goal.returns-in_err-close-clause-worn
 returns-in_err-close-clause-worn g c =
-    on_stop c.from_residual-in_err-close.result (stop_of c.in_err-close.field-0.0) c.from_residual-in_err-close.ensures.1 (λ why. OnWorn why _) (worn_stop c.in_err-close.field-0.0 _ _ (λ count worn. worn.1) c.in_err-close.ensures.worn)
+    on_stop c.from_residual-in_err-close.result (stop_of c.in_err-close.field-0.0) c.from_residual-in_err-close.ensures.1 (λ why. OnWorn why _) (worn_stop c.in_err-close.field-0.0 _ _ (λ count worn. (worn.1, worn.2)) c.in_err-close.ensures.worn)
 
 pub returns-in_err-close-clause-worn_only : goal.returns-in_err-close-clause-worn_only
 returns-in_err-close-clause-worn_only g c =
