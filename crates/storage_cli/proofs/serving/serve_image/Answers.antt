@@ -39,7 +39,7 @@ pub returns-in_err-node-clause-worn_only : goal.returns-in_err-node-clause-worn_
 returns-in_err-node-clause-worn_only g c =
     on_stop c.from_residual.result (stop_of c.in_err-node.field-0.0) c.from_residual.ensures.1
     (λ why. OnWorn why (HasToVoid g.B.Board (g.B.Board.words c.args.board.now) c.open.new.board))
-    (worn_stop c.in_err-node.field-0.0 _ _ (λ count where. where) c.in_err-node.ensures.worn_where)
+    (worn_stop c.in_err-node.field-0.0 _ _ (λ count void. void) c.in_err-node.ensures.worn_where)
 
 pub returns-in_err-node-clause-foreign_idle : goal.returns-in_err-node-clause-foreign_idle
 returns-in_err-node-clause-foreign_idle g c =
