@@ -1,8 +1,8 @@
 -- One act answered: its lines are issued, and then its frames are sent.
-use Rattle.std.proofs.Common.{◌≡◌, ℕ, ◌+◌, ◌*◌, ◌<◌, ◌≤◌, ◌^◌, List, [], ◌++◌, length, take, Result, Ok, refl, sym, ◌∙◌, ap, subst, arith, append_assoc, append-nil}
+use Rattle.std.proofs.Common.{◌≡◌, ℕ, ◌+◌, ◌*◌, ◌≤◌, List, [], ◌++◌, length, take, Result, Ok, refl, sym, ◌∙◌, ap, subst, arith, append_assoc, append-nil}
 use Rattle.std.specs.Prelude.{⊤, IsErr}
 use Rattle.flash_traits.specs.declared.board.Board.{Ghosts}
-use Rattle.flash_traits.specs.Words.{Words, IsSectorSize}
+use Rattle.flash_traits.specs.Words.{Words}
 use Rattle.flash_traits.specs.Losses.{SentFrame, Outcome, KeepsWords}
 use Rattle.flash_traits.specs.Calls.{Passes}
 use Rattle.flash_traits.proofs.Moments.{chained}
@@ -20,7 +20,7 @@ use Rattle.vehicle_node.specs.Guard.{CountsUpTo}
 use Rattle.vehicle_node.specs.Safe.{Adds}
 use Rattle.vehicle_node.specs.Standing.{Node, Fits, ceiling, raised_by}
 use Rattle.vehicle_node.specs.Steps.Inside.{view_of}
-use Rattle.vehicle_node.specs.Steps.Answering.{did_at, deliveries_at, Answering, AnsweredAs, AnswerDone, ActDone, Flushing, IssuedAll, IssueDone}
+use Rattle.vehicle_node.specs.Steps.Answering.{did_at, Answering, AnsweredAs, AnswerDone, ActDone, Flushing, IssuedAll, IssueDone}
 use Rattle.vehicle_node.specs.Steps.Sending.{SendsPrefix, SentAll, SendDone}
 use Rattle.vehicle_node.specs.declared.Node.TheInside.{Inside}
 use Rattle.vehicle_node.proofs.Putting.{now_stands, now_within}

@@ -1,5 +1,5 @@
 -- From what a call leaves to what is safe in a run.
-use Rattle.std.proofs.Common.{◌≡◌, ◌⊎◌, inl, inr, ℕ, ◌+◌, ◌-◌, ◌^◌, ◌≤◌, min, List, [], ◌∷◌, ◌++◌, length, take, refl, sym, ◌∙◌, ap, subst, arith, append_assoc, length-append}
+use Rattle.std.proofs.Common.{◌≡◌, ◌⊎◌, inl, inr, ℕ, ◌+◌, ◌≤◌, min, List, [], ◌∷◌, ◌++◌, length, take, refl, sym, ◌∙◌, ap, subst, arith, append_assoc, length-append}
 use Rattle.std.proofs.lemmas.List.{take_at, take_all}
 use Rattle.flash_traits.specs.Words.{Words}
 use Rattle.flash_traits.specs.Losses.{Received, SentFrame, Outcome}
@@ -7,7 +7,7 @@ use Rattle.storage_lines.specs.declared.lines.LineWrite.{LineWrite}
 use Rattle.storage_lines.specs.Lines.{after}
 use Rattle.sector_image.specs.Stands.{Stands}
 use Rattle.block_store.specs.Store.{durable_of}
-use Rattle.dirty_lines.specs.Lines.{Lines, current_of}
+use Rattle.dirty_lines.specs.Lines.{current_of}
 use Rattle.vehicle_core.specs.Acts.{Act, Did, did}
 use Rattle.vehicle_node.specs.Frames.{Machine, Answer, Delivery, AreFramesOf, deliveries, numbered, counted_all}
 use Rattle.vehicle_node.specs.Reading.{IsEvent, no_rests}

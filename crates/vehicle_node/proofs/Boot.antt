@@ -40,7 +40,6 @@ use Rattle.vehicle_node.specs.Runs.{Run, format_step, boot, run_of}
 use Rattle.vehicle_node.specs.Guard.{CountsUpTo, RisesWithin}
 use Rattle.vehicle_node.specs.Safe.{Safe, SafeSince, Adds}
 use Rattle.vehicle_node.specs.Standing.{Node, Fits, IsAlone, StandsAt, StandsForRun, StaysWithin, counts, ceiling, raised_in}
-use Rattle.vehicle_node.specs.Steps.Calls.{HasSent}
 use Rattle.vehicle_node.specs.Steps.Answering.{Flushed, Flushing, FlushedAll, FlushDone}
 use Rattle.vehicle_node.specs.Steps.Opening.{error_of, IsBooted}
 use Rattle.vehicle_node.proofs.RunLaws.{run_of_none, safe_by}
@@ -50,7 +49,7 @@ use Rattle.vehicle_node.proofs.Events.{since_put, rises_still}
 use Rattle.vehicle_node.proofs.Finishing.{Leaves}
 use Rattle.block_store.proofs.StoreLaws.{fits_stands, fits_guard}
 use Rattle.vehicle_node.proofs.Putting.{nothing_sent}
-use Rattle.vehicle_node.proofs.Passing.{at_ok, going_on}
+use Rattle.vehicle_node.proofs.Passing.{going_on}
 
 -- the lines of a change are lines of the storage
 line_inside : (n : ℕ) (differs : Bool) (bytes : List ℕ) → All (λ (w : LineWrite). w.line < suc n) (cond differs [] (record { line = n; bytes = bytes } ∷ []))

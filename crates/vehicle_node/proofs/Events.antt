@@ -1,9 +1,9 @@
 -- One event, and the flush at its end.
-use Rattle.std.proofs.Common.{◌≡◌, inl, inr, ℕ, ◌+◌, ◌*◌, ◌≤◌, List, [], ◌∷◌, ◌++◌, length, refl, sym, ◌∙◌, ap, subst, arith, append-nil, length-append, Result, Ok, Err}
-use Rattle.std.specs.Prelude.{⊤, OnOk, IsErr}
+use Rattle.std.proofs.Common.{◌≡◌, ℕ, ◌+◌, ◌*◌, ◌≤◌, List, [], ◌∷◌, ◌++◌, length, refl, sym, ◌∙◌, ap, subst, arith, append-nil, length-append, Result, Ok}
+use Rattle.std.specs.Prelude.{⊤, IsErr}
 use Rattle.std.proofs.lemmas.List.{length-set}
 use Rattle.flash_traits.specs.declared.board.Board.{Ghosts}
-use Rattle.flash_traits.specs.Losses.{Received, Datagram, Idle, End, SentFrame, Outcome, Unchanged, Receives, Either}
+use Rattle.flash_traits.specs.Losses.{Received, Datagram, Idle, End, SentFrame, Outcome}
 use Rattle.flash_traits.proofs.Moments.{weaker}
 use Rattle.sector_image.specs.Stands.{Stands}
 use Rattle.block_store.specs.Store.{durable_of}
@@ -11,11 +11,11 @@ use Rattle.vehicle_core.specs.Acts.{Act}
 use Rattle.vehicle_node.specs.declared.NodeError.{NodeError}
 use Rattle.vehicle_node.specs.Guard.{CountsUpTo, RisesWithin}
 use Rattle.vehicle_node.specs.Reading.{no_rests, streams, beats, IsEvent, Reads}
-use Rattle.vehicle_node.specs.Runs.{Run, all_acts, event_done, run_of}
+use Rattle.vehicle_node.specs.Runs.{Run, all_acts, run_of}
 use Rattle.vehicle_node.specs.Safe.{SafeAt, Safe, SafeSince, Adds}
 use Rattle.vehicle_node.specs.Standing.{Node, Fits, StandsAt, StandsForRun, ceiling, raised_in}
 use Rattle.vehicle_node.specs.Steps.Answering.{Flushed, Flushing}
-use Rattle.vehicle_node.specs.Steps.Hearing.{StandsBelow, SafeInside, AnsweredAll, ActsAnswered, IsHeard, SafeHearing, HeardAll, HearDone, ActsDone, SafeTaking, SafeTaken, TakenAll, TakeDone}
+use Rattle.vehicle_node.specs.Steps.Hearing.{StandsBelow, SafeInside, ActsAnswered, IsHeard, SafeHearing, HeardAll, HearDone, ActsDone, SafeTaking, SafeTaken, TakenAll, TakeDone}
 use Rattle.vehicle_node.specs.Laws.{FramesAreRead, IsInRange}
 use Rattle.vehicle_node.proofs.RunLaws.{run_of_push, all_acts_floor, all_acts-append, extends_same, extends_then, extends_more, extends_all}
 use Rattle.vehicle_node.proofs.At.{safe_put, safe_still, stands_finished, safe_between, safe_inside}

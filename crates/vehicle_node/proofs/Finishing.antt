@@ -1,5 +1,5 @@
 -- One event, from its reception to the flush at its end.
-use Rattle.std.proofs.Common.{◌≡◌, ◌⊎◌, inl, inr, ℕ, ◌+◌, ◌*◌, ◌≤◌, List, [], ◌∷◌, ◌++◌, length, refl, sym, ◌∙◌, ap, subst, arith, append_assoc, append-nil, length-append, Result, Ok, Err, Option, Some, None}
+use Rattle.std.proofs.Common.{◌≡◌, inl, inr, ℕ, ◌+◌, ◌*◌, ◌≤◌, List, [], ◌∷◌, ◌++◌, length, refl, sym, ◌∙◌, ap, subst, arith, append_assoc, append-nil, length-append, Result, Ok, Err, Option, Some, None}
 use Rattle.std.specs.Prelude.{◌↔◌, ⊤, IsErr, option_to_list}
 use Rattle.flash_traits.specs.declared.board.Board.{Ghosts}
 use Rattle.flash_traits.specs.declared.board.Event.{Event}
@@ -8,7 +8,6 @@ use Rattle.flash_traits.specs.Calls.{Passes}
 use Rattle.flash_traits.specs.Losses.{Received, received, IsEventInRange, End, after_recv, ByResult, SentFrame, Outcome, After, Unchanged, Receives, Either}
 use Rattle.flash_traits.proofs.Moments.{weaker}
 use Rattle.storage_lines.specs.declared.lines.LineWrite.{LineWrite}
-use Rattle.vehicle_core.specs.Acts.{Act}
 use Rattle.vehicle_node.specs.declared.NodeError.{NodeError}
 use Rattle.vehicle_node.specs.declared.Turn.{Turn}
 use Rattle.vehicle_node.specs.declared.Turn.TheVariants as turn
@@ -16,15 +15,15 @@ use Rattle.vehicle_node.specs.Guard.{RisesWithin}
 use Rattle.vehicle_node.specs.Reading.{IsEvent}
 use Rattle.vehicle_node.specs.Runs.{Run, all_acts, run_of}
 use Rattle.vehicle_node.specs.Safe.{SafeSince, Adds}
-use Rattle.vehicle_node.specs.Standing.{Node, Fits, StandsAt, StandsForRun, StaysWithin, Finished, ceiling, raised_in}
+use Rattle.vehicle_node.specs.Standing.{Node, Fits, StandsForRun, StaysWithin, Finished, ceiling, raised_in}
 use Rattle.vehicle_node.specs.Steps.Calls.{MaySend}
-use Rattle.vehicle_node.specs.Steps.Answering.{Flushed, Flushing, FlushedAll, FlushDone}
+use Rattle.vehicle_node.specs.Steps.Answering.{Flushing, FlushedAll, FlushDone}
 use Rattle.vehicle_node.specs.Steps.Hearing.{StandsBelow, SafeTaken, TakenAll, TakeDone}
 use Rattle.vehicle_node.specs.Laws.{FramesAreRead, IsInRange}
 use Rattle.vehicle_node.proofs.RunLaws.{run_of_push}
 use Rattle.vehicle_node.proofs.Putting.{now_stands, now_within}
 use Rattle.vehicle_node.proofs.ActAnswers.{counts_more}
-use Rattle.vehicle_node.proofs.Passing.{adds_none, going_on, ending, adds_both, lists_then}
+use Rattle.vehicle_node.proofs.Passing.{adds_none, going_on, ending, adds_both}
 use Rattle.vehicle_node.proofs.ActsDone.{below_then}
 use Rattle.vehicle_node.proofs.Events.{since_still, since_taking, received_taking, since_flushing, since_finished, stands_for_more, rises_still, rises_event}
 

@@ -1,20 +1,20 @@
 -- Frames sent, one after another.
-use Rattle.std.proofs.Common.{◌≡◌, ◌⊎◌, inl, ⊎_elim, ℕ, Bool, ◌+◌, List, [], ◌∷◌, ◌++◌, length, take, Result, Ok, Err, refl, sym, ◌∙◌, ap, subst, arith, append_assoc, append-nil, length-append}
+use Rattle.std.proofs.Common.{◌≡◌, ◌⊎◌, ⊎_elim, ℕ, Bool, ◌+◌, List, [], ◌∷◌, ◌++◌, length, take, Result, Ok, Err, refl, sym, ◌∙◌, ap, subst, arith, append_assoc, append-nil, length-append}
 use Rattle.std.specs.Prelude.{slice_index}
 use Rattle.std.proofs.lemmas.List.Sums.{fold-append}
 use Rattle.flash_traits.specs.declared.board.Board.{Ghosts}
 use Rattle.flash_traits.specs.Losses.{Received, SentFrame, sent_frame, Outcome, After, Either, Unchanged, Sends, ByResult}
 use Rattle.flash_traits.specs.Calls.{Passes}
 use Rattle.flash_traits.proofs.Moments.{weaker, chained}
-use Rattle.vehicle_core.specs.Vehicle.{Vehicle, Content, speaks_v2}
+use Rattle.vehicle_core.specs.Vehicle.{Content, speaks_v2}
 use Rattle.vehicle_core.specs.Replies.{Tells}
 use Rattle.mav_messages.specs.declared.messages.Message.{Message}
 use Rattle.mav_frames.specs.Frames.{IsSent}
 use Rattle.vehicle_node.specs.Frames.{Machine, Answer, Delivery, numbered, counted, counted_all, AreFramesOf}
 use Rattle.vehicle_node.specs.Standing.{Node, raised_by}
-use Rattle.vehicle_node.specs.Steps.Calls.{MaySend, HasSent}
+use Rattle.vehicle_node.specs.Steps.Calls.{MaySend}
 use Rattle.vehicle_node.specs.Steps.Sending.{SendsFrames, SendsPrefix, delivery, SentAll, SendDone}
-use Rattle.vehicle_node.proofs.Passing.{begun, lists_kept, lists_then}
+use Rattle.vehicle_node.proofs.Passing.{begun, lists_kept}
 
 -- the frames of some answers and then of others
 pub frames-append : (xs ys : List Answer) (us vs : List SentFrame) → AreFramesOf xs us → AreFramesOf ys vs → AreFramesOf (xs ++ ys) (us ++ vs)

@@ -1,24 +1,23 @@
 -- A station's bytes, one after another.
-use Rattle.std.proofs.Common.{◌≡◌, inl, inr, ℕ, ◌+◌, ◌<◌, length, take, drop, get_or, take-append-drop, List, [], ◌∷◌, ◌++◌, refl, sym, ◌∙◌, ap, subst, append_assoc, Option, Some, None, Result, Ok, Err}
+use Rattle.std.proofs.Common.{◌≡◌, inl, inr, ℕ, ◌+◌, ◌<◌, length, take, drop, get_or, take-append-drop, List, [], ◌∷◌, ◌++◌, refl, sym, ◌∙◌, ap, subst, append_assoc, arith, Option, Some, None, Result, Ok, Err}
 use Rattle.std.specs.Prelude.{⊤, IsOk, IsErr, MatchOption, slice_get, slice_set, option_to_list}
-use Rattle.std.proofs.lemmas.List.{take_more}
+use Rattle.std.proofs.lemmas.List.{append-nil, take_more, drop-take, take-take}
 use Rattle.flash_traits.specs.declared.board.Board.{Ghosts}
 use Rattle.flash_traits.specs.Losses.{SentFrame, Outcome}
 use Rattle.flash_traits.proofs.Moments.{weaker}
-use Rattle.mav_frames.specs.Cut.{Pushes}
+use Rattle.mav_frames.specs.Cut.{Pushes, Whole}
 use Rattle.mav_frames.specs.Frames.{is_v2, IsReadFrom}
 use Rattle.mav_frames.specs.declared.frames.Frame.{Frame as Read}
-use Rattle.vehicle_core.specs.Vehicle.{Asked}
 use Rattle.vehicle_core.specs.Acts.{Act, Said, heard_as}
 use Rattle.vehicle_node.specs.declared.NodeError.{NodeError}
-use Rattle.vehicle_node.specs.Reading.{Says, AreSaid}
+use Rattle.vehicle_node.specs.Reading.{AreSaid}
 use Rattle.vehicle_node.specs.Runs.{Run, all_acts}
-use Rattle.vehicle_node.specs.Standing.{Node, Fits, StandsAt}
+use Rattle.vehicle_node.specs.Standing.{Node, Fits}
 use Rattle.vehicle_node.specs.Steps.Answering.{FrameDone, ActDone}
-use Rattle.vehicle_node.specs.Steps.Hearing.{Pushed, KeepsButRests, HasRest, StandsBelow, SafeInside, SafeIn, AnsweredAll, ActsAnswered, ActsDone, IsHeard, SafeHearing, SafeHeard, HeardAll, HearDone}
+use Rattle.vehicle_node.specs.Steps.Hearing.{Pushed, KeepsButRests, HasRest, IsFront, StandsBelow, SafeInside, SafeIn, AnsweredAll, ActsAnswered, ActsDone, IsHeard, SafeHearing, SafeHeard, HeardAll, HearDone}
 use Rattle.vehicle_node.proofs.RunLaws.{all_acts_floor, all_acts-append}
 use Rattle.vehicle_node.proofs.At.{stands_same}
-use Rattle.vehicle_node.proofs.Readings.{heard_nothing, heard_more}
+use Rattle.vehicle_node.proofs.Readings.{rest_kept, heard_nothing, heard_more}
 use Rattle.vehicle_node.proofs.Putting.{now_stands, now_within}
 use Rattle.vehicle_node.proofs.Passing.{on_ok, cut_call, begun, going_on, lists_kept, lists_then}
 use Rattle.vehicle_node.proofs.ActsDone.{inside_still, inside_later, answered_none, answered_then, acts_one, below_then}
@@ -52,6 +51,23 @@ answered_from g old rests board acts new last a = record {
   ahead = a.ahead;
 }
 
+at_ok_result : (result : Result ⊤ NodeError) (P : Result ⊤ NodeError → Type 0) → IsOk result → P (Ok tt) → P result
+at_ok_result (Ok v) P ok p = p
+at_ok_result (Err e) P ok p = absurd (cc)
+
+-- a whole frame leaves the rests as they are
+heard_front : (station : ℕ) (bytes : List ℕ) (rests : List (List ℕ)) (said : List Act) → IsFront station bytes rests → AreSaid station (bytes ∷ []) said → IsHeard station bytes rests said rests
+heard_front station bytes rests said front are =
+    record {
+      rest = [];
+      rest_is = front.rest_is;
+      pieces = Whole bytes ∷ [];
+      new_rest = [];
+      cut = front.cut;
+      are_said = are;
+      new_is = sym (rest_kept rests station [] front.rest_is);
+    }
+
 module _ {B : Type 0} (g : Ghosts B) (reads : (b : B) (o : Outcome) → g.now b o → g.tells b × (o.words ≡ g.words b)) where
   -- no byte yet
   pub hear_none : (node : Node) (board : B) (station : ℕ) → Fits g board node → HasRest station node.rests → HearDone g node board station [] (Ok tt) node board
@@ -71,54 +87,73 @@ module _ {B : Type 0} (g : Ghosts B) (reads : (b : B) (o : Outcome) → g.now b 
         done = record { said = []; heard = heard; answered = answered_none g node board };
       }
 
+  -- acts that bytes say, where the node has the rests after them
+  heard_by : (old : Node) (rests : List (List ℕ)) (board : B) (station : ℕ) (bytes : List ℕ) (said : List Act) (result : Result ⊤ NodeError) (new : Node) (last : B) → IsHeard station bytes old.rests said rests → ActsDone g (record old { rests = rests }) board said result new last → HearDone g old board station bytes result new last
+  heard_by old rests board station bytes said result new last heard d =
+      let mid : Node = record old { rests = rests } in
+      let S = SafeHeard station bytes old in
+      let inside : (s o : Outcome) → SafeIn mid said s o → S s o = λ s o x limit b r sent below. record {
+        first = bytes;
+        more = [];
+        split = append-nil bytes;
+        said = said;
+        mid = rests;
+        heard = heard;
+        inside = x limit b r sent (below_same limit old rests b r sent below);
+      } in
+      record {
+        losses = weaker S S d.losses (λ s o is x. inside s o x) (λ s o is x. inside s o x);
+        lists = d.lists;
+        done = on_ok result (ActsAnswered g mid board said new last) (HeardAll g old board station bytes new last)
+            (λ all. record {
+              said = said;
+              heard = subst (IsHeard station bytes old.rests said) (sym all.rests) heard;
+              answered = answered_from g old rests board said new last all.answered;
+            })
+            d.done;
+      }
+
+  -- nothing was said, and nothing has changed
+  nothing_done : (node : Node) (board : B) → Fits g board node → ActsDone g node board [] (Ok tt) node board
+  nothing_done node board fits = record {
+    losses = begun g board (SafeIn node [])
+        (λ s is limit b r sent below. inside_still node limit b r sent below s (now_stands g reads board node.lines.store fits.store s is) (now_within g reads board node fits.store s is));
+    lists = lists_kept g board board (λ e f stood. stood);
+    done = record { rests = refl; answered = answered_none g node board };
+  }
+
+  -- a whole frame, where the station has no rest before it
+  pub hear_whole : (old : Node) (board : B) (station : ℕ) (bytes : List ℕ) (result : Result ⊤ NodeError) (new : Node) (last : B)
+      → Fits g board old → IsFront station bytes old.rests → FrameDone g old board station bytes result new last → HearDone g old board station bytes result new last
+  hear_whole old board station bytes result new last fits front d =
+      let heard : (said : List Act) → AreSaid station (bytes ∷ []) said → IsHeard station bytes old.rests said old.rests = λ said are. heard_front station bytes old.rests said front are in
+      elim d [
+        | inl silent ↦
+            at_ok_result result (λ t. HearDone g old board station bytes t new last) silent.1
+            (subst (λ (n : Node). HearDone g old board station bytes (Ok tt) n last) (sym silent.2)
+            (subst (λ (l : B). HearDone g old board station bytes (Ok tt) old l) (sym silent.3)
+            (heard_by old old.rests board station bytes [] (Ok tt) old board (heard [] (inl (silent.0, refl))) (nothing_done old board fits))))
+        | inr says ↦
+            let said = Said station (heard_as (is_v2 bytes) says.0) in
+            heard_by old old.rests board station bytes (said ∷ []) result new last (heard (said ∷ []) (inr (says.0, [], says.1, refl, refl)))
+            (acts_one g old board said result new last says.2)
+      ]
+
   module _ (old : Node) (rests : List (List ℕ)) (board : B) (station byte : ℕ) (frame : Option (List ℕ)) (p : Pushed station byte frame old.rests rests) where
     -- acts that a byte says, where the node has the rests after it
     heard_acts : (said : List Act) (result : Result ⊤ NodeError) (new : Node) (last : B) → AreSaid station (option_to_list frame) said → ActsDone g (record old { rests = rests }) board said result new last → HearDone g old board station (byte ∷ []) result new last
-    heard_acts said result new last are d =
-        let mid : Node = record old { rests = rests } in
-        let heard = heard_push station byte frame old.rests rests said p are in
-        let S = SafeHeard station (byte ∷ []) old in
-        let inside : (s o : Outcome) → SafeIn mid said s o → S s o = λ s o x limit b r sent below. record {
-          first = byte ∷ [];
-          more = [];
-          split = refl;
-          said = said;
-          mid = rests;
-          heard = heard;
-          inside = x limit b r sent (below_same limit old rests b r sent below);
-        } in
-        record {
-          losses = weaker S S d.losses (λ s o is x. inside s o x) (λ s o is x. inside s o x);
-          lists = d.lists;
-          done = on_ok result (ActsAnswered g mid board said new last) (HeardAll g old board station (byte ∷ []) new last)
-              (λ all. record {
-                said = said;
-                heard = subst (IsHeard station (byte ∷ []) old.rests said) (sym all.rests) heard;
-                answered = answered_from g old rests board said new last all.answered;
-              })
-              d.done;
-        }
+    heard_acts said result new last are d = heard_by old rests board station (byte ∷ []) said result new last (heard_push station byte frame old.rests rests said p are) d
 
     -- a byte by which nothing is said
     silent_byte : Fits g board old → AreSaid station (option_to_list frame) [] → HearDone g old board station (byte ∷ []) (Ok tt) (record old { rests = rests }) board
     silent_byte fits silent =
         let mid : Node = record old { rests = rests } in
-        let still : ActsDone g mid board [] (Ok tt) mid board = record {
-          losses = begun g board (SafeIn mid [])
-              (λ s is limit b r sent below. inside_still mid limit b r sent below s (now_stands g reads board old.lines.store fits.store s is) (now_within g reads board old fits.store s is));
-          lists = lists_kept g board board (λ e f stood. stood);
-          done = record { rests = refl; answered = answered_none g mid board };
-        } in
-        heard_acts [] (Ok tt) mid board silent still
+        heard_acts [] (Ok tt) mid board silent (nothing_done mid board (record { store = fits.store }))
 
   pub hear_silent : (old mid : Node) (board : B) (station byte : ℕ) (frame : Option (List ℕ)) → Fits g board old → KeepsButRests old mid → Pushed station byte frame old.rests mid.rests → AreSaid station (option_to_list frame) []
       → HearDone g old board station (byte ∷ []) (Ok tt) mid board
   hear_silent old mid board station byte frame fits same p silent =
       subst (λ (n : Node). HearDone g old board station (byte ∷ []) (Ok tt) n board) (sym same) (silent_byte old mid.rests board station byte frame p fits silent)
-
-  at_ok_result : (result : Result ⊤ NodeError) (P : Result ⊤ NodeError → Type 0) → IsOk result → P (Ok tt) → P result
-  at_ok_result (Ok v) P ok p = p
-  at_ok_result (Err e) P ok p = absurd (cc)
 
   -- a byte by which a frame is whole
   pub hear_frame : (old mid : Node) (board : B) (station byte : ℕ) (bytes : List ℕ) (result : Result ⊤ NodeError) (new : Node) (last : B)
@@ -147,6 +182,13 @@ hearing_sooner station xs ys rests limit b r sent s o x = record {
   heard = x.heard;
   inside = x.inside;
 }
+
+-- so many bytes, and so many after them
+take_add : (at count : ℕ) (bytes : List ℕ) → take (at + count) bytes ≡ take at bytes ++ take count (drop at bytes)
+take_add at count bytes =
+    sym (take-append-drop at (take (at + count) bytes))
+    ∙ ap (λ (l : List ℕ). l ++ drop at (take (at + count) bytes)) (take-take at (at + count) bytes (omega arith))
+    ∙ ap (λ (l : List ℕ). take at bytes ++ l) (drop-take at count bytes)
 
 module _ {B : Type 0} (g : Ghosts B) where
   -- bytes after others
@@ -198,6 +240,21 @@ module _ {B : Type 0} (g : Ghosts B) where
       cut_call g (HeardAll g old board station bytes new last) board last e result some err
       (λ s o is x limit b r sent below. subst (λ (l : List ℕ). SafeHearing station l old.rests limit b r sent s o) (take-append-drop (at + 1) bytes)
       (hearing_sooner station (take (at + 1) bytes) (drop (at + 1) bytes) old.rests limit b r sent s o (x limit b r sent below)))
+
+  -- more bytes of a datagram
+  pub hear_more : (old : Node) (board : B) (station : ℕ) (bytes : List ℕ) (at count : ℕ) (mid : Node) (mid_board : B) (result : Result ⊤ NodeError) (new : Node) (last : B)
+      → HearDone g old board station (take at bytes) (Ok tt) mid mid_board → HearDone g mid mid_board station (take count (drop at bytes)) result new last → HearDone g old board station (take (at + count) bytes) result new last
+  hear_more old board station bytes at count mid mid_board result new last first second =
+      subst (λ (l : List ℕ). HearDone g old board station l result new last) (sym (take_add at count bytes)) (hear_then old board station (take at bytes) (take count (drop at bytes)) mid mid_board result new last first second)
+
+  -- where only a prefix of them was heard
+  pub hear_more_cut : (old : Node) (board : B) (station : ℕ) (bytes : List ℕ) (at count : ℕ) (mid : Node) (mid_board : B) (e result : Result ⊤ NodeError) (new : Node) (last : B) → IsErr result
+      → HearDone g old board station (take at bytes) (Ok tt) mid mid_board → HearDone g mid mid_board station (take count (drop at bytes)) e new last → HearDone g old board station bytes result new last
+  hear_more_cut old board station bytes at count mid mid_board e result new last err first second =
+      let some = hear_more old board station bytes at count mid mid_board e new last first second in
+      cut_call g (HeardAll g old board station bytes new last) board last e result some err
+      (λ s o is x limit b r sent below. subst (λ (l : List ℕ). SafeHearing station l old.rests limit b r sent s o) (take-append-drop (at + count) bytes)
+      (hearing_sooner station (take (at + count) bytes) (drop (at + count) bytes) old.rests limit b r sent s o (x limit b r sent below)))
 
 -- what the cutter makes of a byte, in the list of all rests
 pub pushed_by : (result : Option Read) (station byte : ℕ) (old new : List (List ℕ)) (rest new_rest : List ℕ) → slice_get old station ≡ Some rest → new ≡ slice_set old station new_rest

@@ -1,8 +1,7 @@
 -- Calls one after another, each with what it adds.
-use Rattle.std.proofs.Common.{◌≡◌, ◌≤◌, inl, List, [], ◌++◌, refl, sym, ◌∙◌, ap, subst, arith, append_assoc, append-nil, Result, Ok, Err}
+use Rattle.std.proofs.Common.{◌≡◌, inl, List, [], ◌++◌, refl, sym, ◌∙◌, ap, subst, append_assoc, append-nil, Result, Ok, Err}
 use Rattle.std.specs.Prelude.{⊤, OnOk, OnErr, IsErr}
 use Rattle.flash_traits.specs.declared.board.Board.{Ghosts}
-use Rattle.flash_traits.specs.declared.board.Fault.{Fault}
 use Rattle.flash_traits.specs.Calls.{Passes}
 use Rattle.flash_traits.specs.Losses.{Received, SentFrame, Outcome, After}
 use Rattle.flash_traits.proofs.Moments.{up_to_self, chained, weaker}

@@ -1,10 +1,10 @@
 -- Pending lines put: what is left of them, and what a loss leaves.
-use Rattle.std.proofs.Common.{◌≡◌, inl, ℕ, suc, Bool, false, ◌+◌, ◌-◌, ◌*◌, ◌<◌, ◌≤◌, List, [], ◌∷◌, ◌++◌, length, take, Result, Ok, Err, refl, sym, ◌∙◌, ap, subst, arith, append_assoc, append-nil, length-append}
+use Rattle.std.proofs.Common.{◌≡◌, inl, ℕ, Bool, ◌+◌, ◌*◌, ◌<◌, ◌≤◌, List, [], ◌∷◌, ◌++◌, length, Result, Ok, refl, sym, ◌∙◌, ap, subst, arith, append_assoc, append-nil, length-append}
 use Rattle.std.specs.Prelude.{IsFalse, OnErr, if◌then◌else◌}
 use Rattle.std.proofs.lemmas.List.Sums.{fold-append}
 use Rattle.flash_traits.specs.Words.{Words}
 use Rattle.flash_traits.specs.declared.board.Board.{Ghosts}
-use Rattle.flash_traits.specs.Losses.{Received, SentFrame, Outcome, After, OnWords, ByResult}
+use Rattle.flash_traits.specs.Losses.{Outcome, OnWords, ByResult}
 use Rattle.flash_traits.specs.Calls.{Changes, Passes}
 use Rattle.flash_traits.proofs.Moments.{weaker, elapses_of}
 use Rattle.guard_row.specs.Row.{IsGuardRow}
@@ -25,7 +25,7 @@ use Rattle.vehicle_node.specs.Standing.{Node, ceiling}
 use Rattle.vehicle_node.specs.Steps.Calls.{HasSent}
 use Rattle.vehicle_node.specs.Steps.Answering.{Flushing, Flushed, FlushDone, Issued, IssueDone}
 use Rattle.vehicle_node.specs.declared.TheConstants.{ROOM_FROM}
-use Rattle.vehicle_node.proofs.Passing.{begun, adds_none, lists_kept, sent_nothing}
+use Rattle.vehicle_node.proofs.Passing.{begun, lists_kept, sent_nothing}
 
 guard_le : (state : State) → guard_in state ≤ guard_in state + (if in_both_sectors state then 2 else 0)
 guard_le (Alone kept) = omega arith

@@ -34,7 +34,7 @@ rest_set rests station old new is =
     let in_it = slice_get_within rests station old is in
     slice_get-get_or (set rests station new) station [] (omega (arith, length-set rests station new, in_it)) ∙ ap Some (get_or-set_same rests station new [] in_it)
 
-rest_kept : (rests : List (List ℕ)) (station : ℕ) (old : List ℕ) → slice_get rests station ≡ Some old → slice_set rests station old ≡ rests
+pub rest_kept : (rests : List (List ℕ)) (station : ℕ) (old : List ℕ) → slice_get rests station ≡ Some old → slice_set rests station old ≡ rests
 rest_kept rests station old is =
     ap (λ (l : List ℕ). set rests station l) (sym (get_or_from_slice_get rests station old [] is)) ∙ set-get_or rests station []
 

@@ -1,11 +1,12 @@
 //! One act of an event: its lines are issued, and then its frames are sent.
-ghost use Rattle.std.specs.Prelude.{◌≡◌, ◌<◌, ◌≤◌, List, ℕ, All, length};
+ghost use Rattle.std.specs.Prelude.{◌≡◌, ◌<◌, ◌≤◌, List, ℕ, All, length, Option};
 ghost use Rattle.flash_traits.specs.declared.numbers.TheConstants.{STATIONS};
 ghost use Rattle.storage_lines.specs.declared.lines.TheConstants.{BATCH_LINES};
+ghost use Rattle.mav_frames.specs.Cut.{IsFrame};
 ghost use Rattle.mav_frames.specs.Frames.{IsReadFrom};
 ghost use Rattle.dirty_lines.specs.Lines.{AreInside};
-ghost use Rattle.vehicle_core.specs.Vehicle.{Told};
-ghost use Rattle.vehicle_core.specs.Acts.{Beat, Stream};
+ghost use Rattle.vehicle_core.specs.Vehicle.{Asked, Asks, Told};
+ghost use Rattle.vehicle_core.specs.Acts.{Beat, Said, Stream, heard_as};
 ghost use Rattle.vehicle_core.specs.Replies.{AreRepliesOf};
 ghost use Rattle.vehicle_node.specs.Frames.{deliveries};
 ghost use Rattle.vehicle_node.specs.Standing.{Fits};
@@ -18,12 +19,12 @@ mod sending;
 
 use crate::{Node, NodeError};
 use flash_traits::Board;
-use mav_frames::{Frame, message};
-use mav_messages::{Replies, Sender};
+use mav_frames::{Frame, heading_of, message, message_in};
+use mav_messages::{Message, Replies, Sender};
 use storage_lines::Batch;
 
 impl Node {
-    /// Issues the lines of a act, and then sends its replies.
+    /// Issues the lines of an act, and then sends its replies.
     fn answer<B: Board>(
         &mut self,
         board: &mut B,
@@ -42,6 +43,34 @@ impl Node {
         self.issue(board, batch)?;
         self.issued = self.issued.saturating_add(batch.len() as u64);
         self.send_replies(board, replies)
+    }
+
+    /// Answers a message of a station.
+    fn answer_message<B: Board>(
+        &mut self,
+        board: &mut B,
+        from: Sender,
+        v2: bool,
+        message: &Message,
+    ) -> Result<(), NodeError>
+        requires fits { Fits B.Board board.old self.old }
+        requires station { from.station < STATIONS }
+        ensures done { (asked : Option Asked) × Asks message.now asked ×
+            ActDone B.Board self.old board.old (Said from.station (heard_as v2 asked))
+            result self.new board.new }
+        ensures keeps { Keeps B.Board OfAnswer self.old board.old result self.new board.new }
+    {
+        let mut batch = Batch::new();
+        let mut replies = Replies::new();
+        self.core.message(
+            self.lines.current(),
+            from,
+            v2,
+            message,
+            &mut batch,
+            &mut replies,
+        );
+        self.answer(board, &batch, &replies)
     }
 
     /// Answers a frame of a station, where it has a message.
@@ -65,17 +94,33 @@ impl Node {
             system: frame.system,
             component: frame.component,
         };
-        let mut batch = Batch::new();
-        let mut replies = Replies::new();
-        self.core.message(
-            self.lines.current(),
-            from,
-            frame.v2,
-            &message,
-            &mut batch,
-            &mut replies,
-        );
-        self.answer(board, &batch, &replies)
+        self.answer_message(board, from, frame.v2, &message)
+    }
+
+    /// Answers a whole frame of a station where it stands in a datagram, if it has a message.
+    pub(crate) fn answer_bytes<B: Board>(
+        &mut self,
+        board: &mut B,
+        station: u8,
+        bytes: &[u8],
+    ) -> Result<(), NodeError>
+        requires fits { Fits B.Board board.old self.old }
+        requires station { station < STATIONS }
+        requires frame { IsFrame bytes.now }
+        ensures done { FrameDone B.Board self.old board.old station bytes.now
+            result self.new board.new }
+        ensures keeps { Keeps B.Board OfAnswer self.old board.old result self.new board.new }
+    {
+        let Some(message) = message_in(bytes) else {
+            return Ok(());
+        };
+        let heading = heading_of(bytes);
+        let from = Sender {
+            station,
+            system: heading.system,
+            component: heading.component,
+        };
+        self.answer_message(board, from, heading.v2, &message)
     }
 
     /// Tells a station that was heard that the vehicle is there.

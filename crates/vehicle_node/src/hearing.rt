@@ -1,17 +1,17 @@
 //! An event: the bytes of a station, or an idle turn, and then the lists that go on.
-ghost use Rattle.std.specs.Prelude.{◌≡◌, ◌<◌, ◌∷◌, [], List, ℕ, length, Some, None, MatchOption};
+ghost use Rattle.std.specs.Prelude.{◌≡◌, ◌<◌, ◌≤◌, ◌∷◌, [], List, ℕ, length, take, Some, None, IfSome, MatchOption};
 ghost use Rattle.flash_traits.specs.declared.numbers.TheConstants.{DATAGRAM_BYTES, STATIONS};
 ghost use Rattle.flash_traits.specs.Losses.{received, IsEventInRange, Datagram, Idle};
 ghost use Rattle.mav_frames.specs.Frames.{IsReadFrom};
 ghost use Rattle.vehicle_node.specs.Reading.{beats, streams};
 ghost use Rattle.vehicle_node.specs.Standing.{Fits};
 ghost use Rattle.vehicle_node.specs.Steps.Calls.{Keeps, OfAnswer};
-ghost use Rattle.vehicle_node.specs.Steps.Hearing.{Pushed, KeepsButRests, HasRest, HearDone, ActsDone, TakeDone};
+ghost use Rattle.vehicle_node.specs.Steps.Hearing.{Pushed, KeepsButRests, HasRest, IsFront, HearDone, ActsDone, TakeDone};
 
 use crate::laws::frames_are_read;
 use crate::{Node, NodeError};
 use flash_traits::{Board, Event, STATIONS};
-use mav_frames::Frame;
+use mav_frames::{Frame, front_length};
 
 impl Node {
     /// The cutter of a station keeps a rest.
@@ -48,7 +48,39 @@ impl Node {
         }
     }
 
-    /// The bytes of a station, one by one: each frame is answered as soon as it is whole.
+    /// How long the whole frame is with which these bytes begin, where the station's cutter keeps
+    /// nothing before them.
+    fn front(&self, station: u8, bytes: &[u8]) -> Option<usize>
+        requires { station < STATIONS }
+        ensures { IfSome result (λ n. (0 < n) × (n ≤ length bytes.now) ×
+            IsFront station (take n bytes.now) self.now.rests) }
+    {
+        if self.cutters[station as usize].is_empty() {
+            front_length(bytes)
+        } else {
+            None
+        }
+    }
+
+    /// A whole frame of a station whose cutter keeps nothing: it is answered where it stands.
+    fn hear_front<B: Board>(
+        &mut self,
+        board: &mut B,
+        station: u8,
+        bytes: &[u8],
+    ) -> Result<(), NodeError>
+        requires fits { Fits B.Board board.old self.old }
+        requires station { station < STATIONS }
+        requires front { IsFront station bytes.now self.old.rests }
+        ensures done { HearDone B.Board self.old board.old station bytes.now
+            result self.new board.new }
+        ensures keeps { Keeps B.Board OfAnswer self.old board.old result self.new board.new }
+    {
+        self.answer_bytes(board, station, bytes)
+    }
+
+    /// The bytes of a station: each frame is answered as soon as it is whole, one that stands whole
+    /// in the datagram without a copy.
     fn hear<B: Board>(&mut self, board: &mut B, station: u8, bytes: &[u8]) -> Result<(), NodeError>
         requires fits { Fits B.Board board.old self.old }
         requires station { station < STATIONS }
@@ -57,8 +89,18 @@ impl Node {
         ensures keeps { Keeps B.Board OfAnswer self.old board.old result self.new board.new }
     {
         self.keeps_a_rest(station);
-        for byte in bytes {
-            self.hear_byte(board, station, *byte)?;
+        let mut at = 0;
+        while at < bytes.len() {
+            match self.front(station, &bytes[at..]) {
+                Some(count) => {
+                    self.hear_front(board, station, &bytes[at..at + count])?;
+                    at += count;
+                }
+                None => {
+                    self.hear_byte(board, station, bytes[at])?;
+                    at += 1;
+                }
+            }
         }
         Ok(())
     }

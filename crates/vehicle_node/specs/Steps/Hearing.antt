@@ -1,9 +1,9 @@
 -- Several acts of an event, one after another: what was answered, and what a loss inside leaves.
-use Rattle.std.specs.Prelude.{◌≡◌, ◌≤◌, ℕ, ◌+◌, ◌*◌, List, [], ◌++◌, length, Option, Some, Result, ⊤, slice_get, slice_set}
+use Rattle.std.specs.Prelude.{◌≡◌, ◌≤◌, ℕ, ◌+◌, ◌*◌, List, [], ◌∷◌, ◌++◌, length, Option, Some, Result, ⊤, slice_get, slice_set}
 use Rattle.flash_traits.specs.declared.board.Board.{Ghosts}
 use Rattle.flash_traits.specs.Losses.{Received, SentFrame, Outcome}
 use Rattle.storage_lines.specs.declared.lines.LineWrite.{LineWrite}
-use Rattle.mav_frames.specs.Cut.{Piece, Cut, Pushes, frames_in}
+use Rattle.mav_frames.specs.Cut.{Piece, Whole, IsFrame, Cut, Pushes, frames_in}
 use Rattle.vehicle_core.specs.Acts.{Act}
 use Rattle.vehicle_node.specs.Guard.{CountsUpTo}
 use Rattle.vehicle_node.specs.Reading.{AreSaid, IsEvent}
@@ -94,6 +94,12 @@ pub record HasRest (station : ℕ) (rests : List (List ℕ)) : Type 0 where
   pub rest : List ℕ
   pub rest_is : slice_get rests station ≡ Some rest
   pub cut : Cut rest [] rest
+
+-- The bytes are one whole frame, and the station has no rest before it.
+pub record IsFront (station : ℕ) (bytes : List ℕ) (rests : List (List ℕ)) : Type 0 where
+  pub rest_is : slice_get rests station ≡ Some []
+  pub frame : IsFrame bytes
+  pub cut : Cut bytes (Whole bytes ∷ []) []
 
 -- A prefix of a station's bytes was heard, and what was sent and put is safe in the run with what
 -- it says.

@@ -10,7 +10,7 @@ ghost use Rattle.vehicle_node.specs.Steps.Sending.{IsInside, SendDone, delivery,
 
 use crate::{Node, NodeError};
 use flash_traits::{Board, Fault, STATIONS};
-use mav_frames::write_frame;
+use mav_frames::{FrameBytes, write_frame_into};
 use mav_messages::{Message, Replies, Reply, To};
 
 /// The system and the component of the vehicle.
@@ -44,7 +44,8 @@ impl Node {
     {
         let v2 = self.core.version_two(station);
         let sequence = self.sequences[station as usize];
-        let frame = write_frame(message, v2, SYSTEM, COMPONENT, sequence);
+        let mut frame = FrameBytes::new();
+        write_frame_into(&mut frame, message, v2, SYSTEM, COMPONENT, sequence);
         match board.send(station, frame.as_slice()) {
             Ok(()) => {
                 self.count_frame(station);

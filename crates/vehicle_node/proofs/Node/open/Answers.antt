@@ -9,7 +9,7 @@ use Rattle.sector_image.specs.Stands.{Stands}
 use Rattle.dirty_lines.specs.Losses.{IsWornForNext}
 use Rattle.vehicle_node.proofs.Passing.{adds_both}
 use Rattle.vehicle_node.proofs.Putting.{nothing_sent}
-use Rattle.vehicle_node.proofs.Boot.{open_losses, boot_losses, open_rises, boot_rises, boot_within, stands_booted, foreign_at, worn_at, fault_at, worn_anyway, worn_from, booted_alone, read_stands}
+use Rattle.vehicle_node.proofs.Boot.{open_losses, boot_losses, open_rises, boot_rises, boot_within, stands_booted, foreign_at, worn_at, fault_at, worn_from, booted_alone, read_stands}
 use Rattle.vehicle_node.proofs.Node.open.Goals as goal
 
 pub returns-in-Err-clause-losses : goal.returns-in-Err-clause-losses

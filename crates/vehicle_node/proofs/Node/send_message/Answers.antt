@@ -14,8 +14,8 @@ returns-in-Ok-clause-done g c = λ content tells.
     let f = sent_frame to c.as_slice.result.now in
     let n = c.count_frame.ensures in
     let are : AreFramesOf (numbered node.machine ds) (f ∷ []) =
-    delivered (view_of c.self.inside) node to content c.args.message.now c.version_two-v2.result c.write_frame-frame.result.items c.as_slice.result.now c.self.view_is tells
-    c.version_two-v2.ensures c.as_slice.ensures.value c.write_frame-frame.ensures.sent in
+    delivered (view_of c.self.inside) node to content c.args.message.now c.version_two-v2.result c.write_frame_into.new.frame.items c.as_slice.result.now c.self.view_is tells
+    c.version_two-v2.ensures c.as_slice.ensures.value c.write_frame_into.ensures.sent in
     record {
       losses = one_losses (numbered node.machine ds) f are g.B.Board c.send.result c.send.ensures.time;
       lists = one_list g.B.Board f c.args.board.now c.send.new.self c.in-Ok.ensures.lists;
@@ -44,8 +44,8 @@ returns-in-Err-clause-done g c = λ content tells.
     let ds = delivery to content ∷ [] in
     let f = sent_frame to c.as_slice.result.now in
     let are : AreFramesOf (numbered node.machine ds) (f ∷ []) =
-    delivered (view_of c.self.inside) node to content c.args.message.now c.version_two-v2.result c.write_frame-frame.result.items c.as_slice.result.now c.self.view_is tells
-    c.version_two-v2.ensures c.as_slice.ensures.value c.write_frame-frame.ensures.sent in
+    delivered (view_of c.self.inside) node to content c.args.message.now c.version_two-v2.result c.write_frame_into.new.frame.items c.as_slice.result.now c.self.view_is tells
+    c.version_two-v2.ensures c.as_slice.ensures.value c.write_frame_into.ensures.sent in
     record {
       losses = one_losses (numbered node.machine ds) f are g.B.Board c.send.result c.send.ensures.time;
       lists = either_list g.B.Board f c.args.board.now c.send.new.self c.in-Err.ensures.lists;

@@ -1,9 +1,9 @@
-use Rattle.std.proofs.Common.{◌+◌, ◌-◌, [], ◌∷◌, Ok, arith, subst, refl}
+use Rattle.std.proofs.Common.{◌+◌, ◌-◌, [], ◌∷◌, Ok, arith, subst}
 use Rattle.std.specs.List.{range_with_len}
 use Rattle.vehicle_core.specs.Vehicle.{Vehicle}
 use Rattle.vehicle_node.specs.Frames.{stations}
 use Rattle.vehicle_node.specs.Steps.Sending.{SendDone, deliveries_to}
-use Rattle.vehicle_node.proofs.Keeping.{lines_none, lines_then}
+use Rattle.vehicle_node.proofs.Keeping.{lines_then}
 use Rattle.vehicle_node.proofs.RepliesSent.{done_then, done_short, vehicle_stays, to-more, to-rest}
 use Rattle.vehicle_node.proofs.Node.send_to_all.Goals as goal
 

@@ -1,0 +1,13 @@
+use Rattle.std.proofs.Common.{Bool, inr, subst}
+use Rattle.vehicle_core.specs.Acts.{heard_as, Said}
+use Rattle.vehicle_node.specs.Steps.Answering.{ActDone}
+use Rattle.vehicle_node.proofs.Node.answer_bytes.Goals as goal
+
+pub returns-clause-done : goal.returns-clause-done
+returns-clause-done g c =
+    let a = c.answer_message.ensures.done in
+    inr (
+      a.0,
+      record { message = c.in-Some.message; is = c.in-Some.ensures.cases; fits = c.in-Some.ensures.fits; asks = a.1 },
+      subst (λ (v2 : Bool). ActDone g.B.Board c.args.self.now c.args.board.now (Said c.args.station (heard_as v2 a.0)) c.answer_message.result c.answer_message.new.self c.answer_message.new.board) c.heading_of-heading.ensures.v2 a.2,
+    )
