@@ -1,5 +1,5 @@
 -- What the programs of a format make of blank words.
-use Rattle.std.proofs.Common.{inl, inr, ◌≡◌, ◌≢◌, ℕ, ◌/◌, ◌<◌, ◌≤◌, List, length, get_or, replicate, bit_and, refl, ◌∙◌, ap, arith, Bool, true, false, cond, Result, Ok, Err, true≢false, eqb-true, get_or-set_other, get_or-set_same, length-set}
+use Rattle.std.proofs.Common.{◌≡◌, ◌≢◌, ℕ, ◌/◌, ◌<◌, ◌≤◌, List, length, get_or, replicate, bit_and, refl, ◌∙◌, ap, arith, Bool, true, false, cond, Result, Ok, Err, true≢false, eqb-true, get_or-set_other, get_or-set_same, length-set}
 use Rattle.std.specs.Prelude.{◌==◌, is_err, IfOk, OnOk}
 use Rattle.flash_traits.specs.declared.board.Geometry.{Geometry}
 use Rattle.std.proofs.Math.ListN.{set}
@@ -8,7 +8,6 @@ use Rattle.std.proofs.lemmas.List.{get_or-replicate, length-replicate}
 use Rattle.flash_traits.specs.declared.board.Region.{Region}
 use Rattle.flash_traits.specs.declared.board.Region.TheVariants.{S0, S1, Guard}
 use Rattle.flash_traits.specs.Words.{Words, halfwords_in, region_length, blank, programmed, HasShape, IsSectorSize}
-use Rattle.flash_traits.specs.Losses.{ByResult}
 use Rattle.flash_traits.specs.Pairs.{ProgramsPair}
 use Rattle.flash_traits.proofs.Sizes.{half_at_least}
 use Rattle.storage_cli.specs.Fresh.{header_only, fresh_word, IsFreshImage}

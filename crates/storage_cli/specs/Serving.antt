@@ -1,5 +1,5 @@
 -- What a `serve` and a `format` have done.
-use Rattle.std.specs.Prelude.{◌≡◌, ◌≢◌, ◌⊎◌, ℕ, ◌-◌, List, [], ◌∷◌, ◌++◌, length, IsTrue}
+use Rattle.std.specs.Prelude.{◌≡◌, ◌≢◌, ◌⊎◌, ℕ, ◌-◌, List, [], ◌∷◌, ◌++◌, length}
 use Rattle.flash_traits.specs.Words.{Words}
 use Rattle.flash_traits.specs.declared.board.Board.{Ghosts}
 use Rattle.dirty_lines.specs.Lines.{Lines}

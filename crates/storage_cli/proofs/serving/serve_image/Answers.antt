@@ -1,7 +1,5 @@
-use Rattle.std.proofs.Common.{◌≡◌, ◌≤◌, arith, inr, refl, sym, subst, ◌+◌, [], length, Result, Err}
-use Rattle.std.specs.Prelude.{IfErr}
+use Rattle.std.proofs.Common.{◌≤◌, arith, inr, refl, subst, ◌+◌, [], length, Result}
 use Rattle.flash_traits.specs.declared.board.Fault.{Fault}
-use Rattle.flash_traits.specs.Words.{Words}
 use Rattle.storage_cli.specs.declared.stop.Served.{Served}
 use Rattle.storage_cli.specs.declared.stop.Stop.{Stop}
 use Rattle.storage_cli.specs.Serving.{HasToVoid}
