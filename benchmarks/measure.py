@@ -143,7 +143,10 @@ class Bench:
             (f"each name in turn, {self.taken} values stored", self.stored, by_name),
             (f"the last name, {self.taken} values stored", self.stored, by_name[-1:]),
         ]
-        table("Round trips a second, PARAM_REQUEST_READ", ["in flight", "serve", "C server", "C echo", "of C server", "of echo"])
+        table(
+            "PARAM_REQUEST_READ, trips a second",
+            ["in flight", "serve", "C server", "C echo", "of server", "of echo"],
+        )
         for title, image, frames in cases:
             requests = self.requests("requests", frames)
             with self.serve(self.copy(image, self.folder)) as ours, self.floor() as floor, self.echo() as echo:
@@ -214,7 +217,8 @@ class Bench:
             stored = states.states(file.read())
         with open(self.empty, "rb") as file:
             empty = file.read()
-        table("From the start to the first answer, ms", [*(f"serve, {title}" for title, _ in folders), "C: reads the file, answers"])
+        titles = [f"serve, {title.replace('image ', '')}" for title, _ in folders]
+        table("To the first answer, ms", [*titles, "C: reads the file, answers"])
         for state, image in {"alone, nothing stored": empty, **stored}.items():
             source = self.write("source.img", image)
             took = [self.opening(source, folder, self.program, "serve", "{image}", "--port", "{port}") for _, folder in folders]
