@@ -219,7 +219,12 @@ impl Board for VoidFails {
 
     ghost has_lists = { λ _ _ _. Unit {0} };
 
-    ghost moment = { λ _. record { programs = 2 ^ 64 - 1; erases = 2 ^ 64 - 1; receptions = 2 ^ 64 - 1; sendings = 2 ^ 64 - 1 } };
+    ghost moment = { λ _. record {
+      programs = 2 ^ 64 - 1;
+      erases = 2 ^ 64 - 1;
+      receptions = 2 ^ 64 - 1;
+      sendings = 2 ^ 64 - 1;
+    } };
 
     ghost now = { λ _ _. ⊥ };
 

@@ -28,7 +28,8 @@ KeepsFenceItems =
 -- A count has one nearest pattern, and `pattern_of` is that.
 abbrev pub CountsHavePatterns : Type 0
 CountsHavePatterns = (n : ℕ) → n < 256
-    → IsPatternOfWhole (pos n) (pattern_of n) × ((p : ℕ) → IsPatternOfWhole (pos n) p → p ≡ pattern_of n)
+    → IsPatternOfWhole (pos n) (pattern_of n)
+    × ((p : ℕ) → IsPatternOfWhole (pos n) p → p ≡ pattern_of n)
 
 -- an item that is read back: its frame is 0, and what isn't stored is 0
 abbrev pub item_of : FenceItem → ℕ → Item
