@@ -20,15 +20,30 @@ pub record Holdings : Type 0 where
 
 -- one more call on the record, which has room for 65,536
 abbrev pub noted : Holdings → Holdings
-noted h = record { image_size = h.image_size; upcoming = h.upcoming; first_frames = h.first_frames; recorded = min (h.recorded + 1) 65536 }
+noted h = record {
+  image_size = h.image_size;
+  upcoming = h.upcoming;
+  first_frames = h.first_frames;
+  recorded = min (h.recorded + 1) 65536;
+}
 
 -- the first of what it is still to receive is received
 abbrev pub fed : Holdings → Holdings
-fed h = record { image_size = h.image_size; upcoming = drop 1 h.upcoming; first_frames = h.first_frames; recorded = h.recorded }
+fed h = record {
+  image_size = h.image_size;
+  upcoming = drop 1 h.upcoming;
+  first_frames = h.first_frames;
+  recorded = h.recorded;
+}
 
 -- one more frame is sent
 abbrev pub sent_on : SentFrame → Holdings → Holdings
-sent_on f h = record { image_size = h.image_size; upcoming = h.upcoming; first_frames = take 4096 (h.first_frames ++ f ∷ []); recorded = h.recorded }
+sent_on f h = record {
+  image_size = h.image_size;
+  upcoming = h.upcoming;
+  first_frames = take 4096 (h.first_frames ++ f ∷ []);
+  recorded = h.recorded;
+}
 
 -- an image of this sector size is attached
 abbrev pub begun : ℕ → Holdings → Holdings

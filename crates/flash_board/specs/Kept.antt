@@ -17,7 +17,12 @@ use Rattle.flash_board.specs.declared.counts.Faults.{Faults}
 
 -- the counts of calls as a moment
 abbrev pub moment_of : Counts → Moment
-moment_of c = record { programs = c.programs; erases = c.erases; receptions = c.receptions; sendings = c.sendings }
+moment_of c = record {
+  programs = c.programs;
+  erases = c.erases;
+  receptions = c.receptions;
+  sendings = c.sendings;
+}
 
 -- how often calls of this kind have failed
 abbrev pub fault_count : Faults → Fault → ℕ
@@ -37,7 +42,8 @@ frame_of s = sent_frame s.peer s.bytes.items
 
 -- The record, replayed over the image of the last attach, gives the image, the moment and the first
 -- frames.
-pub record IsKept (image base : Flash) (feed : List Feed) (calls : List Call) (sent : List Sent) (now first : Counts) : Type 0 where
+pub record IsKept (image base : Flash) (feed : List Feed) (calls : List Call) (sent : List Sent)
+    (now first : Counts) : Type 0 where
   pub words : words_of image ≡ (replayed feed calls (start base)).words
   pub moment : moment_of now ≡ moment_after feed calls (moment_of first)
   pub frames : map frame_of sent ≡ take 4096 (replayed feed calls (start base)).frames

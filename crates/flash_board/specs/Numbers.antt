@@ -14,6 +14,7 @@ pub record CountsFault {T E : Type 0} (before now : ℕ) (result : Result T E) :
   pub one : OnErr result (now ≡ raised before)
 
 -- the count of this kind is one higher where the call failed, and all others are as they were
-pub record CountsKind {T E : Type 0} (kind : Fault) (before now : Fault → ℕ) (result : Result T E) : Type 0 where
+pub record CountsKind {T E : Type 0} (kind : Fault) (before now : Fault →
+    ℕ) (result : Result T E) : Type 0 where
   pub this : CountsFault (before kind) (now kind) result
   pub others : (k : Fault) → k ≢ kind → now k ≡ before k

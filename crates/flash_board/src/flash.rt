@@ -21,7 +21,8 @@ pub(crate) struct Flash {
 // Clears the bits of a halfword that the word lacks.
 fn clear_bits(halfwords: &mut Vec<u16>, at: usize, word: u16)
     requires { at < length halfwords.old.items }
-    ensures after { halfwords.new.items ≡ slice_set halfwords.old.items at (bit_and (slice_index halfwords.old.items at) word) }
+    ensures after { halfwords.new.items ≡ slice_set halfwords.old.items at (bit_and (slice_index
+        halfwords.old.items at) word) }
     ensures capacity { vec_capacity halfwords.new ≡ vec_capacity halfwords.old }
 {
     halfwords[at] &= word;
@@ -52,7 +53,8 @@ fn set_odd(halfwords: &mut Vec<u16>)
 fn refill(halfwords: &mut Vec<u16>, n: usize)
     requires { n ≤ vec_capacity halfwords.old }
     ensures after { halfwords.new.items ≡ replicate n 65535 }
-    ensures capacity { n ≤ vec_capacity halfwords.new × (vec_capacity halfwords.old ≤ vec_capacity halfwords.new) }
+    ensures capacity { n ≤ vec_capacity halfwords.new ×
+        (vec_capacity halfwords.old ≤ vec_capacity halfwords.new) }
 {
     halfwords.clear();
     let _ = halfwords.resize(n, 0xFFFF);

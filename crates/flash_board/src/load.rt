@@ -68,7 +68,8 @@ fn size_or_zero(bytes: usize) -> u32
 }
 
 fn load_flash(alloc: Global, image: &[u8]) -> Result<Flash, AllocError>
-    ensures { IfOk result (λ flash. words_of flash ≡ image_words (image_size (length image.now)) image.now) }
+    ensures { IfOk result (λ flash. words_of flash
+        ≡ image_words (image_size (length image.now)) image.now) }
 {
     let size = size_or_zero(image.len()) as usize;
     if size == 0 {
@@ -89,12 +90,24 @@ fn load_flash(alloc: Global, image: &[u8]) -> Result<Flash, AllocError>
 pub(crate) fn load(alloc: Global, image: &[u8], feed: &[Feed]) -> Result<Memory, AllocError>
     requires { IsTrue (peers_fit feed.now) }
     ensures told { IfOk result (λ memory. memory.full ≡ false) }
-    ensures words { IfOk result (λ memory. words_of memory.image ≡ image_words (image_size (length image.now)) image.now) }
+    ensures words { IfOk result (λ memory. words_of memory.image
+        ≡ image_words (image_size (length image.now)) image.now) }
     ensures size { IfOk result (λ memory. memory.size ≡ image_size (length image.now)) }
     ensures unattached { IfOk result (λ memory. memory.sector_bytes ≡ 0) }
     ensures fresh { IfOk result (λ memory. memory.calls.items ≡ []) }
-    ensures holdings { IfOk result (λ memory. holdings_of memory ≡ record { image_size = image_size (length image.now); upcoming = feed.now; first_frames = []; recorded = 0 }) }
-    ensures counts { IfOk result (λ memory. moment_of memory.counts ≡ record { programs = 0; erases = 0; receptions = 0; sendings = 0 }) }
+    ensures holdings { IfOk result (λ memory. holdings_of memory
+        ≡ record {
+          image_size = image_size (length image.now);
+          upcoming = feed.now;
+          first_frames = [];
+          recorded = 0;
+        }) }
+    ensures counts { IfOk result (λ memory. moment_of memory.counts ≡ record {
+      programs = 0;
+      erases = 0;
+      receptions = 0;
+      sendings = 0;
+    }) }
 {
     let counts = Counts {
         programs: 0,

@@ -46,13 +46,23 @@ impl MemBoard {
     ) -> Result<MemBoard, AllocError>
         requires { IsTrue (peers_fit feed.now) }
         ensures told { IfOk result (λ board. ⟦<MemBoard as Board>⟧.tells board) }
-        ensures words { IfOk result (λ board. ⟦<MemBoard as Board>⟧.words board ≡ image_words (image_size (length image.now)) image.now) }
+        ensures words { IfOk result (λ board. ⟦<MemBoard as Board>⟧.words board
+            ≡ image_words (image_size (length image.now)) image.now) }
         ensures unattached { IfOk result (λ board. ⟦<MemBoard as Board>⟧.sector_bytes board ≡ 0) }
         ensures lists { IfOk result (λ board. ⟦<MemBoard as Board>⟧.has_lists board [] []) }
-        ensures moment { IfOk result (λ board. ⟦<MemBoard as Board>⟧.moment board ≡ record { programs = 0; erases = 0; receptions = 0; sendings = 0 }) }
-        ensures faults { IfOk result (λ board. (kind : Fault) → ⟦<MemBoard as Board>⟧.faults board kind ≡ 0) }
-        ensures holdings { IfOk result (λ board. holdings board ≡ record { image_size = image_size (length image.now); upcoming = feed.now; first_frames = []; recorded = 0 }) }
-        ensures fails { IfOk result (λ board. (failing_calls board ≡ fails.now) × (next_call board ≡ 0)) }
+        ensures moment { IfOk result (λ board. ⟦<MemBoard as Board>⟧.moment board
+            ≡ record { programs = 0; erases = 0; receptions = 0; sendings = 0 }) }
+        ensures faults { IfOk result (λ board. (kind : Fault) →
+            ⟦<MemBoard as Board>⟧.faults board kind ≡ 0) }
+        ensures holdings { IfOk result (λ board. holdings board
+            ≡ record {
+              image_size = image_size (length image.now);
+              upcoming = feed.now;
+              first_frames = [];
+              recorded = 0;
+            }) }
+        ensures fails { IfOk result (λ board. (failing_calls board ≡ fails.now) × (next_call board
+            ≡ 0)) }
     {
         Ok(MemBoard {
             memory: load(alloc, image, feed)?,
@@ -78,7 +88,10 @@ impl MemBoard {
     /// were sent, and for n of 4,096 and more.
     pub fn sent(&self, n: u32) -> Option<(u8, ArrayVec<u8, 280>)>
         ensures sent_frame { frame_in result ≡ slice_get (holdings self.now).first_frames n }
-        ensures told { ⟦<MemBoard as Board>⟧.tells self.now → (e : List Received) (f : List SentFrame) → ⟦<MemBoard as Board>⟧.has_lists self.now e f → (holdings self.now).first_frames ≡ take 4096 f }
+        ensures told { ⟦<MemBoard as Board>⟧.tells self.now →
+            (e : List Received) (f : List SentFrame) →
+            ⟦<MemBoard as Board>⟧.has_lists self.now e f → (holdings self.now).first_frames
+            ≡ take 4096 f }
     {
         self.memory.sent(n)
     }
@@ -86,7 +99,8 @@ impl MemBoard {
     /// The words as a file's bytes: sector 0, sector 1, the guard row, each halfword with its low
     /// byte first.
     pub fn image(&self, alloc: Global) -> Result<Vec<u8>, AllocError>
-        ensures { IfOk result (λ bytes. bytes.items ≡ image_bytes (⟦<MemBoard as Board>⟧.words self.now)) }
+        ensures { IfOk result (λ bytes. bytes.items
+            ≡ image_bytes (⟦<MemBoard as Board>⟧.words self.now)) }
     {
         self.memory.image.bytes(alloc)
     }
@@ -134,21 +148,36 @@ impl Board for MemBoard {
 
     fn attach(&mut self, _name: &str, _port: u16, make: Option<u32>) -> Result<Geometry, Failed>
         requires { ForSome make IsSectorSize }
-        ensures geometry { IfOk result (λ geometry. (⟦<MemBoard as Board>⟧.sector_bytes self.new ≡ geometry.sector_bytes) × IsSectorSize geometry.sector_bytes
+        ensures geometry { IfOk result (λ geometry. (⟦<MemBoard as Board>⟧.sector_bytes self.new
+            ≡ geometry.sector_bytes) × IsSectorSize geometry.sector_bytes
             × IfSome make (λ size. geometry.sector_bytes ≡ size)) }
         ensures told { ⟦<MemBoard as Board>⟧.tells self.new → ⟦<MemBoard as Board>⟧.tells self.old }
-        ensures words { OnOk result (⟦<MemBoard as Board>⟧.tells self.new → MatchOption make (⟦<MemBoard as Board>⟧.words self.new ≡ ⟦<MemBoard as Board>⟧.words self.old) (λ size. ⟦<MemBoard as Board>⟧.words self.new ≡ blank size)) }
+        ensures words { OnOk result (⟦<MemBoard as Board>⟧.tells self.new →
+            MatchOption make (⟦<MemBoard as Board>⟧.words self.new
+            ≡ ⟦<MemBoard as Board>⟧.words self.old) (λ size. ⟦<MemBoard as Board>⟧.words self.new
+            ≡ blank size)) }
         ensures lists { OnOk result (⟦<MemBoard as Board>⟧.has_lists self.new [] []) }
-        ensures starts { OnOk result ((o : Outcome) → ⟦<MemBoard as Board>⟧.now self.new o → (o.events ≡ []) × (o.frames ≡ [])) }
-        ensures untold { ((e : List Received) (f : List SentFrame) → ⟦<MemBoard as Board>⟧.has_lists self.old e f) → (e : List Received) (f : List SentFrame) → ⟦<MemBoard as Board>⟧.has_lists self.new e f }
-        ensures moment { ⟦<MemBoard as Board>⟧.moment self.new ≡ ⟦<MemBoard as Board>⟧.moment self.old }
+        ensures starts { OnOk result ((o : Outcome) → ⟦<MemBoard as Board>⟧.now self.new o →
+            (o.events ≡ []) × (o.frames ≡ [])) }
+        ensures untold { ((e : List Received) (f : List SentFrame) →
+            ⟦<MemBoard as Board>⟧.has_lists self.old e f) →
+            (e : List Received) (f : List SentFrame) →
+            ⟦<MemBoard as Board>⟧.has_lists self.new e f }
+        ensures moment { ⟦<MemBoard as Board>⟧.moment self.new
+            ≡ ⟦<MemBoard as Board>⟧.moment self.old }
         ensures cause { HasCause Fault.Attach (⟦<MemBoard as Board>⟧.faults self.old) (⟦<MemBoard as Board>⟧.faults self.new) result }
         ensures counts { CountsKind Fault.Attach (⟦<MemBoard as Board>⟧.faults self.old) (⟦<MemBoard as Board>⟧.faults self.new) result }
-        ensures fails { IsErr result ↔ IsTrue (is_among (failing_calls self.old) (next_call self.old)) ⊎ ((make ≡ None) × (is_size (holdings self.old).image_size ≡ false)) }
-        ensures numbers { (failing_calls self.new ≡ failing_calls self.old) × (next_call self.new ≡ raised (next_call self.old)) }
-        ensures goes_on { ⟦<MemBoard as Board>⟧.tells self.old → ⟦<MemBoard as Board>⟧.tells self.new }
-        ensures as_before { OnOk result (MatchOption make (⟦<MemBoard as Board>⟧.words self.new ≡ ⟦<MemBoard as Board>⟧.words self.old) (λ size. ⟦<MemBoard as Board>⟧.words self.new ≡ blank size)) }
-        ensures holdings { OnOk result (holdings self.new ≡ begun (⟦<MemBoard as Board>⟧.sector_bytes self.new) (holdings self.old)) }
+        ensures fails { IsErr result ↔ IsTrue (is_among (failing_calls self.old) (next_call
+            self.old)) ⊎ ((make ≡ None) × (is_size (holdings self.old).image_size ≡ false)) }
+        ensures numbers { (failing_calls self.new ≡ failing_calls self.old) × (next_call self.new
+            ≡ raised (next_call self.old)) }
+        ensures goes_on { ⟦<MemBoard as Board>⟧.tells self.old →
+            ⟦<MemBoard as Board>⟧.tells self.new }
+        ensures as_before { OnOk result (MatchOption make (⟦<MemBoard as Board>⟧.words self.new
+            ≡ ⟦<MemBoard as Board>⟧.words self.old) (λ size. ⟦<MemBoard as Board>⟧.words self.new
+            ≡ blank size)) }
+        ensures holdings { OnOk result (holdings self.new
+            ≡ begun (⟦<MemBoard as Board>⟧.sector_bytes self.new) (holdings self.old)) }
         ensures still { OnErr result (device self.new ≡ device self.old) }
     {
         if fails_now(&self.fails, &mut self.number) || !self.memory.attach(make) {
@@ -167,15 +196,21 @@ impl Board for MemBoard {
     fn read(&mut self, region: Region, at: u32) -> Result<u16, Failed>
         requires attached { IsSectorSize (⟦<MemBoard as Board>⟧.sector_bytes self.old) }
         requires inside { at < region_length (⟦<MemBoard as Board>⟧.sector_bytes self.old) region }
-        ensures value { ⟦<MemBoard as Board>⟧.tells self.new → IfOk result (λ word. word ≡ slice_index (halfwords_in (⟦<MemBoard as Board>⟧.words self.old) region) at) }
+        ensures value { ⟦<MemBoard as Board>⟧.tells self.new → IfOk result (λ word. word
+            ≡ slice_index (halfwords_in (⟦<MemBoard as Board>⟧.words self.old) region) at) }
         ensures changes { Changes ⟦<MemBoard as Board>⟧ self.old self.new Same Same }
-        ensures keeps_told { ⟦<MemBoard as Board>⟧.tells self.old → ⟦<MemBoard as Board>⟧.tells self.new }
-        ensures moment { ⟦<MemBoard as Board>⟧.moment self.new ≡ ⟦<MemBoard as Board>⟧.moment self.old }
+        ensures keeps_told { ⟦<MemBoard as Board>⟧.tells self.old →
+            ⟦<MemBoard as Board>⟧.tells self.new }
+        ensures moment { ⟦<MemBoard as Board>⟧.moment self.new
+            ≡ ⟦<MemBoard as Board>⟧.moment self.old }
         ensures cause { HasCause Fault.Read (⟦<MemBoard as Board>⟧.faults self.old) (⟦<MemBoard as Board>⟧.faults self.new) result }
         ensures counts { CountsKind Fault.Read (⟦<MemBoard as Board>⟧.faults self.old) (⟦<MemBoard as Board>⟧.faults self.new) result }
-        ensures fails { IsErr result ↔ IsTrue (is_among (failing_calls self.old) (next_call self.old)) }
-        ensures numbers { (failing_calls self.new ≡ failing_calls self.old) × (next_call self.new ≡ raised (next_call self.old)) }
-        ensures as_before { IfOk result (λ word. word ≡ slice_index (halfwords_in (⟦<MemBoard as Board>⟧.words self.old) region) at) }
+        ensures fails { IsErr result ↔ IsTrue (is_among (failing_calls self.old) (next_call
+            self.old)) }
+        ensures numbers { (failing_calls self.new ≡ failing_calls self.old) × (next_call self.new
+            ≡ raised (next_call self.old)) }
+        ensures as_before { IfOk result (λ word. word
+            ≡ slice_index (halfwords_in (⟦<MemBoard as Board>⟧.words self.old) region) at) }
         ensures still { device self.new ≡ device self.old }
     {
         if fails_now(&self.fails, &mut self.number) {
@@ -188,18 +223,28 @@ impl Board for MemBoard {
     fn program(&mut self, region: Region, at: u32, word: u16) -> Result<(), Failed>
         requires attached { IsSectorSize (⟦<MemBoard as Board>⟧.sector_bytes self.old) }
         requires inside { at < region_length (⟦<MemBoard as Board>⟧.sector_bytes self.old) region }
-        ensures changes { Changes ⟦<MemBoard as Board>⟧ self.old self.new (ProgramMayLeave region at word)
+        ensures changes { Changes ⟦<MemBoard as Board>⟧ self.old self.new (ProgramMayLeave region at
+            word)
             (ByResult result (Programs region at word) (ProgramMayLeave region at word)) }
-        ensures covers { MayHaveLeft ⟦<MemBoard as Board>⟧ self.old self.new (OnWords (ProgramMayLeave region at word)) }
-        ensures moment { ⟦<MemBoard as Board>⟧.moment self.new ≡ after_program (⟦<MemBoard as Board>⟧.moment self.old) }
+        ensures covers { MayHaveLeft ⟦<MemBoard as Board>⟧ self.old self.new (OnWords
+            (ProgramMayLeave region at word)) }
+        ensures moment { ⟦<MemBoard as Board>⟧.moment self.new
+            ≡ after_program (⟦<MemBoard as Board>⟧.moment self.old) }
         ensures cause { HasCause Fault.Flash (⟦<MemBoard as Board>⟧.faults self.old) (⟦<MemBoard as Board>⟧.faults self.new) result }
         ensures counts { CountsKind Fault.Flash (⟦<MemBoard as Board>⟧.faults self.old) (⟦<MemBoard as Board>⟧.faults self.new) result }
-        ensures fails { IsErr result ↔ IsTrue (is_among (failing_calls self.old) (next_call self.old)) }
-        ensures numbers { (failing_calls self.new ≡ failing_calls self.old) × (next_call self.new ≡ raised (next_call self.old)) }
-        ensures goes_on { ⟦<MemBoard as Board>⟧.tells self.old → (holdings self.old).recorded < 65536 → (⟦<MemBoard as Board>⟧.moment self.old).programs < 2 ^ 64 - 1 → ⟦<MemBoard as Board>⟧.tells self.new }
-        ensures as_before { OnOk result (⟦<MemBoard as Board>⟧.words self.new ≡ programmed (⟦<MemBoard as Board>⟧.words self.old) region at word) }
+        ensures fails { IsErr result ↔ IsTrue (is_among (failing_calls self.old) (next_call
+            self.old)) }
+        ensures numbers { (failing_calls self.new ≡ failing_calls self.old) × (next_call self.new
+            ≡ raised (next_call self.old)) }
+        ensures goes_on { ⟦<MemBoard as Board>⟧.tells self.old →
+            (holdings self.old).recorded < 65536 →
+            (⟦<MemBoard as Board>⟧.moment self.old).programs < 2 ^ 64 - 1 →
+            ⟦<MemBoard as Board>⟧.tells self.new }
+        ensures as_before { OnOk result (⟦<MemBoard as Board>⟧.words self.new
+            ≡ programmed (⟦<MemBoard as Board>⟧.words self.old) region at word) }
         ensures holdings { holdings self.new ≡ noted (holdings self.old) }
-        ensures leaves { OnErr result (⟦<MemBoard as Board>⟧.words self.new ≡ ⟦<MemBoard as Board>⟧.words self.old) }
+        ensures leaves { OnErr result (⟦<MemBoard as Board>⟧.words self.new
+            ≡ ⟦<MemBoard as Board>⟧.words self.old) }
     {
         if fails_now(&self.fails, &mut self.number) {
             self.memory.fail_program(region, at as usize, word);
@@ -213,17 +258,27 @@ impl Board for MemBoard {
     fn erase(&mut self, region: Region) -> Result<(), Failed>
         requires attached { IsSectorSize (⟦<MemBoard as Board>⟧.sector_bytes self.old) }
         requires sector { IsSectorRegion region }
-        ensures changes { Changes ⟦<MemBoard as Board>⟧ self.old self.new (EraseMayLeave region) (ByResult result (Erases region) (EraseMayLeave region)) }
-        ensures covers { MayHaveLeft ⟦<MemBoard as Board>⟧ self.old self.new (OnWords (EraseMayLeave region)) }
-        ensures moment { ⟦<MemBoard as Board>⟧.moment self.new ≡ after_erase (⟦<MemBoard as Board>⟧.moment self.old) }
+        ensures changes { Changes ⟦<MemBoard as Board>⟧ self.old self.new (EraseMayLeave region)
+            (ByResult result (Erases region) (EraseMayLeave region)) }
+        ensures covers { MayHaveLeft ⟦<MemBoard as Board>⟧ self.old self.new (OnWords (EraseMayLeave
+            region)) }
+        ensures moment { ⟦<MemBoard as Board>⟧.moment self.new
+            ≡ after_erase (⟦<MemBoard as Board>⟧.moment self.old) }
         ensures cause { HasCause Fault.Flash (⟦<MemBoard as Board>⟧.faults self.old) (⟦<MemBoard as Board>⟧.faults self.new) result }
         ensures counts { CountsKind Fault.Flash (⟦<MemBoard as Board>⟧.faults self.old) (⟦<MemBoard as Board>⟧.faults self.new) result }
-        ensures fails { IsErr result ↔ IsTrue (is_among (failing_calls self.old) (next_call self.old)) }
-        ensures numbers { (failing_calls self.new ≡ failing_calls self.old) × (next_call self.new ≡ raised (next_call self.old)) }
-        ensures goes_on { ⟦<MemBoard as Board>⟧.tells self.old → (holdings self.old).recorded < 65536 → (⟦<MemBoard as Board>⟧.moment self.old).erases < 2 ^ 64 - 1 → ⟦<MemBoard as Board>⟧.tells self.new }
-        ensures as_before { OnOk result (⟦<MemBoard as Board>⟧.words self.new ≡ erased (⟦<MemBoard as Board>⟧.words self.old) region) }
+        ensures fails { IsErr result ↔ IsTrue (is_among (failing_calls self.old) (next_call
+            self.old)) }
+        ensures numbers { (failing_calls self.new ≡ failing_calls self.old) × (next_call self.new
+            ≡ raised (next_call self.old)) }
+        ensures goes_on { ⟦<MemBoard as Board>⟧.tells self.old →
+            (holdings self.old).recorded < 65536 →
+            (⟦<MemBoard as Board>⟧.moment self.old).erases < 2 ^ 64 - 1 →
+            ⟦<MemBoard as Board>⟧.tells self.new }
+        ensures as_before { OnOk result (⟦<MemBoard as Board>⟧.words self.new
+            ≡ erased (⟦<MemBoard as Board>⟧.words self.old) region) }
         ensures holdings { holdings self.new ≡ noted (holdings self.old) }
-        ensures leaves { OnErr result (⟦<MemBoard as Board>⟧.words self.new ≡ half_erased (⟦<MemBoard as Board>⟧.words self.old) region) }
+        ensures leaves { OnErr result (⟦<MemBoard as Board>⟧.words self.new
+            ≡ half_erased (⟦<MemBoard as Board>⟧.words self.old) region) }
     {
         if fails_now(&self.fails, &mut self.number) {
             self.memory.fail_erase(region);
@@ -238,22 +293,37 @@ impl Board for MemBoard {
         requires attached { IsSectorSize (⟦<MemBoard as Board>⟧.sector_bytes self.old) }
         requires room { length into.old ≡ 2048 }
         ensures bounds { IfOk result (λ event. IsEventInRange event) }
-        ensures words { KeepsWords ⟦<MemBoard as Board>⟧.sector_bytes ⟦<MemBoard as Board>⟧.tells ⟦<MemBoard as Board>⟧.words self.old self.new }
-        ensures lists { (e : List Received) (f : List SentFrame) → ⟦<MemBoard as Board>⟧.has_lists self.old e f →
-            MatchResult result (λ event. ⟦<MemBoard as Board>⟧.has_lists self.new (e ++ received event into.new ∷ []) f) (λ _. ⟦<MemBoard as Board>⟧.has_lists self.new e f) }
+        ensures words { KeepsWords ⟦<MemBoard as Board>⟧.sector_bytes ⟦<MemBoard as Board>⟧.tells
+            ⟦<MemBoard as Board>⟧.words self.old self.new }
+        ensures lists { (e : List Received) (f : List SentFrame) →
+            ⟦<MemBoard as Board>⟧.has_lists self.old e f →
+            MatchResult result (λ event. ⟦<MemBoard as Board>⟧.has_lists self.new (e ++ received
+            event into.new ∷ []) f) (λ _. ⟦<MemBoard as Board>⟧.has_lists self.new e f) }
         ensures time { MatchResult result
-            (λ event. Passes ⟦<MemBoard as Board>⟧ self.old self.new (Either Unchanged (Receives (received event into.new))) (Receives (received event into.new)))
+            (λ event. Passes ⟦<MemBoard as Board>⟧ self.old self.new (Either Unchanged (Receives
+            (received event into.new))) (Receives (received event into.new)))
             (λ _. Passes ⟦<MemBoard as Board>⟧ self.old self.new Unchanged Unchanged) }
-        ensures covers { IfOk result (λ event. MayHaveLeft ⟦<MemBoard as Board>⟧ self.old self.new (Either Unchanged (Receives (received event into.new)))) }
-        ensures moment { ⟦<MemBoard as Board>⟧.moment self.new ≡ after_recv (⟦<MemBoard as Board>⟧.moment self.old) }
+        ensures covers { IfOk result (λ event.
+            MayHaveLeft ⟦<MemBoard as Board>⟧ self.old self.new (Either Unchanged (Receives
+            (received event into.new)))) }
+        ensures moment { ⟦<MemBoard as Board>⟧.moment self.new
+            ≡ after_recv (⟦<MemBoard as Board>⟧.moment self.old) }
         ensures cause { HasCause Fault.Recv (⟦<MemBoard as Board>⟧.faults self.old) (⟦<MemBoard as Board>⟧.faults self.new) result }
         ensures counts { CountsKind Fault.Recv (⟦<MemBoard as Board>⟧.faults self.old) (⟦<MemBoard as Board>⟧.faults self.new) result }
-        ensures fails { IsErr result ↔ IsTrue (is_among (failing_calls self.old) (next_call self.old)) }
-        ensures numbers { (failing_calls self.new ≡ failing_calls self.old) × (next_call self.new ≡ raised (next_call self.old)) }
-        ensures goes_on { ⟦<MemBoard as Board>⟧.tells self.old → (holdings self.old).recorded < 65536 → (⟦<MemBoard as Board>⟧.moment self.old).receptions < 2 ^ 64 - 1 → ⟦<MemBoard as Board>⟧.tells self.new }
-        ensures as_before { ⟦<MemBoard as Board>⟧.words self.new ≡ ⟦<MemBoard as Board>⟧.words self.old }
-        ensures next { IfOk result (λ event. received event into.new ≡ next_event (holdings self.old)) }
-        ensures holdings { holdings self.new ≡ noted (if is_ok result then fed (holdings self.old) else holdings self.old) }
+        ensures fails { IsErr result ↔ IsTrue (is_among (failing_calls self.old) (next_call
+            self.old)) }
+        ensures numbers { (failing_calls self.new ≡ failing_calls self.old) × (next_call self.new
+            ≡ raised (next_call self.old)) }
+        ensures goes_on { ⟦<MemBoard as Board>⟧.tells self.old →
+            (holdings self.old).recorded < 65536 →
+            (⟦<MemBoard as Board>⟧.moment self.old).receptions < 2 ^ 64 - 1 →
+            ⟦<MemBoard as Board>⟧.tells self.new }
+        ensures as_before { ⟦<MemBoard as Board>⟧.words self.new
+            ≡ ⟦<MemBoard as Board>⟧.words self.old }
+        ensures next { IfOk result (λ event. received event into.new
+            ≡ next_event (holdings self.old)) }
+        ensures holdings { holdings self.new ≡ noted (if is_ok result then fed (holdings self.old)
+            else holdings self.old) }
     {
         if fails_now(&self.fails, &mut self.number) {
             self.memory.fail_recv();
@@ -267,22 +337,39 @@ impl Board for MemBoard {
         requires attached { IsSectorSize (⟦<MemBoard as Board>⟧.sector_bytes self.old) }
         requires some { 1 ≤ length bytes.now }
         requires room { length bytes.now ≤ 280 }
-        ensures words { KeepsWords ⟦<MemBoard as Board>⟧.sector_bytes ⟦<MemBoard as Board>⟧.tells ⟦<MemBoard as Board>⟧.words self.old self.new }
-        ensures lists { (e : List Received) (f : List SentFrame) → ⟦<MemBoard as Board>⟧.has_lists self.old e f →
-            MatchResult result (λ _. ⟦<MemBoard as Board>⟧.has_lists self.new e (f ++ sent_frame peer bytes.now ∷ []))
-            (λ _. ⟦<MemBoard as Board>⟧.has_lists self.new e f ⊎ ⟦<MemBoard as Board>⟧.has_lists self.new e (f ++ sent_frame peer bytes.now ∷ [])) }
-        ensures time { Passes ⟦<MemBoard as Board>⟧ self.old self.new (Either Unchanged (Sends (sent_frame peer bytes.now)))
-            (ByResult result (Sends (sent_frame peer bytes.now)) (Either Unchanged (Sends (sent_frame peer bytes.now)))) }
-        ensures covers { MayHaveLeft ⟦<MemBoard as Board>⟧ self.old self.new (Either Unchanged (Sends (sent_frame peer bytes.now))) }
-        ensures moment { ⟦<MemBoard as Board>⟧.moment self.new ≡ after_send (⟦<MemBoard as Board>⟧.moment self.old) }
+        ensures words { KeepsWords ⟦<MemBoard as Board>⟧.sector_bytes ⟦<MemBoard as Board>⟧.tells
+            ⟦<MemBoard as Board>⟧.words self.old self.new }
+        ensures lists { (e : List Received) (f : List SentFrame) →
+            ⟦<MemBoard as Board>⟧.has_lists self.old e f →
+            MatchResult result (λ _. ⟦<MemBoard as Board>⟧.has_lists self.new e (f ++ sent_frame
+            peer bytes.now ∷ []))
+            (λ _. ⟦<MemBoard as Board>⟧.has_lists self.new e f ⊎
+            ⟦<MemBoard as Board>⟧.has_lists self.new e (f ++ sent_frame peer bytes.now ∷ [])) }
+        ensures time { Passes ⟦<MemBoard as Board>⟧ self.old self.new (Either Unchanged (Sends
+            (sent_frame peer bytes.now)))
+            (ByResult result (Sends (sent_frame peer bytes.now)) (Either Unchanged (Sends
+            (sent_frame peer bytes.now)))) }
+        ensures covers { MayHaveLeft ⟦<MemBoard as Board>⟧ self.old self.new (Either Unchanged
+            (Sends (sent_frame peer bytes.now))) }
+        ensures moment { ⟦<MemBoard as Board>⟧.moment self.new
+            ≡ after_send (⟦<MemBoard as Board>⟧.moment self.old) }
         ensures cause { HasCause Fault.Send (⟦<MemBoard as Board>⟧.faults self.old) (⟦<MemBoard as Board>⟧.faults self.new) result }
         ensures counts { CountsKind Fault.Send (⟦<MemBoard as Board>⟧.faults self.old) (⟦<MemBoard as Board>⟧.faults self.new) result }
-        ensures fails { IsErr result ↔ IsTrue (is_among (failing_calls self.old) (next_call self.old)) }
-        ensures numbers { (failing_calls self.new ≡ failing_calls self.old) × (next_call self.new ≡ raised (next_call self.old)) }
-        ensures goes_on { ⟦<MemBoard as Board>⟧.tells self.old → (holdings self.old).recorded < 65536 → (⟦<MemBoard as Board>⟧.moment self.old).sendings < 2 ^ 64 - 1 → ⟦<MemBoard as Board>⟧.tells self.new }
-        ensures as_before { ⟦<MemBoard as Board>⟧.words self.new ≡ ⟦<MemBoard as Board>⟧.words self.old }
-        ensures holdings { holdings self.new ≡ noted (if is_ok result then sent_on (sent_frame peer bytes.now) (holdings self.old) else holdings self.old) }
-        ensures leaves { (e : List Received) (f : List SentFrame) → ⟦<MemBoard as Board>⟧.has_lists self.old e f → OnErr result (⟦<MemBoard as Board>⟧.has_lists self.new e f) }
+        ensures fails { IsErr result ↔ IsTrue (is_among (failing_calls self.old) (next_call
+            self.old)) }
+        ensures numbers { (failing_calls self.new ≡ failing_calls self.old) × (next_call self.new
+            ≡ raised (next_call self.old)) }
+        ensures goes_on { ⟦<MemBoard as Board>⟧.tells self.old →
+            (holdings self.old).recorded < 65536 →
+            (⟦<MemBoard as Board>⟧.moment self.old).sendings < 2 ^ 64 - 1 →
+            ⟦<MemBoard as Board>⟧.tells self.new }
+        ensures as_before { ⟦<MemBoard as Board>⟧.words self.new
+            ≡ ⟦<MemBoard as Board>⟧.words self.old }
+        ensures holdings { holdings self.new ≡ noted (if is_ok result then sent_on (sent_frame peer
+            bytes.now) (holdings self.old) else holdings self.old) }
+        ensures leaves { (e : List Received) (f : List SentFrame) →
+            ⟦<MemBoard as Board>⟧.has_lists self.old e f →
+            OnErr result (⟦<MemBoard as Board>⟧.has_lists self.new e f) }
     {
         if fails_now(&self.fails, &mut self.number) {
             self.memory.fail_send(peer, bytes);

@@ -27,7 +27,8 @@ impl MemSink {
         ensures written { IfOk result (λ sink. ⟦<MemSink as Sink>⟧.written sink ≡ []) }
         ensures room { IfOk result (λ sink. room_of sink ≡ room) }
         ensures faults { IfOk result (λ sink. ⟦<MemSink as Sink>⟧.faults sink ≡ 0) }
-        ensures fails { IfOk result (λ sink. (failing_calls sink ≡ fails.now) × (next_call sink ≡ 0)) }
+        ensures fails { IfOk result (λ sink. (failing_calls sink ≡ fails.now) × (next_call sink
+            ≡ 0)) }
     {
         let kept = Vec::with_capacity(alloc, room as usize)?;
         Ok(MemSink {
@@ -64,16 +65,25 @@ impl Sink for MemSink {
     ghost faults = { λ s. s.faults };
 
     fn write_all(&mut self, from: &[u8]) -> Result<(), Failed>
-        ensures told { ⟦<MemSink as Sink>⟧.tells_written self.new → ⟦<MemSink as Sink>⟧.tells_written self.old }
-        ensures written { ⟦<MemSink as Sink>⟧.tells_written self.new → MatchResult result (λ _. ⟦<MemSink as Sink>⟧.written self.new ≡ ⟦<MemSink as Sink>⟧.written self.old ++ from.now)
-            (λ _. (count : ℕ) × (⟦<MemSink as Sink>⟧.written self.new ≡ ⟦<MemSink as Sink>⟧.written self.old ++ take count from.now)) }
+        ensures told { ⟦<MemSink as Sink>⟧.tells_written self.new →
+            ⟦<MemSink as Sink>⟧.tells_written self.old }
+        ensures written { ⟦<MemSink as Sink>⟧.tells_written self.new → MatchResult result (λ _.
+            ⟦<MemSink as Sink>⟧.written self.new ≡ ⟦<MemSink as Sink>⟧.written self.old ++ from.now)
+            (λ _. (count : ℕ) × (⟦<MemSink as Sink>⟧.written self.new
+            ≡ ⟦<MemSink as Sink>⟧.written self.old ++ take count from.now)) }
         ensures cause { HasOneCause (⟦<MemSink as Sink>⟧.faults self.old) (⟦<MemSink as Sink>⟧.faults self.new) result }
         ensures counts { CountsFault (⟦<MemSink as Sink>⟧.faults self.old) (⟦<MemSink as Sink>⟧.faults self.new) result }
-        ensures fails { IsErr result ↔ IsTrue (is_among (failing_calls self.old) (next_call self.old)) }
-        ensures numbered { (failing_calls self.new ≡ failing_calls self.old) × (next_call self.new ≡ raised (next_call self.old)) }
-        ensures leaves { OnErr result (⟦<MemSink as Sink>⟧.written self.new ≡ ⟦<MemSink as Sink>⟧.written self.old) }
-        ensures goes_on { ⟦<MemSink as Sink>⟧.tells_written self.old → length (⟦<MemSink as Sink>⟧.written self.old) + length from.now ≤ room_of self.old → ⟦<MemSink as Sink>⟧.tells_written self.new }
-        ensures stops { (⟦<MemSink as Sink>⟧.tells_written self.new → ⊥) → ⟦<MemSink as Sink>⟧.written self.new ≡ ⟦<MemSink as Sink>⟧.written self.old }
+        ensures fails { IsErr result ↔ IsTrue (is_among (failing_calls self.old) (next_call
+            self.old)) }
+        ensures numbered { (failing_calls self.new ≡ failing_calls self.old) × (next_call self.new
+            ≡ raised (next_call self.old)) }
+        ensures leaves { OnErr result (⟦<MemSink as Sink>⟧.written self.new
+            ≡ ⟦<MemSink as Sink>⟧.written self.old) }
+        ensures goes_on { ⟦<MemSink as Sink>⟧.tells_written self.old →
+            length (⟦<MemSink as Sink>⟧.written self.old) + length from.now ≤ room_of self.old →
+            ⟦<MemSink as Sink>⟧.tells_written self.new }
+        ensures stops { (⟦<MemSink as Sink>⟧.tells_written self.new → ⊥) →
+            ⟦<MemSink as Sink>⟧.written self.new ≡ ⟦<MemSink as Sink>⟧.written self.old }
         ensures room { room_of self.new ≡ room_of self.old }
     {
         if fails_now(&self.fails, &mut self.number) {

@@ -45,7 +45,8 @@ fn note(calls: &mut Vec<Call>, full: &mut bool, count: u64, call: Call)
     ensures full { full.new ≡ false → full.old ≡ false }
     ensures count { full.new ≡ false → count < 2 ^ 64 - 1 }
     ensures noted { full.new ≡ false → calls.new.items ≡ calls.old.items ++ call ∷ [] }
-    ensures goes_on { full.old ≡ false → length calls.old.items < 65536 → count < 2 ^ 64 - 1 → full.new ≡ false }
+    ensures goes_on { full.old ≡ false → length calls.old.items < 65536 → count < 2 ^ 64 - 1 →
+        full.new ≡ false }
     ensures size { length calls.new.items ≡ min (length calls.old.items + 1) 65536 }
     ensures capacity { vec_capacity calls.old ≤ vec_capacity calls.new }
 {
@@ -62,7 +63,8 @@ fn keep(frames: &mut Vec<Sent>, peer: u8, bytes: &[u8])
     requires room { 4096 ≤ vec_capacity frames.old }
     requires size { length frames.old.items ≤ 4096 }
     requires bytes { length bytes.now ≤ 280 }
-    ensures frames { map frame_of frames.new.items ≡ take 4096 (map frame_of frames.old.items ++ sent_frame peer bytes.now ∷ []) }
+    ensures frames { map frame_of frames.new.items
+        ≡ take 4096 (map frame_of frames.old.items ++ sent_frame peer bytes.now ∷ []) }
     ensures size { length frames.new.items ≤ 4096 }
     ensures capacity { vec_capacity frames.old ≤ vec_capacity frames.new }
 {
@@ -124,10 +126,12 @@ impl Memory {
 
     pub(crate) fn program(&mut self, region: Region, at: usize, word: u16)
         requires { at < length (halfwords_in (words_of self.old.image) region) }
-        ensures changes { MemoryChanges self.old self.new (ProgramMayLeave region at word) (Programs region at word) }
+        ensures changes { MemoryChanges self.old self.new (ProgramMayLeave region at word) (Programs
+            region at word) }
         ensures covers { MemoryCovers self.old self.new (OnWords (ProgramMayLeave region at word)) }
         ensures moment { moment_of self.new.counts ≡ after_program (moment_of self.old.counts) }
-        ensures words { words_of self.new.image ≡ programmed (words_of self.old.image) region at word }
+        ensures words { words_of self.new.image
+            ≡ programmed (words_of self.old.image) region at word }
         ensures holdings { holdings_of self.new ≡ noted (holdings_of self.old) }
         ensures goes_on { GoesOn self.old self.new (moment_of self.old.counts).programs }
     {
@@ -144,7 +148,8 @@ impl Memory {
     }
 
     pub(crate) fn fail_program(&mut self, region: Region, at: usize, word: u16)
-        ensures changes { MemoryChanges self.old self.new (ProgramMayLeave region at word) (ProgramMayLeave region at word) }
+        ensures changes { MemoryChanges self.old self.new (ProgramMayLeave region at word)
+            (ProgramMayLeave region at word) }
         ensures covers { MemoryCovers self.old self.new (OnWords (ProgramMayLeave region at word)) }
         ensures moment { moment_of self.new.counts ≡ after_program (moment_of self.old.counts) }
         ensures words { words_of self.new.image ≡ words_of self.old.image }
@@ -178,7 +183,8 @@ impl Memory {
     }
 
     pub(crate) fn fail_erase(&mut self, region: Region)
-        ensures changes { MemoryChanges self.old self.new (EraseMayLeave region) (EraseMayLeave region) }
+        ensures changes { MemoryChanges self.old self.new (EraseMayLeave region) (EraseMayLeave
+            region) }
         ensures covers { MemoryCovers self.old self.new (OnWords (EraseMayLeave region)) }
         ensures moment { moment_of self.new.counts ≡ after_erase (moment_of self.old.counts) }
         ensures words { words_of self.new.image ≡ half_erased (words_of self.old.image) region }
@@ -234,7 +240,8 @@ impl Memory {
         ensures sends { MemorySends self.old self.new (sent_frame peer bytes.now) true }
         ensures moment { moment_of self.new.counts ≡ after_send (moment_of self.old.counts) }
         ensures words { words_of self.new.image ≡ words_of self.old.image }
-        ensures holdings { holdings_of self.new ≡ noted (sent_on (sent_frame peer bytes.now) (holdings_of self.old)) }
+        ensures holdings { holdings_of self.new
+            ≡ noted (sent_on (sent_frame peer bytes.now) (holdings_of self.old)) }
         ensures goes_on { GoesOn self.old self.new (moment_of self.old.counts).sendings }
     {
         let count = self.counts.sendings;
@@ -280,11 +287,14 @@ impl Memory {
     /// four.
     pub(crate) fn attach(&mut self, make: Option<u32>) -> bool
         requires { ForSome make IsSectorSize }
-        ensures size { OnTrue result (IsSectorSize self.new.sector_bytes × IfSome make (λ size. self.new.sector_bytes ≡ size)) }
+        ensures size { OnTrue result (IsSectorSize self.new.sector_bytes × IfSome make (λ size.
+            self.new.sector_bytes ≡ size)) }
         ensures full { self.new.full ≡ self.old.full }
-        ensures words { OnTrue result (MatchOption make (words_of self.new.image ≡ words_of self.old.image) (λ size. words_of self.new.image ≡ blank size)) }
+        ensures words { OnTrue result (MatchOption make (words_of self.new.image
+            ≡ words_of self.old.image) (λ size. words_of self.new.image ≡ blank size)) }
         ensures anew { OnTrue result (self.new.calls.items ≡ []) }
-        ensures holdings { OnTrue result (holdings_of self.new ≡ begun self.new.sector_bytes (holdings_of self.old)) }
+        ensures holdings { OnTrue result (holdings_of self.new
+            ≡ begun self.new.sector_bytes (holdings_of self.old)) }
         ensures counts { self.new.counts ≡ self.old.counts }
         ensures known { OnTrue result (IsTrue (is_size self.new.size)) }
         ensures fails { (result ≡ false) ↔ ((make ≡ None) × (is_size self.old.size ≡ false)) }

@@ -14,8 +14,10 @@ impl Output {
     /// Keeps a piece, if there is room and there was room for each piece so far.
     pub(crate) fn write(&mut self, from: &[u8])
         ensures told { self.new.told ≡ true → self.old.told ≡ true }
-        ensures kept { self.new.told ≡ true → self.new.kept.items ≡ self.old.kept.items ++ from.now }
-        ensures goes_on { self.old.told ≡ true → length self.old.kept.items + length from.now ≤ self.old.room → self.new.told ≡ true }
+        ensures kept { self.new.told ≡ true → self.new.kept.items
+            ≡ self.old.kept.items ++ from.now }
+        ensures goes_on { self.old.told ≡ true →
+            length self.old.kept.items + length from.now ≤ self.old.room → self.new.told ≡ true }
         ensures stops { self.new.told ≡ false → self.new.kept.items ≡ self.old.kept.items }
         ensures room { self.new.room ≡ self.old.room }
     {

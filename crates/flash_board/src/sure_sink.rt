@@ -58,13 +58,20 @@ impl Sink for SureSink {
     ghost faults = { λ _. 0 };
 
     fn write_all(&mut self, from: &[u8]) -> Result<(), Failed>
-        ensures told { ⟦<SureSink as Sink>⟧.tells_written self.new → ⟦<SureSink as Sink>⟧.tells_written self.old }
-        ensures written { ⟦<SureSink as Sink>⟧.tells_written self.new → MatchResult result (λ _. ⟦<SureSink as Sink>⟧.written self.new ≡ ⟦<SureSink as Sink>⟧.written self.old ++ from.now)
-            (λ _. (count : ℕ) × (⟦<SureSink as Sink>⟧.written self.new ≡ ⟦<SureSink as Sink>⟧.written self.old ++ take count from.now)) }
+        ensures told { ⟦<SureSink as Sink>⟧.tells_written self.new →
+            ⟦<SureSink as Sink>⟧.tells_written self.old }
+        ensures written { ⟦<SureSink as Sink>⟧.tells_written self.new → MatchResult result (λ _.
+            ⟦<SureSink as Sink>⟧.written self.new
+            ≡ ⟦<SureSink as Sink>⟧.written self.old ++ from.now)
+            (λ _. (count : ℕ) × (⟦<SureSink as Sink>⟧.written self.new
+            ≡ ⟦<SureSink as Sink>⟧.written self.old ++ take count from.now)) }
         ensures cause { HasOneCause (⟦<SureSink as Sink>⟧.faults self.old) (⟦<SureSink as Sink>⟧.faults self.new) result }
         ensures sure { IsOk result }
-        ensures goes_on { ⟦<SureSink as Sink>⟧.tells_written self.old → length (⟦<SureSink as Sink>⟧.written self.old) + length from.now ≤ room_of self.old → ⟦<SureSink as Sink>⟧.tells_written self.new }
-        ensures stops { (⟦<SureSink as Sink>⟧.tells_written self.new → ⊥) → ⟦<SureSink as Sink>⟧.written self.new ≡ ⟦<SureSink as Sink>⟧.written self.old }
+        ensures goes_on { ⟦<SureSink as Sink>⟧.tells_written self.old →
+            length (⟦<SureSink as Sink>⟧.written self.old) + length from.now ≤ room_of self.old →
+            ⟦<SureSink as Sink>⟧.tells_written self.new }
+        ensures stops { (⟦<SureSink as Sink>⟧.tells_written self.new → ⊥) →
+            ⟦<SureSink as Sink>⟧.written self.new ≡ ⟦<SureSink as Sink>⟧.written self.old }
         ensures room { room_of self.new ≡ room_of self.old }
     {
         self.output.write(from);

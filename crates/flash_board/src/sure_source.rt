@@ -17,7 +17,8 @@ impl SureSource {
 
     /// A source of these bytes.
     pub fn new(alloc: Global, bytes: &[u8]) -> Result<SureSource, AllocError>
-        ensures told { IfOk result (λ source. ⟦<SureSource as Source>⟧.tells_given source × ⟦<SureSource as Source>⟧.tells_rest source) }
+        ensures told { IfOk result (λ source. ⟦<SureSource as Source>⟧.tells_given source ×
+            ⟦<SureSource as Source>⟧.tells_rest source) }
         ensures given { IfOk result (λ source. ⟦<SureSource as Source>⟧.given source ≡ []) }
         ensures rest { IfOk result (λ source. ⟦<SureSource as Source>⟧.rest source ≡ bytes.now) }
         ensures faults { IfOk result (λ source. ⟦<SureSource as Source>⟧.faults source ≡ 0) }
@@ -53,14 +54,24 @@ impl Source for SureSource {
 
     fn read(&mut self, into: &mut [u8]) -> Result<usize, Failed>
         ensures within { IfOk result (λ count. count ≤ length into.new) }
-        ensures told_given { ⟦<SureSource as Source>⟧.tells_given self.new → ⟦<SureSource as Source>⟧.tells_given self.old }
-        ensures told_rest { ⟦<SureSource as Source>⟧.tells_rest self.new → ⟦<SureSource as Source>⟧.tells_rest self.old }
-        ensures given { ⟦<SureSource as Source>⟧.tells_given self.new → MatchResult result (λ count. ⟦<SureSource as Source>⟧.given self.new ≡ ⟦<SureSource as Source>⟧.given self.old ++ take count into.new) (λ _. ⟦<SureSource as Source>⟧.given self.new ≡ ⟦<SureSource as Source>⟧.given self.old) }
-        ensures rest { ⟦<SureSource as Source>⟧.tells_rest self.new → MatchResult result (λ count. ⟦<SureSource as Source>⟧.rest self.old ≡ take count into.new ++ ⟦<SureSource as Source>⟧.rest self.new) (λ _. ⟦<SureSource as Source>⟧.rest self.new ≡ ⟦<SureSource as Source>⟧.rest self.old) }
-        ensures end { ⟦<SureSource as Source>⟧.tells_rest self.new → IfOk result (λ count. count ≡ 0 → length into.new ≢ 0 → ⟦<SureSource as Source>⟧.rest self.old ≡ []) }
+        ensures told_given { ⟦<SureSource as Source>⟧.tells_given self.new →
+            ⟦<SureSource as Source>⟧.tells_given self.old }
+        ensures told_rest { ⟦<SureSource as Source>⟧.tells_rest self.new →
+            ⟦<SureSource as Source>⟧.tells_rest self.old }
+        ensures given { ⟦<SureSource as Source>⟧.tells_given self.new → MatchResult result (λ count.
+            ⟦<SureSource as Source>⟧.given self.new
+            ≡ ⟦<SureSource as Source>⟧.given self.old ++ take count into.new) (λ _.
+            ⟦<SureSource as Source>⟧.given self.new ≡ ⟦<SureSource as Source>⟧.given self.old) }
+        ensures rest { ⟦<SureSource as Source>⟧.tells_rest self.new → MatchResult result (λ count.
+            ⟦<SureSource as Source>⟧.rest self.old
+            ≡ take count into.new ++ ⟦<SureSource as Source>⟧.rest self.new) (λ _.
+            ⟦<SureSource as Source>⟧.rest self.new ≡ ⟦<SureSource as Source>⟧.rest self.old) }
+        ensures end { ⟦<SureSource as Source>⟧.tells_rest self.new → IfOk result (λ count. count
+            ≡ 0 → length into.new ≢ 0 → ⟦<SureSource as Source>⟧.rest self.old ≡ []) }
         ensures cause { HasOneCause (⟦<SureSource as Source>⟧.faults self.old) (⟦<SureSource as Source>⟧.faults self.new) result }
         ensures sure { IsOk result }
-        ensures count { IfOk result (λ count. count ≡ min (length into.old) (length (⟦<SureSource as Source>⟧.rest self.old))) }
+        ensures count { IfOk result (λ count. count
+            ≡ min (length into.old) (length (⟦<SureSource as Source>⟧.rest self.old))) }
     {
         Ok(self.input.read(into))
     }
