@@ -6,14 +6,17 @@ use Rattle.mav_messages.specs.declared.messages.Message.{Message}
 use Rattle.mav_messages.specs.declared.messages.Message.TheVariants.{Heartbeat}
 use Rattle.mav_messages.specs.declared.messages.Reply.{Reply}
 use Rattle.storage_lines.specs.declared.lines.LineWrite.{LineWrite}
-use Rattle.vehicle_core.specs.Vehicle.{Vehicle, Content, Parameter, Alive, Told}
+use Rattle.mission_service.specs.Replies as missions
+use Rattle.vehicle_core.specs.Vehicle.{Vehicle, Content, Parameter, Alive, OfMissions, Told}
 use Rattle.vehicle_core.specs.Acts.{Did}
 
--- The message says this: a PARAM_VALUE; or the HEARTBEAT of a quadrotor (type 2) with ArduPilot
--- (3), not armed (base mode 1, system status 3), in MAVLink version 3.
+-- The message says this: a PARAM_VALUE; the HEARTBEAT of a quadrotor (type 2) with ArduPilot (3),
+-- not armed (base mode 1, system status 3), in MAVLink version 3; or a message of the mission
+-- protocol.
 abbrev pub Tells : Content → Message → Type 0
 Tells (Parameter index value) message = ShowsValue index value message
 Tells Alive message = message ≡ Heartbeat 0 2 3 1 3 3
+Tells (OfMissions told) message = missions.Tells told message
 
 -- a reply to the same that says this
 abbrev pub IsReplyOf : Told → Reply → Type 0

@@ -4,9 +4,13 @@ use Rattle.std.specs.Option.{option_map_or}
 use Rattle.param_records.specs.declared.values.Value.{Value}
 use Rattle.param_service.specs.Requests as parameters
 use Rattle.param_service.specs.Service.{Shown, no_lists}
-use Rattle.storage_lines.specs.declared.lines.LineWrite.{LineWrite}
 use Rattle.mav_messages.specs.declared.messages.To.{To}
+use Rattle.mav_messages.specs.declared.messages.To.TheVariants.{Station}
 use Rattle.mav_messages.specs.declared.messages.Message.{Message}
+use Rattle.mission_service.specs.Uploads as uploads
+use Rattle.mission_service.specs.Uploads.{Target}
+use Rattle.mission_service.specs.Requests as missions
+use Rattle.mission_service.specs.Service as service
 
 -- whether the station was heard, and whether its last right frame was of version 2
 pub record StationState : Type 0 where
@@ -16,14 +20,20 @@ pub record StationState : Type 0 where
 abbrev pub unheard : StationState
 unheard = record { heard = false; v2 = false }
 
--- eight stations, and for each the next row of the list that is being sent to it
+-- Eight stations; for each the next row of the list that is being sent to it; and the uploads of
+-- missions and fences.
 pub record Vehicle : Type 0 where
   pub stations : List StationState
   pub next_rows : List ℕ
+  pub missions : uploads.Missions
 
 -- at the start no station was heard
 abbrev pub new_vehicle : Vehicle
-new_vehicle = record { stations = replicate 8 unheard; next_rows = no_lists }
+new_vehicle = record {
+  stations = replicate 8 unheard;
+  next_rows = no_lists;
+  missions = uploads.no_uploads;
+}
 
 abbrev pub is_heard : Vehicle → ℕ → Bool
 is_heard vehicle station = option_map_or (λ s. s.heard) (slice_get vehicle.stations station) false
@@ -37,19 +47,29 @@ hears vehicle station v2 = record vehicle {
   stations = slice_set vehicle.stations station (record { heard = true; v2 = v2 });
 }
 
--- What a message asks of the vehicle. The requests of each protocol are a case.
+-- What a message asks of the vehicle. The requests of each protocol are a case. To the answers of
+-- the mission protocol belongs whom they are sent to: the sender of the message.
 pub data Asked : Type 0 where
   Parameters : (request : parameters.Request) → Asked
+  Missions : (target : Target) (asking : missions.Asking) → Asked
 
--- what the message asks for, or nothing
-abbrev pub Asks : Message → Option Asked → Type 0
-Asks message asked = (request : Option parameters.Request) × parameters.Asks message request
-    × (asked ≡ option_map Parameters request)
+-- the one that is there
+abbrev pub one_of : Option Asked → Option Asked → Option Asked
+one_of (Some asked) other = Some asked
+one_of None other = other
 
--- what the vehicle tells: a parameter's value, or that it is there
+-- what a message of this sender asks for, or nothing
+abbrev pub Asks : Target → Message → Option Asked → Type 0
+Asks sender message asked =
+    (request : Option parameters.Request) × parameters.Asks message request
+    × (asking : Option missions.Asking) × missions.Asks message asking
+    × (asked ≡ one_of (option_map Parameters request) (option_map (Missions sender) asking))
+
+-- what the vehicle tells: a parameter's value; that it is there; or something of the missions
 pub data Content : Type 0 where
   Parameter : (index : ℕ) (value : Value) → Content
   Alive : Content
+  OfMissions : (told : service.Told) → Content
 
 -- a content, and whom it is told
 pub record Told : Type 0 where
@@ -58,3 +78,6 @@ pub record Told : Type 0 where
 
 abbrev pub tells_value : Shown → Told
 tells_value shown = record { to = shown.to; content = Parameter shown.index shown.value }
+
+abbrev pub tells_of_missions : ℕ → service.Told → Told
+tells_of_missions station told = record { to = Station station; content = OfMissions told }

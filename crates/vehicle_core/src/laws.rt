@@ -3,13 +3,16 @@
 
 ghost use Rattle.std.specs.Prelude.{◌≡◌, Option};
 ghost use Rattle.mav_messages.specs.declared.messages.Message.{Message};
+ghost use Rattle.mission_service.specs.Uploads.{Target};
 ghost use Rattle.vehicle_core.specs.Vehicle.{Asked, Asks};
 
-/// A message asks for one thing, or nothing.
+/// A message of a sender asks for one thing, or nothing.
 pub fn asks_one_thing()
-    ensures asks { (message : Message) → (asked : Option Asked) × Asks message asked }
-    ensures one { (message : Message) (a b : Option Asked) → Asks message a → Asks message b →
-        a ≡ b }
+    ensures asks { (sender : Target) (message : Message) →
+        (asked : Option Asked) × Asks sender message asked }
+    ensures one { (sender : Target) (message : Message) (a b : Option Asked) →
+        Asks sender message a → Asks sender message b → a ≡ b }
 {
     param_service::asks_one_thing();
+    mission_service::asks_one_thing();
 }

@@ -1,11 +1,14 @@
 //! The vehicle machine without its storage and its link: one message, one idle turn, one stretch of
-//! a list.
+//! a list. Each protocol is a service of its own below.
 #![tactic(auto)]
 
-ghost use Rattle.std.specs.Prelude.{◌≡◌, ◌<◌, ◌≤◌, [], All, length, take, List, ℕ, Option, IsFalse};
-ghost use Rattle.storage_lines.specs.declared.lines.TheConstants.{STORAGE_BYTES, LINES};
+ghost use Rattle.std.specs.Prelude.{◌≡◌, ◌<◌, ◌≤◌, [], All, length, take, List, ℕ, true, false, Option, None, IsFalse};
+ghost use Rattle.storage_lines.specs.declared.lines.TheConstants.{STORAGE_BYTES, LINES, BATCH_LINES};
 ghost use Rattle.storage_lines.specs.Lines.{after};
 ghost use Rattle.param_records.specs.Steps.{HasMagic};
+ghost use Rattle.param_service.specs.Requests as parameters;
+ghost use Rattle.mission_service.specs.Requests as missions;
+ghost use Rattle.mission_service.specs.Replies.{target_of};
 ghost use Rattle.vehicle_core.specs.Vehicle.{Asked, Asks, Alive, new_vehicle, is_heard, speaks_v2};
 ghost use Rattle.vehicle_core.specs.Acts.{Said, Beat, Stream, heard_as, nothing, did};
 ghost use Rattle.vehicle_core.specs.Replies.{AreRepliesOf, IsAnswered, Tells};
@@ -14,7 +17,8 @@ mod laws;
 
 pub use laws::asks_one_thing;
 use mav_messages::{Message, Replies, Reply, Sender, To};
-use param_service::{ParamState, answer, stream};
+use mission_service::MissionState;
+use param_service::{ParamState, stream};
 use std::marker::Model;
 use storage_lines::Batch;
 
@@ -25,21 +29,22 @@ struct StationState {
     v2: bool,
 }
 
-/// The vehicle's state: its eight stations, and the lists that are being sent.
+/// The vehicle's state: its eight stations, the lists that are being sent, and the uploads.
 #[derive(Drop)]
 pub struct Core {
     stations: [StationState; 8],
     parameters: ParamState,
+    missions: MissionState,
 }
 
 impl Model for Core {
     ghost use Rattle.std.specs.Prelude.{◌≡◌, length};
     ghost use Rattle.vehicle_core.specs.Vehicle.{Vehicle};
-    ghost use Rattle.vehicle_core.specs.Inside.{stations_of};
+    ghost use Rattle.vehicle_core.specs.Inside.{view_of};
 
     ghost Value = { Vehicle };
 
-    ghost view = { λ core. record { stations = stations_of core.stations; next_rows = core.parameters } };
+    ghost view = { λ core. view_of core.stations core.parameters core.missions };
 
     ghost invariant = { λ core. length core.stations ≡ 8 };
 }
@@ -60,6 +65,19 @@ fn heartbeat() -> Message
     }
 }
 
+/// Whether a message is one of those that ask the parameter protocol for something.
+fn asks_parameters(message: &Message) -> bool
+    ensures parameters { result ≡ false → parameters.Asks message.now None }
+    ensures missions { result ≡ true → missions.Asks message.now None }
+{
+    match message {
+        Message::ParamRequestRead { .. }
+        | Message::ParamRequestList { .. }
+        | Message::ParamSet { .. } => true,
+        _ => false,
+    }
+}
+
 impl Core {
     /// No station was heard.
     pub fn new() -> Core
@@ -72,6 +90,7 @@ impl Core {
         Core {
             stations: [unheard; 8],
             parameters: ParamState::new(),
+            missions: MissionState::new(),
         }
     }
 
@@ -90,31 +109,53 @@ impl Core {
         requires station { from.station < 8 }
         requires batch { batch.old.items ≡ [] }
         requires replies { replies.old.items ≡ [] }
-        ensures answered { (asked : Option Asked) × Asks message.now asked × IsAnswered
-            (did current.now self.old (Said from.station (heard_as v2 asked)))
+        ensures answered { (asked : Option Asked) × Asks (target_of from) message.now asked ×
+            IsAnswered (did current.now self.old (Said from.station (heard_as v2 asked)))
             self.new batch.new.items replies.new.items }
         ensures inside { All (λ write. write.line < LINES) batch.new.items }
-        ensures few { length batch.new.items ≤ 8 }
+        ensures few { length batch.new.items ≤ BATCH_LINES }
         ensures magic { HasMagic current.now → (j : ℕ) →
             HasMagic (after current.now (take j batch.new.items)) }
     {
         self.stations[from.station as usize] = StationState { heard: true, v2 };
-        answer(&mut self.parameters, current, from, message, batch, replies);
+        if asks_parameters(message) {
+            param_service::answer(
+                &mut self.parameters,
+                current,
+                from,
+                message,
+                batch,
+                replies,
+            );
+        } else {
+            mission_service::answer(
+                &mut self.missions,
+                current,
+                None,
+                from,
+                message,
+                batch,
+                replies,
+            );
+        }
     }
 
-    /// What an idle turn tells a station: that the vehicle is there, where the station was heard.
+    /// What an idle turn tells a station, where it was heard: that the vehicle is there, and which
+    /// item of each of its open uploads is the next.
     pub fn idle(&mut self, station: u8, replies: &mut Replies)
         requires station { station < 8 }
         requires replies { replies.old.items ≡ [] }
-        ensures same { self.new ≡ self.old }
+        ensures next { self.new ≡ (did [] self.old (Beat station)).vehicle }
         ensures told { AreRepliesOf (did [] self.old (Beat station)).told replies.new.items }
     {
-        if self.heard(station) {
-            replies.push(Reply {
-                to: To::Station(station),
-                message: heartbeat(),
-            });
+        if !self.heard(station) {
+            return;
         }
+        replies.push(Reply {
+            to: To::Station(station),
+            message: heartbeat(),
+        });
+        mission_service::idle(&mut self.missions, station, replies);
     }
 
     /// The next values of the list that is being sent to a station.

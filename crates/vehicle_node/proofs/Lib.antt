@@ -14,3 +14,4 @@ pub mod FramesSent
 pub mod RepliesSent
 pub mod ActAnswers
 pub mod StationsTold
+pub mod Senders

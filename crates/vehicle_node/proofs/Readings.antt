@@ -9,9 +9,10 @@ use Rattle.mav_frames.specs.Cut.{Piece, Skipped, Whole, Cut, frames_in}
 use Rattle.mav_frames.specs.Frames.{IsMessageOf, is_v2}
 use Rattle.mav_messages.specs.declared.messages.Message.{Message}
 use Rattle.mav_messages.specs.Messages.{FitsTypes}
+use Rattle.mission_service.specs.Uploads.{Target}
 use Rattle.vehicle_core.specs.Vehicle.{Asked, Asks}
 use Rattle.vehicle_core.specs.Acts.{Act, heard_as, Said}
-use Rattle.vehicle_node.specs.Reading.{no_rests, IsSilent, AreSaid, streams, beats, IsEvent, Reads}
+use Rattle.vehicle_node.specs.Reading.{no_rests, sender_in, IsSilent, AreSaid, streams, beats, IsEvent, Reads}
 use Rattle.vehicle_node.specs.Steps.Hearing.{IsHeard}
 use Rattle.vehicle_node.specs.Laws.{FramesAreRead, IsInRange, EventsAreRead, EventsAreReadOnce}
 use Rattle.vehicle_node.proofs.LawsBelow.{cut_any, cut_once, cut_more}
@@ -198,13 +199,13 @@ reads_long (e ∷ es) old new events a = omega (arith, ap length a.5, reads_long
 pub frames_are_read :
     ((bytes : List ℕ) → ((message : Message) × FitsTypes message × IsMessageOf bytes message) ⊎ IsSilent bytes)
     → ((bytes : List ℕ) (m n : Message) → FitsTypes m → FitsTypes n → IsMessageOf bytes m → IsMessageOf bytes n → m ≡ n)
-    → ((message : Message) → (asked : Option Asked) × Asks message asked)
-    → ((message : Message) (a b : Option Asked) → Asks message a → Asks message b → a ≡ b)
+    → ((sender : Target) (message : Message) → (asked : Option Asked) × Asks sender message asked)
+    → ((sender : Target) (message : Message) (a b : Option Asked) → Asks sender message a → Asks sender message b → a ≡ b)
     → FramesAreRead
 frames_are_read any one asks asks_one = record {
   any = λ bytes. elim (any bytes) [
-    | inl m ↦ inr ((asks m.0).0, record { message = m.0; is = m.2; fits = m.1; asks = (asks m.0).1 })
+    | inl m ↦ (let found = asks (sender_in bytes) m.0 in inr (found.0, record { message = m.0; is = m.2; fits = m.1; asks = found.1 }))
     | inr silent ↦ inl silent
   ];
-  one = λ bytes a b p q. asks_one p.message a b p.asks (subst (λ (m : Message). Asks m b) (one bytes q.message p.message q.fits p.fits q.is p.is) q.asks);
+  one = λ bytes a b p q. asks_one (sender_in bytes) p.message a b p.asks (subst (λ (m : Message). Asks (sender_in bytes) m b) (one bytes q.message p.message q.fits p.fits q.is p.is) q.asks);
 }

@@ -14,8 +14,9 @@ use Rattle.mav_messages.specs.declared.messages.To.{To}
 use Rattle.mav_messages.specs.declared.messages.To.TheVariants.{Station}
 use Rattle.mav_messages.specs.declared.messages.To.TheVariants as to
 use Rattle.mav_messages.specs.declared.messages.Reply.{Reply}
-use Rattle.vehicle_core.specs.Vehicle.{Vehicle, Asked, Parameters, Told, Alive, tells_value, is_heard, hears}
-use Rattle.vehicle_core.specs.Acts.{Act, Said, Beat, Stream, did, nothing, by_parameters, asked_of}
+use Rattle.mission_service.specs.Service as missions
+use Rattle.vehicle_core.specs.Vehicle.{Vehicle, Asked, Parameters, Missions, Told, tells_value, tells_of_missions, is_heard, hears}
+use Rattle.vehicle_core.specs.Acts.{Act, Did, Said, Beat, Stream, did, nothing, by_parameters, beaten, asked_of}
 use Rattle.vehicle_core.specs.Replies.{AreRepliesOf}
 use Rattle.vehicle_node.specs.Steps.Sending.{IsInside}
 
@@ -50,15 +51,24 @@ answer_told bytes next_rows station (Show index) lt = row_told (Station station)
 answer_told bytes next_rows station ShowAll lt = tt
 answer_told bytes next_rows station (Set index number) lt = row_told to.All (after bytes (set_writes bytes index number)) index (slice_get vehicle_rows index) tt
 
+missions_told : (station : ℕ) (told : List missions.Told) → station < 8 → AreTold (map (tells_of_missions station) told)
+missions_told station [] lt = tt
+missions_told station (t ∷ told) lt = (lt, missions_told station told lt)
+
 asked_told : (bytes : List ℕ) (vehicle : Vehicle) (station : ℕ) (asked : Option Asked) → station < 8 → AreTold (asked_of bytes vehicle station asked).told
 asked_told bytes vehicle station None lt = tt
 asked_told bytes vehicle station (Some (Parameters request)) lt = answer_told bytes vehicle.next_rows station request lt
+asked_told bytes vehicle station (Some (Missions sender asking)) lt =
+    missions_told station (missions.did bytes None vehicle.missions station sender (Some asking)).told lt
 
 pub act_told : (bytes : List ℕ) (vehicle : Vehicle) (p : Act) → station_of p < 8 → AreTold (did bytes vehicle p).told
 unfolding did
 act_told bytes vehicle (Said station heard) lt = asked_told bytes (hears vehicle station heard.v2) station heard.asked lt
 act_told bytes vehicle (Beat station) lt =
-    elim (is_heard vehicle station) as (λ b. AreTold (if b then (let t : Told = record { to = Station station; content = Alive } in t ∷ []) else [])) [ true ↦ (lt, tt) | false ↦ tt ]
+    elim (is_heard vehicle station) as (λ b. AreTold (if b then beaten vehicle station (missions.idle vehicle.missions station) else nothing vehicle).told) [
+      | true ↦ (lt, missions_told station (missions.idle vehicle.missions station).told lt)
+      | false ↦ tt
+    ]
 act_told bytes vehicle (Stream station) lt =
     elim (is_heard vehicle station) as (λ b. AreTold (if b then by_parameters vehicle (streamed bytes vehicle.next_rows station) else nothing vehicle).told) [
       | true ↦ rows_told (Station station) bytes (streamed_rows vehicle.next_rows station) lt
@@ -78,3 +88,14 @@ pub stream_writes : (bytes : List ℕ) (vehicle : Vehicle) (station : ℕ) → (
 unfolding did
 stream_writes bytes vehicle station =
     elim (is_heard vehicle station) as (λ b. (if b then by_parameters vehicle (streamed bytes vehicle.next_rows station) else nothing vehicle).writes ≡ []) [ true ↦ refl | false ↦ refl ]
+
+-- nor does an idle turn
+pub beat_writes : (bytes : List ℕ) (vehicle : Vehicle) (station : ℕ) → (did bytes vehicle (Beat station)).writes ≡ []
+unfolding did
+beat_writes bytes vehicle station =
+    elim (is_heard vehicle station) as (λ b. (if b then beaten vehicle station (missions.idle vehicle.missions station) else nothing vehicle).writes ≡ []) [ true ↦ refl | false ↦ refl ]
+
+-- and what is done then depends on no storage byte
+pub beat_anywhere : (bytes : List ℕ) (vehicle : Vehicle) (station : ℕ) → did [] vehicle (Beat station) ≡ did bytes vehicle (Beat station)
+unfolding did
+beat_anywhere bytes vehicle station = refl

@@ -1,11 +1,12 @@
 -- How events are read: the bytes of each station are one stream, whatever the borders of its
 -- datagrams, and each right frame in it has a message.
-use Rattle.std.specs.Prelude.{◌≡◌, ◌⊎◌, ℕ, List, [], ◌∷◌, ◌++◌, map, replicate, Option, Some, slice_get, slice_set}
+use Rattle.std.specs.Prelude.{◌≡◌, ◌⊎◌, ℕ, ◌+◌, List, [], ◌∷◌, ◌++◌, map, replicate, Option, Some, slice_get, slice_index, slice_set}
 use Rattle.flash_traits.specs.Losses.{Received, Datagram, Idle, End}
 use Rattle.mav_messages.specs.declared.messages.Message.{Message}
 use Rattle.mav_messages.specs.Messages.{FitsTypes}
 use Rattle.mav_frames.specs.Cut.{Piece, Cut, frames_in}
-use Rattle.mav_frames.specs.Frames.{IsMessageOf, is_v2}
+use Rattle.mav_frames.specs.Frames.{IsMessageOf, is_v2, sequence_place}
+use Rattle.mission_service.specs.Uploads.{Target}
 use Rattle.vehicle_core.specs.Vehicle.{Asked, Asks}
 use Rattle.vehicle_core.specs.Acts.{Act, heard_as, Said, Beat, Stream}
 use Rattle.vehicle_node.specs.Frames.{stations}
@@ -18,12 +19,19 @@ no_rests = replicate 8 []
 abbrev pub IsSilent : List ℕ → Type 0
 IsSilent bytes = (message : Message) → FitsTypes message → IsMessageOf bytes message → ⊥
 
+-- the system and the component that a frame says it is from
+abbrev pub sender_in : List ℕ → Target
+sender_in bytes = record {
+  system = slice_index bytes (sequence_place (is_v2 bytes) + 1);
+  component = slice_index bytes (sequence_place (is_v2 bytes) + 2);
+}
+
 -- The frame's message asks for this.
 pub record Says (bytes : List ℕ) (asked : Option Asked) : Type 0 where
   pub message : Message
   pub is : IsMessageOf bytes message
   pub fits : FitsTypes message
-  pub asks : Asks message asked
+  pub asks : Asks (sender_in bytes) message asked
 
 -- what a station says by these frames, in order
 abbrev pub AreSaid : ℕ → List (List ℕ) → List Act → Type 0
@@ -37,7 +45,8 @@ AreSaid station (bytes ∷ frames) acts =
 abbrev pub streams : List Act
 streams = map Stream stations
 
--- at an idle turn each station is told that the vehicle is there
+-- at an idle turn each station is told that the vehicle is there, and asked for the next items of
+-- its uploads
 abbrev pub beats : List Act
 beats = map Beat stations
 

@@ -5,6 +5,7 @@ ghost use Rattle.storage_lines.specs.declared.lines.TheConstants.{BATCH_LINES};
 ghost use Rattle.mav_frames.specs.Cut.{IsFrame};
 ghost use Rattle.mav_frames.specs.Frames.{IsReadFrom};
 ghost use Rattle.dirty_lines.specs.Lines.{AreInside};
+ghost use Rattle.mission_service.specs.Replies.{target_of};
 ghost use Rattle.vehicle_core.specs.Vehicle.{Asked, Asks, Told};
 ghost use Rattle.vehicle_core.specs.Acts.{Beat, Said, Stream, heard_as};
 ghost use Rattle.vehicle_core.specs.Replies.{AreRepliesOf};
@@ -55,7 +56,7 @@ impl Node {
     ) -> Result<(), NodeError>
         requires fits { Fits B.Board board.old self.old }
         requires station { from.station < STATIONS }
-        ensures done { (asked : Option Asked) × Asks message.now asked ×
+        ensures done { (asked : Option Asked) × Asks (target_of from) message.now asked ×
             ActDone B.Board self.old board.old (Said from.station (heard_as v2 asked))
             result self.new board.new }
         ensures keeps { Keeps B.Board OfAnswer self.old board.old result self.new board.new }
@@ -123,7 +124,8 @@ impl Node {
         self.answer_message(board, from, heading.v2, &message)
     }
 
-    /// Tells a station that was heard that the vehicle is there.
+    /// Tells a station that was heard that the vehicle is there, and which items of its uploads are
+    /// next.
     pub(crate) fn beat<B: Board>(&mut self, board: &mut B, station: u8) -> Result<(), NodeError>
         requires fits { Fits B.Board board.old self.old }
         requires station { station < STATIONS }

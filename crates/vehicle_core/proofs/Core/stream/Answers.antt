@@ -8,12 +8,12 @@ use Rattle.vehicle_core.proofs.Core.stream.Goals as goal
 
 pub returns-clause-next : goal.returns-clause-next
 returns-clause-next c =
-    let all = streams c.args.current.now c.self.inside.stations c.self.inside.parameters c.stream.new.state c.args.self.now c.args.station c.stream.new.replies.items c.self.view_is (sym c.heard.ensures ∙ c.if-not-heard.false) c.stream.ensures.next c.stream.ensures.shown in
-    all.vehicle
+    let all = streams c.args.current.now c.self.inside.stations c.self.inside.parameters c.stream.new.state c.self.inside.missions c.args.self.now c.args.station c.stream.new.replies.items c.self.view_is (sym c.heard.ensures ∙ c.if-not-heard.false) c.stream.ensures.next c.stream.ensures.shown in
+    all.vehicle_is
 
 pub returns-clause-told : goal.returns-clause-told
 returns-clause-told c =
-    let all = streams c.args.current.now c.self.inside.stations c.self.inside.parameters c.stream.new.state c.args.self.now c.args.station c.stream.new.replies.items c.self.view_is (sym c.heard.ensures ∙ c.if-not-heard.false) c.stream.ensures.next c.stream.ensures.shown in
+    let all = streams c.args.current.now c.self.inside.stations c.self.inside.parameters c.stream.new.state c.self.inside.missions c.args.self.now c.args.station c.stream.new.replies.items c.self.view_is (sym c.heard.ensures ∙ c.if-not-heard.false) c.stream.ensures.next c.stream.ensures.shown in
     all.told
 
 pub returns-then-not-heard-clause-next : goal.returns-then-not-heard-clause-next

@@ -7,4 +7,4 @@ returns-then-not-heard c = λ no bytes. did-no_stream bytes c.args.self.now c.ar
 
 pub returns : goal.returns
 returns c = λ no bytes.
-    no_list bytes c.self.inside.stations c.self.inside.parameters c.args.self.now c.args.station c.self.view_is (sym c.heard-heard.ensures ∙ c.if-not-heard.false) (c.streams.ensures.idle no bytes)
+    no_list bytes c.self.inside.stations c.self.inside.parameters c.self.inside.missions c.args.self.now c.args.station c.self.view_is (sym c.heard-heard.ensures ∙ c.if-not-heard.false) (c.streams.ensures.idle no bytes)
