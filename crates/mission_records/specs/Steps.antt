@@ -19,7 +19,7 @@ use Rattle.mission_records.specs.Mission.{version, total_row, mission_area, miss
 -- storage bytes whose parameters are formatted
 pub record IsFormatted (bytes : List ℕ) : Type 0 where
   pub size : length bytes ≡ STORAGE_BYTES
-  pub bytes : IsBytes (logical_of Param bytes)
+  pub params : IsBytes (logical_of Param bytes)
   pub magic : HasMagic bytes
 
 -- a record of MIS_TOTAL is there, and both bytes of its value lie in one line
