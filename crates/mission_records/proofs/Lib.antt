@@ -5,3 +5,4 @@ pub mod Totals
 pub mod Puts
 pub mod ReadLemmas
 pub mod Touched
+pub mod Setting
