@@ -1,11 +1,11 @@
 -- Setting MIS_TOTAL by the rows of the table, and what the calls append.
 use Rattle.std.proofs.Common.{◌≡◌, ℕ, ◌+◌, ◌<◌, ◌≤◌, List, [], ◌∷◌, ◌++◌, length, drop, take, refl, sym, ◌∙◌, ap, subst, arith, Some}
-use Rattle.std.specs.Prelude.{All, slice_get, IfSome, OnOk, IsErr, Result, ◌↔◌, ℤ, pos}
+use Rattle.std.specs.Prelude.{All, slice_get, IfSome, OnOk, IfErr, IsErr, Result, ◌↔◌, ℤ, pos}
 use mir.Val.{to_z, of_z}
 use Rattle.std.specs.Int.{w32}
 use Rattle.std.proofs.Math.Facts.{to_z-of_z}
 use Rattle.std.proofs.lemmas.Int.{ints}
-use Rattle.std.proofs.lemmas.List.{drop_at}
+use Rattle.std.proofs.lemmas.List.{drop_at, append_assoc}
 use Rattle.storage_lines.specs.declared.lines.LineWrite.{LineWrite}
 use Rattle.storage_lines.specs.declared.lines.TheConstants.{STORAGE_BYTES}
 use Rattle.storage_lines.specs.declared.areas.Area.TheVariants.{Param, Mission}
@@ -16,15 +16,19 @@ use Rattle.storage_lines.proofs.LineLemmas.{length-after, after-append}
 use Rattle.param_tree.specs.declared.Var.{Var}
 use Rattle.param_tree.specs.Rows.{vehicle_rows}
 use Rattle.param_records.specs.declared.setting.SetError.{SetError}
+use Rattle.param_records.specs.declared.setting.SetError.TheVariants.{Full}
+use Rattle.mission_commands.specs.declared.commands.Command.{Command}
+use Rattle.mission_commands.specs.Storable.{IsStorable}
 use Rattle.param_records.specs.Records.{records_of, end_of, place_from}
 use Rattle.param_records.specs.Changes.{set_pieces, IsFull, SamePlaces}
 use Rattle.param_records.specs.Patterns.{IsInRange, number_of_whole}
 use Rattle.param_records.specs.Steps.{records_in_storage}
 use Rattle.param_records.proofs.SetLemmas.{is_some, on_ok}
 use Rattle.mission_records.specs.declared.reading.TheConstants.{CAPACITY, TOTAL_INDEX}
-use Rattle.mission_records.specs.Mission.{total_row, total_writes}
+use Rattle.mission_records.specs.Mission.{version, total_row, mission_of, total_writes, version_writes, command_writes, begin_writes, put_writes}
+use Rattle.mission_records.specs.Steps.{IsFormatted, HasVersion, Puts}
 use Rattle.mission_records.proofs.Totals.{all_writes, total_there}
-use Rattle.mission_records.proofs.Puts.{KeepsParams, in_mission}
+use Rattle.mission_records.proofs.Puts.{KeepsParams, in_mission, puts}
 
 pub row_there : (rows : List Var) → rows ≡ vehicle_rows → slice_get rows TOTAL_INDEX ≡ Some total_row
 row_there rows e = ap (λ (l : List Var). slice_get l TOTAL_INDEX) e ∙ total_there
@@ -74,3 +78,36 @@ piece_beside at new current old mid size fits e =
 -- what is appended comes after the old items
 pub appended : (old new ws : List LineWrite) → new ≡ old ++ ws → drop (length old) new ≡ ws
 appended old new ws e = ap (λ (l : List LineWrite). drop (length old) l) e ∙ drop_at old ws (length old) refl
+
+-- the version comes after MIS_TOTAL
+pub begin_items : (current : List ℕ) (old mid new : List LineWrite) → let before = after current old in mid ≡ old ++ total_writes before 0
+    → new ≡ mid ++ writes_of_piece Mission 0 version (after current mid) → new ≡ old ++ begin_writes before
+begin_items current old mid new first second =
+    let b = after current old in
+    let ws = total_writes b 0 in
+    let then : after current mid ≡ after b ws = ap (λ (l : List LineWrite). after current l) first ∙ after-append current old ws in
+    second ∙ ap (λ (l : List LineWrite). l ++ writes_of_piece Mission 0 version (after current mid)) first ∙ ap (λ (c : List ℕ). (old ++ ws) ++ version_writes c) then ∙ append_assoc old ws (version_writes (after b ws))
+
+-- MIS_TOTAL comes after the command
+pub put_items : (current : List ℕ) (old mid new : List LineWrite) (i : ℕ) (c : Command) → let before = after current old in mid ≡ old ++ command_writes before i c
+    → new ≡ mid ++ total_writes (after current mid) (i + 1) → new ≡ old ++ put_writes before i c
+put_items current old mid new i c first second =
+    let b = after current old in
+    let ws = command_writes b i c in
+    let then : after current mid ≡ after b ws = ap (λ (l : List LineWrite). after current l) first ∙ after-append current old ws in
+    second ∙ ap (λ (l : List LineWrite). l ++ total_writes (after current mid) (i + 1)) first ∙ ap (λ (x : List ℕ). (old ++ ws) ++ total_writes x (i + 1)) then ∙ append_assoc old ws (total_writes (after b ws) (i + 1))
+
+-- the mission's records of MIS_TOTAL are as full as before
+pub same_full : (r : Result (Unit {0}) SetError) (n : ℕ) (old now : List ℕ) → KeepsParams old now → IsErr r ↔ IsFull (records_in_storage now) total_row n → IsErr r ↔ IsFull (records_in_storage old) total_row n
+same_full r n old now e h = subst (λ (l : List ℕ). IsErr r ↔ IsFull (records_of l) total_row n) e h
+
+pub same_end : (r : Result (Unit {0}) SetError) (old now : List ℕ) → KeepsParams old now → IfErr r (λ e. e ≡ Full (end_of (logical_of Param now))) → IfErr r (λ e. e ≡ Full (end_of (logical_of Param old)))
+same_end r old now e h = subst (λ (l : List ℕ). IfErr r (λ x. x ≡ Full (end_of l))) e h
+
+-- a command that is put at the end
+pub puts_here : (b : List ℕ) (i : ℕ) (c : Command) (ws : List LineWrite) → ws ≡ put_writes b i c → i < CAPACITY → ¬ IsFull (records_in_storage b) total_row (i + 1)
+    → IsFormatted b → HasVersion b → IsStorable c → i ≡ length (mission_of b) → Puts c b ws
+puts_here b i c ws is few room formatted v storable last =
+    let n = length (mission_of b) in
+    subst (Puts c b) (sym (is ∙ ap (λ (k : ℕ). put_writes b k c) last))
+    (puts b c formatted v storable (omega arith) (λ f. room (subst (λ (k : ℕ). IsFull (records_in_storage b) total_row (k + 1)) (sym last) f)))

@@ -77,28 +77,34 @@ some_writes at xs b size some few fits =
     let near = near_an_end at (length xs) in
     let zero_below : count 0 ≡ 0 = ap (λ (l : List LineWrite). length l) (no_lines b now) in
     let ends = near (length xs - 1) some few fits (omega arith) in
-    let same_end : place_of Mission (at + (length xs - 1)) ≡ place_of Mission (at + length xs - 1) = ap (λ (k : ℕ). place_of Mission k) (omega arith) in
+    let last_byte : at + (length xs - 1) ≡ at + length xs - 1 = omega arith in
+    let same_end : place_of Mission (at + (length xs - 1)) ≡ place_of Mission (at + length xs - 1) = ap (λ (k : ℕ). place_of Mission k) last_byte in
     let inside : last < 1008 = elim (cases_lt (at + length xs - 1) 2506) [
       | inl low ↦ omega (arith, place_low (at + length xs - 1) low)
       | inr high ↦ omega (arith, place_high (at + length xs - 1) high (omega arith))
     ] in
     let order : first ≤ last = omega (arith, ends.0.0) in
     let below : count (0 + first) ≡ count 0 = apart_lines at xs b 0 first size (omega arith) (λ n i h g less e. let x = (near i some few fits less).0.0 in omega arith) in
-    let b1 : count (0 + first) ≡ count first = ap count (omega arith) in
+    let e1 : 0 + first ≡ first = omega arith in
+    let b1 : count (0 + first) ≡ count first = ap count e1 in
     let above : count ((last + 1) + (LINES - (last + 1))) ≡ count (last + 1) = apart_lines at xs b (last + 1) (LINES - (last + 1)) size (omega arith) (λ n i h g less e. let x = (near i some few fits less).0.1 in omega arith) in
-    let a1 : count ((last + 1) + (LINES - (last + 1))) ≡ count LINES = ap count (omega arith) in
+    let e2 : (last + 1) + (LINES - (last + 1)) ≡ LINES = omega arith in
+    let a1 : count ((last + 1) + (LINES - (last + 1))) ≡ count LINES = ap count e2 in
     elim (cases_lt last (first + 6)) [
       | inl close ↦
           let all = few_more first (last + 1 - first) b now in
-          let a2 : count (first + (last + 1 - first)) ≡ count (last + 1) = ap count (omega arith) in
+          let e3 : first + (last + 1 - first) ≡ last + 1 = omega arith in
+          let a2 : count (first + (last + 1 - first)) ≡ count (last + 1) = ap count e3 in
           omega arith
       | inr far ↦
           let left = few_more first 3 b now in
           let middle : count ((first + 3) + (last - 2 - (first + 3))) ≡ count (first + 3) = apart_lines at xs b (first + 3) (last - 2 - (first + 3)) size (omega arith)
               (λ n i h g less e. elim (near i some few fits less).1 [ inl x ↦ omega arith | inr x ↦ omega arith ]) in
-          let a2 : count ((first + 3) + (last - 2 - (first + 3))) ≡ count (last - 2) = ap count (omega arith) in
+          let e4 : (first + 3) + (last - 2 - (first + 3)) ≡ last - 2 = omega arith in
+          let a2 : count ((first + 3) + (last - 2 - (first + 3))) ≡ count (last - 2) = ap count e4 in
           let right = few_more (last - 2) 3 b now in
-          let a3 : count ((last - 2) + 3) ≡ count (last + 1) = ap count (omega arith) in
+          let e5 : (last - 2) + 3 ≡ last + 1 = omega arith in
+          let a3 : count ((last - 2) + 3) ≡ count (last + 1) = ap count e5 in
           omega arith
     ]
 

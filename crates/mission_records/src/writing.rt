@@ -31,10 +31,13 @@ const PIECE_LINES: usize = 8;
 fn command_bytes(command: &Command) -> [u8; COMMAND_BYTES]
     ensures { result ≡ command_bytes command.now }
 {
-    let [id, id_high] = command.id.to_le_bytes();
-    let [p1, p1_high] = command.p1.to_le_bytes();
+    let (number, parameter) = (command.id, command.p1);
+    let id = (number % 0x100) as u8;
+    let id_high = (number / 0x100) as u8;
+    let p1 = (parameter % 0x100) as u8;
+    let p1_high = (parameter / 0x100) as u8;
     let mut bytes = [0; COMMAND_BYTES];
-    if command.id < 0x100 {
+    if number < 0x100 {
         bytes[0] = id;
         bytes[1] = p1;
         bytes[2] = p1_high;
@@ -85,7 +88,8 @@ fn set_total(current: &[u8], number: u16, batch: &mut Batch) -> Result<(), SetEr
     ensures inside { AreInside batch.old.items → AreInside batch.new.items }
     ensures bytes { AreBytes batch.old.items → AreBytes batch.new.items }
 {
-    set_whole(current, &vehicle_table(), TOTAL_INDEX, i32::from(number), batch)
+    let whole = i32::from(number);
+    set_whole(current, &vehicle_table(), TOTAL_INDEX, whole, batch)
 }
 
 /// Appends the writes that begin a mission, which has no commands: MIS_TOTAL becomes 0, and then the
