@@ -13,7 +13,7 @@ use Rattle.param_service.specs.Service as parameters
 use Rattle.param_service.specs.Replies as showing
 use Rattle.vehicle_core.specs.declared.StationState.{StationState as Inner}
 use Rattle.mission_service.specs.Uploads as uploads
-use Rattle.mission_service.specs.Uploads.{Target}
+use Rattle.mission_service.specs.declared.uploads.Target.{Target}
 use Rattle.mission_service.specs.Requests as asking
 use Rattle.mission_service.specs.Service as missions
 use Rattle.mission_service.specs.Replies as answering

@@ -1,5 +1,5 @@
 -- The vehicle's state, and what it tells.
-use Rattle.std.specs.Prelude.{◌≡◌, ℕ, Bool, true, false, List, [], ◌∷◌, replicate, Option, option_map, slice_get, slice_set, slice_index, if◌then◌else◌}
+use Rattle.std.specs.Prelude.{◌≡◌, ℕ, Bool, true, false, List, [], ◌∷◌, replicate, Option, Some, None, option_map, slice_get, slice_set, slice_index, if◌then◌else◌}
 use Rattle.std.specs.Option.{option_map_or}
 use Rattle.param_records.specs.declared.values.Value.{Value}
 use Rattle.param_service.specs.Requests as parameters
@@ -8,7 +8,7 @@ use Rattle.mav_messages.specs.declared.messages.To.{To}
 use Rattle.mav_messages.specs.declared.messages.To.TheVariants.{Station}
 use Rattle.mav_messages.specs.declared.messages.Message.{Message}
 use Rattle.mission_service.specs.Uploads as uploads
-use Rattle.mission_service.specs.Uploads.{Target}
+use Rattle.mission_service.specs.declared.uploads.Target.{Target}
 use Rattle.mission_service.specs.Requests as missions
 use Rattle.mission_service.specs.Service as service
 

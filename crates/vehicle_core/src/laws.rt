@@ -3,7 +3,7 @@
 
 ghost use Rattle.std.specs.Prelude.{◌≡◌, Option};
 ghost use Rattle.mav_messages.specs.declared.messages.Message.{Message};
-ghost use Rattle.mission_service.specs.Uploads.{Target};
+ghost use Rattle.mission_service.specs.declared.uploads.Target.{Target};
 ghost use Rattle.vehicle_core.specs.Vehicle.{Asked, Asks};
 
 /// A message of a sender asks for one thing, or nothing.

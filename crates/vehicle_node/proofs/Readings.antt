@@ -9,7 +9,7 @@ use Rattle.mav_frames.specs.Cut.{Piece, Skipped, Whole, Cut, frames_in}
 use Rattle.mav_frames.specs.Frames.{IsMessageOf, is_v2}
 use Rattle.mav_messages.specs.declared.messages.Message.{Message}
 use Rattle.mav_messages.specs.Messages.{FitsTypes}
-use Rattle.mission_service.specs.Uploads.{Target}
+use Rattle.mission_service.specs.declared.uploads.Target.{Target}
 use Rattle.vehicle_core.specs.Vehicle.{Asked, Asks}
 use Rattle.vehicle_core.specs.Acts.{Act, heard_as, Said}
 use Rattle.vehicle_node.specs.Reading.{no_rests, sender_in, IsSilent, AreSaid, streams, beats, IsEvent, Reads}

@@ -3,7 +3,7 @@ use Rattle.std.proofs.Common.{◌≡◌, ℕ, List, ap₂}
 use Rattle.mav_frames.specs.Frames.{IsReadFrom, IsHeadingOf}
 use Rattle.mav_frames.specs.declared.frames.Frame.{Frame as Read}
 use Rattle.mav_frames.specs.declared.frames.Heading.{Heading}
-use Rattle.mission_service.specs.Uploads.{Target}
+use Rattle.mission_service.specs.declared.uploads.Target.{Target}
 use Rattle.vehicle_node.specs.Reading.{sender_in}
 
 abbrev pub target : ℕ → ℕ → Target

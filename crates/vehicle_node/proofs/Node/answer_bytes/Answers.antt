@@ -1,5 +1,5 @@
 use Rattle.std.proofs.Common.{Bool, inr, subst}
-use Rattle.mission_service.specs.Uploads.{Target}
+use Rattle.mission_service.specs.declared.uploads.Target.{Target}
 use Rattle.vehicle_core.specs.Vehicle.{Asks}
 use Rattle.vehicle_core.specs.Acts.{heard_as, Said}
 use Rattle.vehicle_node.specs.Steps.Answering.{ActDone}
