@@ -11,6 +11,6 @@ returns-clause-done g c =
     let a = c.answer_message.ensures.done in
     inr (
       a.0,
-      record { message = c.in-Some.message; is = c.in-Some.ensures.cases; fits = c.in-Some.ensures.fits; asks = subst (λ (sender : Target). Asks sender c.in-Some.message a.0) (of_heading c.args.bytes.now c.heading_of.result c.heading_of-heading.ensures) a.1 },
+      record { message = c.in-Some.message; is = c.in-Some.ensures.cases; fits = c.in-Some.ensures.fits; asks = subst (λ (sender : Target). Asks sender c.in-Some.message a.0) (of_heading c.args.bytes.now c.heading_of-heading.result c.heading_of-heading.ensures) a.1 },
       subst (λ (v2 : Bool). ActDone g.B.Board c.args.self.now c.args.board.now (Said c.args.station (heard_as v2 a.0)) c.answer_message.result c.answer_message.new.self c.answer_message.new.board) c.heading_of-heading.ensures.v2 a.2,
     )
