@@ -119,14 +119,7 @@ impl Core {
     {
         self.stations[from.station as usize] = StationState { heard: true, v2 };
         if asks_parameters(message) {
-            param_service::answer(
-                &mut self.parameters,
-                current,
-                from,
-                message,
-                batch,
-                replies,
-            );
+            param_service::answer(&mut self.parameters, current, from, message, batch, replies);
         } else {
             mission_service::answer(
                 &mut self.missions,
@@ -148,14 +141,13 @@ impl Core {
         ensures next { self.new ≡ (did [] self.old (Beat station)).vehicle }
         ensures told { AreRepliesOf (did [] self.old (Beat station)).told replies.new.items }
     {
-        if !self.heard(station) {
-            return;
+        if self.heard(station) {
+            replies.push(Reply {
+                to: To::Station(station),
+                message: heartbeat(),
+            });
+            mission_service::idle(&mut self.missions, station, replies);
         }
-        replies.push(Reply {
-            to: To::Station(station),
-            message: heartbeat(),
-        });
-        mission_service::idle(&mut self.missions, station, replies);
     }
 
     /// The next values of the list that is being sent to a station.

@@ -79,3 +79,48 @@ fn keeps_two_stations_apart(rt: HostRuntime) {
     ask(&mut core, 2, false);
     assert!(rt; !core.version_two(2));
 }
+
+#[test]
+fn asks_for_the_next_item_of_an_upload_again(rt: HostRuntime) {
+    let mut core = Core::new();
+    let from = Sender {
+        station: 5,
+        system: 255,
+        component: 190,
+    };
+    let count = Message::MissionCount {
+        count: 2,
+        target_system: 1,
+        target_component: 1,
+        mission_type: 0,
+    };
+    let mut batch = Batch::new();
+    let mut replies = Replies::new();
+    core.message(
+        &[0; STORAGE_BYTES],
+        from,
+        true,
+        &count,
+        &mut batch,
+        &mut replies,
+    );
+    assert_eq!(rt; replies.len(), 1);
+    assert!(rt; !batch.is_empty());
+    let mut again = Replies::new();
+    core.idle(5, &mut again);
+    assert_eq!(rt; again.len(), 2);
+    for message in [replies[0].message, again[1].message] {
+        match message {
+            Message::MissionRequestInt {
+                seq,
+                target_system,
+                target_component,
+                mission_type,
+            } => {
+                assert_eq!(rt; (seq, mission_type), (0, 0));
+                assert_eq!(rt; (target_system, target_component), (255, 190));
+            }
+            _ => assert!(rt; false),
+        }
+    }
+}
