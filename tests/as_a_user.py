@@ -57,11 +57,11 @@ class AsAUser(unittest.TestCase):
         self.assertEqual((status, said), (0, b""))
         return printed
 
-    def tool(self, vehicle, *words):
+    def tool(self, vehicle, *words, seconds=60):
         """What tools/station.py prints of this server."""
         station = os.path.join(TOP, "tools", "station.py")
         return subprocess.run([sys.executable, station, *words, "--port", str(vehicle.port)],
-                              capture_output=True, text=True, timeout=60, check=False)
+                              capture_output=True, text=True, timeout=seconds, check=False)
 
     def values_of(self, station, request):
         """The value that answers a request."""
@@ -314,6 +314,16 @@ class AsAUser(unittest.TestCase):
             self.assertEqual(vehicle.process.wait(timeout=30), 0)
         self.assertEqual(self.tool(vehicle, "parameters", "read", "0").stderr,
                          f"no answer from 127.0.0.1:{vehicle.port}\n")
+
+    def test_watch_prints_what_the_vehicle_sends(self):
+        with self.served() as vehicle:
+            vehicle.ready()
+            with self.assertRaises(subprocess.TimeoutExpired) as caught:
+                self.tool(vehicle, "watch", seconds=4)
+            self.assertIn(b"HEARTBEAT, not armed\n", caught.exception.stdout)
+            self.assertEqual(self.tool(vehicle, "parameters", "read", "RTL_ALT_").stderr,
+                             "the vehicle has no parameter RTL_ALT_\n")
+            self.ended(vehicle)
 
     def test_the_readme_shows_what_the_program_prints(self):
         with open(os.path.join(TOP, "README.md"), encoding="utf-8") as text:
