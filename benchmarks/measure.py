@@ -21,8 +21,9 @@ HERE = os.path.dirname(os.path.abspath(__file__))
 sys.path.insert(0, os.path.join(HERE, "..", "tools"))
 import mavlink  # noqa: E402
 import states  # noqa: E402
+from decimals import as_float  # noqa: E402
 from server import END, free_port  # noqa: E402
-from vehicle import Vehicle, as_float  # noqa: E402
+from vehicle import Vehicle  # noqa: E402
 
 TRIPS = 20_000  # round trips of a turn
 SETS = 1_000

@@ -9,6 +9,7 @@ import fcntl
 import os
 import re
 import shlex
+import shutil
 import signal
 import socket
 import subprocess
@@ -24,15 +25,34 @@ sys.dont_write_bytecode = True
 import disk_states  # noqa: E402
 import image  # noqa: E402
 import mavlink  # noqa: E402
+import missions  # noqa: E402
+import plan_files  # noqa: E402
 import server  # noqa: E402
 import statuses  # noqa: E402
+from mavlink import FENCE, MISSION  # noqa: E402
+from mission_items import Item  # noqa: E402
 from server import ask, hear  # noqa: E402
+from vehicle import Vehicle  # noqa: E402
 
 PROGRAM = ""
 # PARAM_REQUEST_READ of index 0, and the answer of a fresh image, byte for byte
 REQUEST = bytes.fromhex("FE1400FFBE1400000101" + "00" * 16 + "E7F2")
 ANSWER = bytes.fromhex("FE19000101160000F042F0000000464F524D41545F56455253494F4E0000045599")
 ROWS = 240
+ROUTE = os.path.join(TOP, "examples", "route.waypoints")
+PLAN = os.path.join(TOP, "examples", "route.plan")
+HOME_LINE = "0\t1\t0\t16\t0\t0\t0\t0\t47.3977420\t8.5455970\t488\t1"
+
+
+def content_of(name):
+    """What a file holds, as text."""
+    with open(name, encoding="utf-8") as file:
+        return file.read()
+
+
+def shown_items(items):
+    """Items as a vehicle shows them: it doesn't keep which is the current one."""
+    return [item._replace(current=0) for item in items]
 
 
 class AsAUser(unittest.TestCase):
@@ -57,11 +77,11 @@ class AsAUser(unittest.TestCase):
         self.assertEqual((status, said), (0, b""))
         return printed
 
-    def tool(self, vehicle, *words):
+    def tool(self, vehicle, *words, seconds=60):
         """What tools/station.py prints of this server."""
         station = os.path.join(TOP, "tools", "station.py")
         return subprocess.run([sys.executable, station, *words, "--port", str(vehicle.port)],
-                              capture_output=True, text=True, timeout=60, check=False)
+                              capture_output=True, text=True, timeout=seconds, check=False)
 
     def values_of(self, station, request):
         """The value that answers a request."""
@@ -290,6 +310,248 @@ class AsAUser(unittest.TestCase):
         for text in disk_states.check(PROGRAM, self.folder):
             print(text)
 
+    # missions, fences and commands
+
+    def told(self, vehicle, *words):
+        """What tools/station.py prints of work that it did."""
+        done = self.tool(vehicle, *words)
+        self.assertEqual((done.returncode, done.stderr), (0, ""), words)
+        return done.stdout
+
+    def refused(self, vehicle, *words):
+        """The line in which tools/station.py says that it couldn't do its work."""
+        done = self.tool(vehicle, *words)
+        self.assertEqual((done.returncode, done.stdout, done.stderr.count("\n")), (1, "", 1), (words, done.stderr))
+        return done.stderr.rstrip("\n")
+
+    def file(self, name, *lines):
+        """A file of this test with these lines of `QGC WPL 110` text, if any."""
+        name = os.path.join(self.folder, name)
+        if lines:
+            with open(name, "w", encoding="utf-8") as file:
+                file.write("\n".join(("QGC WPL 110", *lines, "")))
+        return name
+
+    def items_of(self, vehicle, kind):
+        """The items that the vehicle has."""
+        return missions.download(Vehicle(vehicle.port), kind)
+
+    def step(self, station, request, next_item):
+        """Sends a part of an upload. Gives its result, or None once the vehicle asks for the item with this number."""
+        station.send(request)
+        end = time.monotonic() + 30
+        while time.monotonic() < end:
+            found = mavlink.read_frame(hear(station, 30))
+            fields = mavlink.fields_of(found)
+            if found["message"] == mavlink.MISSION_ACK:
+                return fields["type"]
+            if found["message"] == mavlink.MISSION_REQUEST_INT and fields["seq"] == next_item:
+                return None
+        raise TimeoutError("the upload doesn't go on")
+
+    def begin(self, station, kind, items, taken):
+        """Begins an upload, of which so many items are taken. Gives its result, or None where more are asked for."""
+        result = self.step(station, mavlink.mission_count(len(items), kind, version=2), 0)
+        for number in range(taken):
+            self.assertIsNone(result)
+            result = self.step(station, mavlink.mission_item(number, items[number], kind, version=2), number + 1)
+        return result
+
+    def test_the_sample_route_is_uploaded_kept_and_downloaded(self):
+        with self.served() as vehicle:
+            self.assertEqual(self.told(vehicle, "mission", "list"), "the vehicle has no mission\n")
+            self.assertEqual(self.told(vehicle, "mission", "upload", ROUTE), "8 items uploaded\n")
+            self.assertEqual(self.told(vehicle, "flush"), "flush is accepted\n")
+            vehicle.process.kill()
+            vehicle.process.wait(timeout=30)
+        with self.served() as vehicle:
+            vehicle.ready()
+            text, plan = self.file("kept.waypoints"), self.file("kept.plan")
+            self.assertEqual(self.told(vehicle, "mission", "download", text), "8 items downloaded\n")
+            self.assertEqual(content_of(text), content_of(ROUTE))
+            listed = self.told(vehicle, "mission", "list").splitlines()
+            self.assertEqual(len(listed), 8)
+            self.assertEqual(listed[4], "4 NAV_WAYPOINT at 47.3991500 8.5468200, 30.48 m above home")
+            self.assertIn("MIS_TOTAL = 8 ", self.told(vehicle, "parameters", "read", "MIS_TOTAL"))
+            # the plan is the same mission
+            self.assertEqual(self.told(vehicle, "mission", "clear"), "the vehicle has no mission now\n")
+            self.assertEqual(self.items_of(vehicle, MISSION), [])
+            self.assertEqual(self.told(vehicle, "mission", "upload", PLAN), "8 items uploaded\n")
+            self.told(vehicle, "mission", "download", text)
+            self.assertEqual(content_of(text), content_of(ROUTE))
+            self.told(vehicle, "mission", "download", plan)
+            self.assertEqual(plan_files.read_mission(content_of(plan)), plan_files.read_mission(content_of(PLAN)))
+            self.ended(vehicle)
+
+    def test_a_killed_upload_leaves_the_mission_or_its_beginning(self):
+        old = shown_items(plan_files.read_mission(content_of(ROUTE)))
+        new = [Item(16, 3, x=473977420 + number, y=85455970, z=10.0 + number) for number in range(12)]
+        for taken in (0, 1, 5, len(new)):
+            with self.subTest(taken=taken):
+                with self.served() as vehicle:
+                    self.told(vehicle, "mission", "upload", ROUTE)
+                    self.told(vehicle, "flush")
+                    result = self.begin(vehicle.station(), MISSION, new, taken)
+                    self.assertEqual(result, 0 if taken == len(new) else None)
+                    vehicle.process.kill()
+                    vehicle.process.wait(timeout=30)
+                with self.served() as vehicle:
+                    vehicle.ready()
+                    # what the event of the last answer wrote may be lost, and nothing before it
+                    may_be = [old, []] if taken == 0 else [new[:taken - 1], new[:taken]]
+                    self.assertIn(self.items_of(vehicle, MISSION), may_be)
+                    self.ended(vehicle)
+
+    def test_a_mission_that_was_uploaded_is_whole_once_a_later_frame_was_answered(self):
+        new = [Item(16, 3, x=473977420, y=85455970 + number, z=20.0) for number in range(3)]
+        with self.served() as vehicle:
+            station = vehicle.station()
+            self.assertEqual(self.begin(station, MISSION, new, len(new)), 0)
+            ask(station, mavlink.request_read(1, version=2))
+            vehicle.process.kill()
+            vehicle.process.wait(timeout=30)
+        with self.served() as vehicle:
+            vehicle.ready()
+            self.assertEqual(self.items_of(vehicle, MISSION), new)
+            self.ended(vehicle)
+
+    def test_a_second_station_is_denied_while_one_uploads(self):
+        denied = "denied: another station uploads"
+        for kind, name, number in ((MISSION, "mission", 16), (FENCE, "fence", 5003)):
+            items = [Item(number, 0, (10.0, 0.0, 0.0, 0.0), 473977420, 85455970 + place) for place in range(3)]
+            with self.served() as vehicle, self.subTest(name):
+                first, second = vehicle.ready(), vehicle.ready()
+                self.assertIsNone(self.begin(first, kind, items, 1))
+                self.assertEqual(self.refused(vehicle, name, "upload", PLAN), f"the {name} is not taken: {denied}")
+                self.assertEqual(self.refused(vehicle, name, "clear"), f"the {name} is not cleared: {denied}")
+                self.assertEqual(self.step(second, mavlink.mission_item(1, items[1], kind, version=2), None), 14)
+                self.assertIsNone(self.step(first, mavlink.mission_item(1, items[1], kind, version=2), 2))
+                self.assertEqual(self.step(first, mavlink.mission_item(2, items[2], kind, version=2), None), 0)
+                self.assertEqual(self.items_of(vehicle, kind), items)
+                self.assertIn("items uploaded", self.told(vehicle, name, "upload", PLAN))
+                self.ended(vehicle)
+
+    def test_a_refused_item_of_a_mission_is_named(self):
+        with self.served() as vehicle:
+            vehicle.ready()
+            for line, words in (
+                    ("1 0 1 16 0 0 0 0 47 8 30 1", "(NAV_WAYPOINT) is refused: its frame is not supported"),
+                    ("1 0 2 530 0 0 0 0 0 0 0 1", "(SET_CAMERA_MODE) is refused: its command is not supported"),
+                    ("1 0 3 16 70000 0 0 0 47 8 30 1", "(NAV_WAYPOINT) is refused: its parameter 1 is invalid"),
+                    ("1 0 2 183 1 0.5 0 0 0 0 0 1", "(DO_SET_SERVO) is refused: its parameter 2 is invalid"),
+                    ("1 0 3 18 1 0 300 0 47 8 30 1", "(NAV_LOITER_TURNS) is refused: its parameter 3 is invalid"),
+                    ("1 0 2 115 9 9 1 2 0 0 0 1", "(CONDITION_YAW) is refused: its parameter 4 is invalid"),
+                    ("1 0 3 16 0 0 0 0 90.0000001 8 30 1",
+                     "(NAV_WAYPOINT) is refused: its latitude (x) is out of range"),
+                    ("1 0 3 16 0 0 0 0 47 -180.0000001 30 1",
+                     "(NAV_WAYPOINT) is refused: its longitude (y) is out of range"),
+                    ("1 0 3 16 0 0 0 0 47 8 83886.08 1",
+                     "(NAV_WAYPOINT) is refused: its altitude (z) is no whole number of centimetres in range")):
+                name = self.file("refused.waypoints", HOME_LINE, line, "2 0 2 20 0 0 0 0 0 0 0 1")
+                self.assertEqual(self.refused(vehicle, "mission", "upload", name), f"item 1 {words}")
+                # the items before it were taken
+                self.assertEqual([item.z for item in self.items_of(vehicle, MISSION)], [488.0])
+            many = [f"{number} 0 2 20 0 0 0 0 0 0 0 1" for number in range(1000)]
+            self.assertIn("the mission is not taken: there is no space for so many items",
+                          self.refused(vehicle, "mission", "upload", self.file("many.waypoints", *many)))
+            self.ended(vehicle)
+
+    def test_a_refused_item_of_a_fence_is_named_and_the_old_fence_stays(self):
+        vertex, circle = "5001 4 0 0 0 47 8 0 1", "5003 10 0 0 0 47 8 0 1"
+        with self.served() as vehicle:
+            self.told(vehicle, "fence", "upload", PLAN)
+            before = self.items_of(vehicle, FENCE)
+            self.assertEqual(len(before), 5)
+            for items, words in (
+                    ([circle, circle.replace("10", "-10")], "item 1 (NAV_FENCE_CIRCLE_INCLUSION) is refused: its "
+                                                            "parameter 1 is invalid"),
+                    ([vertex] * 3, "item 2 (NAV_FENCE_POLYGON_VERTEX_INCLUSION) is refused: with it the items make no "
+                                   "fence: "),
+                    (["5000 0 0 0 0 47 8 0 1"] * 2, "item 1 (NAV_FENCE_RETURN_POINT) is refused: with it the items "
+                                                    "make no fence: "),
+                    ([circle] * 51, "item 50 (NAV_FENCE_CIRCLE_INCLUSION) is refused: there is no space for it"),
+                    ([circle] * 1000, "the fence is not taken: there is no space for so many items")):
+                lines = [f"{number} 0 0 {item}" for number, item in enumerate(items)]
+                said = self.refused(vehicle, "fence", "upload", self.file("refused.waypoints", *lines))
+                self.assertTrue(said.startswith(words), said)
+                self.assertEqual(self.items_of(vehicle, FENCE), before)
+            self.ended(vehicle)
+
+    def test_a_fence_is_uploaded_kept_downloaded_and_cleared(self):
+        lines = [HOME_LINE, *(f"{number} 0 3 5002 3 0 0 0 {place} 0 1" for number, place in
+                              enumerate(("47.1 8.1", "47.2 8.1", "47.1 8.2"), 1)),
+                 "4 0 0 5004 25.5 0 0 0 47.3 8.3 0 1", "5 0 3 5000 0 0 0 0 47.4 8.4 20 1"]
+        kept = [Item(5002, 0, (3.0, 0.0, 0.0, 0.0), x, y)
+                for x, y in ((471000000, 81000000), (472000000, 81000000), (471000000, 82000000))]
+        kept += [Item(5004, 0, (25.5, 0.0, 0.0, 0.0), 473000000, 83000000), Item(5000, 0, x=474000000, y=84000000)]
+        with self.served() as vehicle:
+            self.assertEqual(self.told(vehicle, "fence", "list"), "the vehicle has no fence\n")
+            # Mission Planner writes the home position in front of a fence
+            name = self.file("fence.waypoints", *lines)
+            self.assertEqual(self.told(vehicle, "fence", "upload", name), "5 items uploaded\n")
+            self.told(vehicle, "flush")
+            vehicle.process.kill()
+            vehicle.process.wait(timeout=30)
+        with self.served() as vehicle:
+            vehicle.ready()
+            self.assertEqual(self.items_of(vehicle, FENCE), kept)
+            text, plan = self.file("kept.waypoints"), self.file("kept.plan")
+            self.assertEqual(self.told(vehicle, "fence", "download", text), "5 items downloaded\n")
+            self.assertEqual(shown_items(plan_files.read_fence(content_of(text))), kept)
+            # a plan keeps its mission when a fence is put into it
+            shutil.copy(PLAN, plan)
+            self.told(vehicle, "fence", "download", plan)
+            self.assertEqual(plan_files.read_fence(content_of(plan))[:4], kept[:4])
+            self.assertEqual(plan_files.read_mission(content_of(plan)), plan_files.read_mission(content_of(PLAN)))
+            self.assertEqual(self.told(vehicle, "fence", "upload", PLAN), "5 items uploaded\n")
+            self.assertEqual(self.items_of(vehicle, FENCE), plan_files.read_fence(content_of(PLAN)))
+            self.assertEqual(self.told(vehicle, "fence", "clear"), "the vehicle has no fence now\n")
+            self.assertEqual(self.items_of(vehicle, FENCE), [])
+            self.ended(vehicle)
+
+    def test_a_killed_upload_of_a_fence_leaves_the_old_one_or_none_or_the_new_one(self):
+        new = [Item(5003, 0, (10.0 + number, 0.0, 0.0, 0.0), 473977420, 85455970) for number in range(6)]
+        old = plan_files.read_fence(content_of(PLAN))
+        for taken in (0, 3, len(new)):
+            with self.subTest(taken=taken):
+                with self.served() as vehicle:
+                    self.told(vehicle, "fence", "upload", PLAN)
+                    self.told(vehicle, "flush")
+                    result = self.begin(vehicle.station(), FENCE, new, taken)
+                    self.assertEqual(result, 0 if taken == len(new) else None)
+                    vehicle.process.kill()
+                    vehicle.process.wait(timeout=30)
+                with self.served() as vehicle:
+                    vehicle.ready()
+                    self.assertIn(self.items_of(vehicle, FENCE), [old, [], new] if taken == len(new) else [old])
+                    self.ended(vehicle)
+
+    def test_a_vehicle_is_armed_and_disarmed(self):
+        with self.served() as vehicle:
+            station = vehicle.ready()
+            station.settimeout(10)
+            for word, mode, state in (("arm", 129, 4), ("disarm", 1, 3)):
+                self.assertEqual(self.told(vehicle, word), f"{word} is accepted\n")
+                beats = (mavlink.fields_of(mavlink.read_frame(station.recv(2048))) for _ in range(10))
+                # heartbeats of the time before may wait in the socket
+                beat = next(beat for beat in beats if beat["base_mode"] == mode)
+                self.assertEqual((beat["autopilot"], beat["system_status"]), (3, state))
+            self.ended(vehicle)
+
+    def test_the_number_of_items_is_left_to_the_vehicle(self):
+        with self.served() as vehicle:
+            name = self.file("kept.parm")
+            self.told(vehicle, "mission", "upload", ROUTE)
+            self.told(vehicle, "parameters", "set", "RTL_ALT", "1700")
+            self.told(vehicle, "parameters", "save", name)
+            self.assertIn("MIS_TOTAL        8\n", content_of(name))
+            self.told(vehicle, "mission", "clear")
+            self.told(vehicle, "parameters", "set", "RTL_ALT", "1500")
+            self.assertEqual(self.told(vehicle, "parameters", "load", name),
+                             f"1 values set, {ROWS - 2} were so already, 0 not taken, MIS_TOTAL left to the vehicle\n")
+            self.assertIn("RTL_ALT = 1700 ", self.told(vehicle, "parameters", "read", "RTL_ALT"))
+            self.ended(vehicle)
+
     # the tools and the documents
 
     def test_parameter_files_are_saved_and_loaded(self):
@@ -314,6 +576,16 @@ class AsAUser(unittest.TestCase):
             self.assertEqual(vehicle.process.wait(timeout=30), 0)
         self.assertEqual(self.tool(vehicle, "parameters", "read", "0").stderr,
                          f"no answer from 127.0.0.1:{vehicle.port}\n")
+
+    def test_watch_prints_what_the_vehicle_sends(self):
+        with self.served() as vehicle:
+            vehicle.ready()
+            with self.assertRaises(subprocess.TimeoutExpired) as caught:
+                self.tool(vehicle, "watch", seconds=4)
+            self.assertIn(b"HEARTBEAT, not armed\n", caught.exception.stdout)
+            self.assertEqual(self.tool(vehicle, "parameters", "read", "RTL_ALT_").stderr,
+                             "the vehicle has no parameter RTL_ALT_\n")
+            self.ended(vehicle)
 
     def test_the_readme_shows_what_the_program_prints(self):
         with open(os.path.join(TOP, "README.md"), encoding="utf-8") as text:

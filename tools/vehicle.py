@@ -1,6 +1,6 @@
 """A vehicle at a UDP port of this machine, asked as a ground station asks it."""
+import functools
 import socket
-import struct
 import time
 
 import mavlink
@@ -10,9 +10,8 @@ import mavlink
 OWN_PORTS = range(14560, 14564)
 
 
-def as_float(value):
-    """The binary32 value nearest to this one, as a PARAM_VALUE carries it."""
-    return struct.unpack("<f", struct.pack("<f", value))[0]
+class NoAnswer(Exception):
+    """The vehicle says nothing."""
 
 
 class Vehicle:
@@ -29,10 +28,10 @@ class Vehicle:
                 continue
         self.socket.connect(("127.0.0.1", port))
 
-    def send(self, request, *arguments, **options):
-        """Sends a frame of version 2."""
+    def send(self, request):
+        """Sends the frame that a function of mavlink makes, in version 2."""
         try:
-            self.socket.send(request(*arguments, sequence=self.sequence, version=2, **options))
+            self.socket.send(request(sequence=self.sequence, version=2))
         except ConnectionRefusedError:
             pass
         self.sequence += 1
@@ -44,7 +43,7 @@ class Vehicle:
             self.socket.settimeout(left)
             try:
                 found = mavlink.read_frame(self.socket.recv(2048))
-            except TimeoutError:
+            except socket.timeout:
                 return None
             except ConnectionRefusedError:
                 time.sleep(0.05)
@@ -53,44 +52,47 @@ class Vehicle:
                 return found
         return None
 
-    def value(self, is_wanted=lambda shown: True, seconds=0.5):
-        """The next value that the vehicle shows and that is wanted, or None where it doesn't come in that time."""
+    def hear(self, read, seconds=0.5):
+        """What `read` makes of the first frame of which it makes anything, or None where none comes in that time."""
         end = time.monotonic() + seconds
         while (left := end - time.monotonic()) > 0:
             found = self.frame(left)
-            shown = found and mavlink.value_of(found)
-            if shown and is_wanted(shown):
-                return shown
+            heard = None if found is None else read(found)
+            if heard is not None:
+                return heard
         return None
 
-    def ask(self, is_wanted, request, *arguments, **options):
-        """The answer to a request, which is sent again where none comes."""
-        for _ in range(self.tries):
-            self.send(request, *arguments, **options)
-            shown = self.value(is_wanted)
-            if shown is not None:
-                return shown
+    def ask(self, read, request, tries=None, seconds=0.5):
+        """What `read` makes of the answer to a request, which is sent again where none comes, or None."""
+        for _ in range(tries or self.tries):
+            self.send(request)
+            heard = self.hear(read, seconds)
+            if heard is not None:
+                return heard
         return None
 
     def read(self, which):
         """The value of a parameter by its name or index, or None."""
-        if str(which).isdigit():
-            return self.ask(lambda shown: shown["index"] == int(which), mavlink.request_read, int(which))
-        return self.ask(lambda shown: shown["name"] == which, mavlink.request_read, -1, name=which)
+        if str(which).isdigit() and int(which) in range(2**15):
+            request = functools.partial(mavlink.request_read, int(which))
+            return self.ask(lambda found: value_with(found, "index", int(which)), request)
+        request = functools.partial(mavlink.request_read, -1, name=which)
+        return self.ask(lambda found: value_with(found, "name", which), request)
 
     def set(self, name, value):
         """Sets a parameter, and gives the value that the vehicle shows then, or None."""
-        return self.ask(lambda shown: shown["name"] == name, mavlink.set_value, name, value)
+        request = functools.partial(mavlink.set_value, name, value)
+        return self.ask(lambda found: value_with(found, "name", name), request)
 
     def list(self):
         """All values in the order of their indices. What the list left out is asked for by itself."""
         values = {}
-        shown = self.ask(lambda shown: True, mavlink.request_list)
+        shown = self.ask(mavlink.value_of, mavlink.request_list)
         while shown is not None:
             values[shown["index"]] = shown
             if len(values) == shown["count"]:
                 break
-            shown = self.value(seconds=1.5)
+            shown = self.hear(mavlink.value_of, seconds=1.5)
         count = next(iter(values.values()))["count"] if values else 0
         for index in set(range(count)) - set(values):
             shown = self.read(index)
@@ -98,3 +100,9 @@ class Vehicle:
                 break
             values[index] = shown
         return [values[index] for index in sorted(values)]
+
+
+def value_with(found, field, wanted):
+    """The value that a frame shows, where this field of it is as wanted, or None."""
+    shown = mavlink.value_of(found)
+    return shown if shown and shown[field] == wanted else None
