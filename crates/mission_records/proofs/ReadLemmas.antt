@@ -95,10 +95,13 @@ one_line_test b at bytes there =
     let L = logical_of Param b in
     let found = found_at L 20 1 I16 at (bytes_in_area Param b bytes) there in
     let fits : at + 2 ≤ PARAM_BYTES = omega (arith, found.fits, length-area Param b) in
+    let first : at + 4 * 0 ≡ at = omega arith in
+    let second : at + 4 * 0 + 2 - 1 ≡ at + 1 = omega arith in
+    let line : ℕ → ℕ = λ k. place_of Param k / 8 in
     (
-      λ t. record { at = at; there = there; one_line = param_line at (at + 1) (omega arith) (omega arith) (let other : at % 8 ≢ 7 = eqb-false (at % 8) 7 (not-true (at % 8 == 7) t) in omega arith) },
+      λ t. record { at = at; there = there; one_line = ap line first ∙ param_line at (at + 1) (omega arith) (omega arith) (let other : at % 8 ≢ 7 = eqb-false (at % 8) 7 (not-true (at % 8 == 7) t) in omega arith) ∙ sym (ap line second) },
       λ one. let same : one.at ≡ at = let both : Some one.at ≡ Some at = sym one.there ∙ there in cc in
-          not_from_false (at % 8 == 7) (ne_eqb (at % 8) 7 (λ e. last_of_line at fits e (subst (IsInOneLine total_row) same one.one_line))),
+          not_from_false (at % 8 == 7) (ne_eqb (at % 8) 7 (λ e. last_of_line at fits e (sym (ap line first) ∙ subst (IsInOneLine total_row) same one.one_line ∙ ap line second))),
     )
 
 pub no_total : (b : List ℕ) → place_of_row b total_row ≡ None → IsTrue false ↔ IsTotalInOneLine b
