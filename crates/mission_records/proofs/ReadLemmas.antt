@@ -86,7 +86,7 @@ last_of_line at fits last e = elim (cases_lt (at + 1) 1280) [
           | inl border ↦ let a : place_of Param at ≡ 4096 + (at - 1280) = rw (le-ltb at 1280 (omega arith), lt-ltb at 2560 border) refl in omega arith
           | inr inside ↦ let a : place_of Param at ≡ 8192 + (at - 1280 - 1280) = rw (le-ltb at 1280 (omega arith), le-ltb at 2560 inside) refl in omega arith
         ]
-    ]
+  ]
 ]
 
 -- both bytes of MIS_TOTAL lie in one line exactly where the first isn't a line's last
@@ -97,8 +97,7 @@ one_line_test b at bytes there =
     let fits : at + 2 ≤ PARAM_BYTES = omega (arith, found.fits, length-area Param b) in
     let first : at + 4 * 0 ≡ at = omega arith in
     let second : at + 4 * 0 + 2 - 1 ≡ at + 1 = omega arith in
-    let line : ℕ → ℕ = λ k. place_of Param k / 8 in
-    (
+    let line : ℕ → ℕ = λ k. place_of Param k / 8 in (
       λ t. record { at = at; there = there; one_line = ap line first ∙ param_line at (at + 1) (omega arith) (omega arith) (let other : at % 8 ≢ 7 = eqb-false (at % 8) 7 (not-true (at % 8 == 7) t) in omega arith) ∙ sym (ap line second) },
       λ one. let same : one.at ≡ at = let both : Some one.at ≡ Some at = sym one.there ∙ there in cc in
           not_from_false (at % 8 == 7) (ne_eqb (at % 8) 7 (λ e. last_of_line at fits e (sym (ap line first) ∙ subst (IsInOneLine total_row) same one.one_line ∙ ap line second))),

@@ -99,7 +99,7 @@ some_writes at xs b size some few fits =
       | inr far ↦
           let left = few_more first 3 b now in
           let middle : count ((first + 3) + (last - 2 - (first + 3))) ≡ count (first + 3) = apart_lines at xs b (first + 3) (last - 2 - (first + 3)) size (omega arith)
-              (λ n i h g less e. elim (near i some few fits less).1 [ inl x ↦ omega arith | inr x ↦ omega arith ]) in
+          (λ n i h g less e. elim (near i some few fits less).1 [ inl x ↦ omega arith | inr x ↦ omega arith ]) in
           let e4 : (first + 3) + (last - 2 - (first + 3)) ≡ last - 2 = omega arith in
           let a2 : count ((first + 3) + (last - 2 - (first + 3))) ≡ count (last - 2) = ap count e4 in
           let right = few_more (last - 2) 3 b now in

@@ -1,10 +1,10 @@
-//! Worked values: the lines of a first command, the last command that has room, a storage too full
-//! for MIS_TOTAL, totals and versions that count as none.
+//! Worked values: the lines of a first command, of one in both spans of the area and of the last
+//! one; a storage too full for MIS_TOTAL; totals and versions that count as none.
 ghost use Rattle.std.specs.Prelude.{◌≡◌, length};
 
 use crate::*;
 use mission_commands::Command;
-use param_records::{MAGIC, PARAM_BYTES, SetError, append, format_batch, set_whole};
+use param_records::{MAGIC, SetError, append, format_batch, set};
 use param_tree::{Kind, vehicle_table};
 use storage_lines::{Area, Batch, LINES, LineWrite, STORAGE_BYTES, apply, split};
 
@@ -49,18 +49,22 @@ fn full() -> [u8; STORAGE_BYTES] {
     let mut batch = Batch::new();
     let _ = split(Area::Param, 0, &MAGIC, &bytes, &mut batch);
     apply_all(batch.as_slice(), &mut bytes);
-    let mut end = 4;
-    while end + 20 <= PARAM_BYTES {
+    for i in 0..607usize {
         let mut record = Batch::new();
-        append(&bytes, end, 100, 0, Kind::Vec3, &[0; 12], &mut record);
+        append(
+            &bytes,
+            4 + 16 * i,
+            100,
+            0,
+            Kind::Vec3,
+            &[0; 12],
+            &mut record,
+        );
         apply_all(record.as_slice(), &mut bytes);
-        end += 16;
     }
-    if end + 9 <= PARAM_BYTES {
-        let mut record = Batch::new();
-        append(&bytes, end, 100, 0, Kind::I8, &[0; 1], &mut record);
-        apply_all(record.as_slice(), &mut bytes);
-    }
+    let mut last = Batch::new();
+    append(&bytes, 9716, 100, 0, Kind::I8, &[0; 1], &mut last);
+    apply_all(last.as_slice(), &mut bytes);
     bytes
 }
 
@@ -116,6 +120,51 @@ fn a_first_command_is_written_in_four_lines(rt: HostRuntime) {
     clear(&bytes, &mut cleared);
     apply_all(cleared.as_slice(), &mut bytes);
     assert!(rt; at(&bytes, 0).is_none());
+    begins_in_steps();
+    clears_in_steps();
+    puts_in_steps();
+    sets_no_mission();
+    others_keep_missions();
+    formats_in_one_line();
+}
+
+#[test]
+fn a_command_lies_in_both_spans(rt: HostRuntime) {
+    let mut bytes = begun();
+    let mut lines = Batch::new();
+    // Logical places 2494 to 2508: the first span has 2506 bytes.
+    assert_eq!(rt; put(&bytes, 166, &WAYPOINT, &mut lines), Ok(()));
+    assert_eq!(rt;
+        lines.as_slice(),
+        [
+            LineWrite {
+                line: 471,
+                bytes: [0, 0, 0, 0, 0, 0, 0x10, 5]
+            },
+            LineWrite {
+                line: 472,
+                bytes: [0, 1, 0xE8, 0x0B, 0, 0x4C, 0x52, 0x40]
+            },
+            LineWrite {
+                line: 473,
+                bytes: [0x1C, 0x62, 0, 0, 0, 0, 0, 0]
+            },
+            LineWrite {
+                line: 741,
+                bytes: [0, 0, 0, 0, 0xF4, 0x17, 5, 0]
+            },
+            LineWrite {
+                line: 1,
+                bytes: [0xA7, 0, 0xFF, 0xFF, 0x3F, 0, 0, 0]
+            },
+        ]
+        .as_slice()
+    );
+    apply_all(lines.as_slice(), &mut bytes);
+    let Some(command) = at(&bytes, 166) else {
+        panic!(rt; "no command");
+    };
+    assert_eq!(rt; command.content, WAYPOINT.content);
 }
 
 #[test]
@@ -178,28 +227,24 @@ fn a_full_parameter_storage_takes_no_command(rt: HostRuntime) {
 #[test]
 fn a_total_is_limited(rt: HostRuntime) {
     let mut bytes = begun();
-    for (number, expected) in [(-1, 0), (-32768, 0), (7, 7), (309, 308), (32767, 308)] {
+    // The patterns of -1, -32768, 7, 309 and 32767.
+    for (bits, expected) in [
+        (0xBF80_0000u32, 0),
+        (0xC700_0000, 0),
+        (0x40E0_0000, 7),
+        (0x439A_8000, 308),
+        (0x46FF_FE00, 308),
+    ] {
         let mut batch = Batch::new();
         assert_eq!(rt;
-            set_whole(&bytes, &vehicle_table(), TOTAL_INDEX, number, &mut batch),
+            set(&bytes, &vehicle_table(), TOTAL_INDEX, bits, &mut batch),
             Ok(())
         );
         apply_all(batch.as_slice(), &mut bytes);
-        assert_eq!(rt; total(&bytes), expected, "of {number}");
+        assert_eq!(rt; total(&bytes), expected, "of {bits:08X}");
     }
     // The version's last byte: logical place 3 of the mission.
     bytes[1283] = 1;
     assert_eq!(rt; total(&bytes), 0);
     assert!(rt; at(&bytes, 0).is_none());
-}
-
-#[test]
-fn the_laws_hold(rt: HostRuntime) {
-    begins_in_steps();
-    clears_in_steps();
-    puts_in_steps();
-    sets_no_mission();
-    others_keep_missions();
-    formats_in_one_line();
-    assert_eq!(rt; MISSION_LINES, 16);
 }
