@@ -1,6 +1,6 @@
 -- What is read of the mission.
-use Rattle.std.proofs.Common.{◌≢◌, ◌/◌, ◌%◌, ◌≡◌, inl, inr, ℕ, zero, suc, ◌+◌, ◌-◌, ◌*◌, ◌<◌, ◌≤◌, min, Bool, true, false, cond, List, [], ◌∷◌, ◌++◌, length, get_or, take, drop, refl, sym, ◌∙◌, ap, subst, arith, Option, Some, None}
-use Rattle.std.specs.Prelude.{not, ◌==◌, ◌↔◌, IsTrue, slice_get, pos, negsuc}
+use Rattle.std.proofs.Common.{◌≢◌, ◌/◌, ◌%◌, ◌≡◌, inl, inr, ℕ, zero, suc, ◌+◌, ◌-◌, ◌*◌, ◌<◌, ◌≤◌, min, Bool, false, cond, List, [], ◌∷◌, ◌++◌, length, get_or, take, drop, refl, sym, ◌∙◌, ap, subst, arith, Some, None}
+use Rattle.std.specs.Prelude.{not, ◌==◌, ◌↔◌, IsTrue, slice_get}
 use Rattle.std.specs.Str.{bytes_eq}
 use Rattle.std.proofs.lemmas.List.{length-take, length-drop, get_or-take, get_or-drop, ext_get_or}
 use Rattle.std.proofs.lemmas.Bool.{cases_lt, cases_Bool, lt-ltb, le-ltb, ne_eqb, eqb-false, not-true, not_from_false}
@@ -16,10 +16,9 @@ use Rattle.param_records.specs.Steps.{IsInOneLine, place_of_row}
 use Rattle.param_records.proofs.PieceLemmas.{param_line}
 use Rattle.param_records.proofs.ValueLemmas.{found_at}
 use Rattle.storage_lines.proofs.Listed.{length-listed, get_or-listed}
-use Rattle.param_records.specs.declared.values.Value.{Value}
 use Rattle.param_records.specs.Values.{params_of}
 use Rattle.mission_commands.specs.declared.commands.Command.{Command}
-use Rattle.mission_records.specs.Mission.{version, total_row, mission_area, count_of, total_of, place_of_command, bytes_at, command_of, commands_in, mission_of}
+use Rattle.mission_records.specs.Mission.{version, total_row, mission_area, count_of, total_of, bytes_at, command_of, commands_in}
 use Rattle.mission_records.specs.declared.reading.TheConstants.{CAPACITY}
 use Rattle.mission_records.specs.Steps.{HasVersion, IsTotalInOneLine}
 use Rattle.mission_records.proofs.Commands.{length-commands_in}
