@@ -1,18 +1,16 @@
 -- The commands that an area has.
-use Rattle.std.proofs.Common.{◌≡◌, ◌≢◌, inl, inr, ℕ, zero, suc, ◌+◌, ◌-◌, ◌*◌, ◌/◌, ◌%◌, ◌^◌, ◌<◌, ◌≤◌, min, Bool, true, false, cond, List, [], ◌∷◌, ◌++◌, length, get_or, take, drop, refl, sym, ◌∙◌, ap, subst, arith}
-use Rattle.std.specs.Prelude.{◌==◌, nat_lt}
+use Rattle.std.proofs.Common.{◌≡◌, inl, inr, ℕ, zero, suc, ◌+◌, ◌*◌, ◌/◌, ◌%◌, ◌<◌, ◌≤◌, min, Bool, true, false, cond, List, [], ◌∷◌, ◌++◌, length, get_or, take, drop, refl, sym, ◌∙◌, ap, arith}
 use Rattle.std.specs.Str.{bytes_eq}
 use Rattle.std.proofs.lemmas.List.{take_all, length_push, length-take, length-take-le}
 use Rattle.std.proofs.lemmas.Bool.{cases_lt, lt-ltb, le-ltb, ne_eqb}
 use Rattle.std.proofs.lemmas.Slice.Eq.{bytes_eq-Decides}
-use Rattle.storage_lines.specs.Areas.{listed}
 use Rattle.param_records.specs.Values.{params_of}
 use Rattle.mission_commands.specs.declared.commands.Command.{Command}
 use Rattle.mission_records.specs.Mission.{version, total_row, mission_area, count_of, total_of, place_of_command, bytes_at, command_of, command_bytes, commands_in, mission_of}
 use Rattle.mission_records.specs.declared.reading.TheConstants.{CAPACITY}
 use Rattle.mission_records.specs.Steps.{HasVersion}
 use Rattle.mission_commands.specs.Storable.{IsStorable}
-use Rattle.mission_records.proofs.Listed.{listed_same, listed_all}
+use Rattle.mission_records.proofs.Listed.{listed_same}
 
 pub length-commands_in : (n : ℕ) (L : List ℕ) → length (commands_in n L) ≡ n
 unfolding commands_in

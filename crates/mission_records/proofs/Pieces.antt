@@ -1,5 +1,5 @@
 -- The pieces that set a row are bytes, so the parameters' area stays one of bytes.
-use Rattle.std.proofs.Common.{◌≡◌, refl, ◌∙◌, ◌*◌, inl, inr, ℕ, zero, suc, ◌+◌, ◌-◌, ◌/◌, ◌%◌, ◌<◌, ◌≤◌, Bool, true, false, cond, List, [], ◌∷◌, ◌++◌, length, get_or, take, drop, sym, ap, subst, arith, Option, Some, None}
+use Rattle.std.proofs.Common.{◌≡◌, refl, ◌∙◌, ◌*◌, inl, inr, ℕ, zero, suc, ◌+◌, ◌-◌, ◌/◌, ◌%◌, ◌<◌, Bool, true, false, cond, List, [], ◌∷◌, ◌++◌, length, get_or, take, drop, sym, ap, subst, arith, Option, Some, None}
 use Rattle.std.specs.Prelude.{All, nat_lt, ◌==◌}
 use Rattle.std.proofs.lemmas.List.{take_all}
 use Rattle.std.proofs.lemmas.List.Elements.{All-head, All-tail, All-nil, All-cons}
@@ -20,7 +20,7 @@ use Rattle.storage_lines.proofs.LineLemmas.{length-after}
 use Rattle.storage_lines.proofs.PieceLemmas.{pieces_in_steps}
 use Rattle.storage_lines.proofs.PrefixLemmas.{prefix_append, prefix_nil}
 use Rattle.param_records.specs.Records.{Record, four_bytes, header, sentinel, spelling, place_from}
-use Rattle.param_records.specs.Changes.{piece, part_size, part_bytes, part_number, fresh, fresh_bytes, header_pieces, appending, set_pieces}
+use Rattle.param_records.specs.Changes.{piece, part_size, part_bytes, part_number, fresh, fresh_bytes, header_pieces, set_pieces}
 use Rattle.param_records.proofs.OtherAreas.{IsParamPiece}
 use Rattle.param_records.proofs.StoreLemmas.{set_at, set_default, set_fresh}
 

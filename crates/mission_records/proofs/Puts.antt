@@ -1,5 +1,5 @@
 -- What the mission is while it begins, and while a command is put.
-use Rattle.std.proofs.Common.{◌≡◌, ◌≢◌, ◌⊎◌, inl, inr, ℕ, suc, ◌+◌, ◌-◌, ◌*◌, ◌<◌, ◌≤◌, min, List, [], ◌∷◌, ◌++◌, length, get_or, take, refl, sym, ◌∙◌, ap, subst, arith}
+use Rattle.std.proofs.Common.{◌≡◌, ◌≢◌, inl, inr, ℕ, suc, ◌+◌, ◌<◌, ◌≤◌, List, [], ◌∷◌, ◌++◌, length, get_or, take, refl, sym, ◌∙◌, ap, subst, arith}
 use Rattle.storage_lines.specs.declared.lines.LineWrite.{LineWrite}
 use Rattle.storage_lines.specs.declared.lines.TheConstants.{STORAGE_BYTES}
 use Rattle.storage_lines.specs.declared.areas.Area.TheVariants.{Param, Mission}
@@ -15,14 +15,14 @@ use Rattle.param_tree.specs.declared.Kind.TheVariants.{I16}
 use Rattle.param_records.specs.Records.{Record, records_of, place_from}
 use Rattle.param_records.specs.Values.{value_of_number, value_in_records, params_of}
 use Rattle.param_records.specs.Changes.{formatting, total_zero, IsFull}
-use Rattle.param_records.specs.Steps.{records_in_storage, place_of_row}
+use Rattle.param_records.specs.Steps.{records_in_storage}
 use Rattle.param_records.proofs.FormatLemmas.{formats}
 use Rattle.param_records.proofs.RecordLemmas.{records_are}
 use Rattle.mission_commands.specs.declared.commands.Command.{Command}
 use Rattle.mission_commands.specs.Storable.{IsStorable}
 use Rattle.mission_records.specs.declared.reading.TheConstants.{CAPACITY, TOTAL_INDEX}
-use Rattle.mission_records.specs.Mission.{version, total_row, mission_area, count_of, total_of, place_of_command, bytes_at, command_of, command_bytes, commands_in, mission_of, total_writes, version_writes, command_writes, begin_writes, put_writes}
-use Rattle.mission_records.specs.Steps.{IsFormatted, IsTotalInOneLine, HasVersion, StaysFormatted, IsOneOf, Begins, BeginsInSteps, Puts, PutsInSteps, IsBeside, OthersKeepMissions, FormatsInOneLine}
+use Rattle.mission_records.specs.Mission.{version, total_row, mission_area, count_of, total_of, place_of_command, bytes_at, command_of, command_bytes, commands_in, mission_of, total_writes, version_writes, command_writes, put_writes}
+use Rattle.mission_records.specs.Steps.{IsFormatted, HasVersion, StaysFormatted, IsOneOf, BeginsInSteps, Puts, PutsInSteps, OthersKeepMissions, FormatsInOneLine}
 use Rattle.mission_records.proofs.Listed.{listed_same, listed_all, same_prefix}
 use Rattle.mission_records.proofs.Commands.{length-commands_in, commands_more, command_back, length-command, total_is, same_total, empty_mission, same_mission}
 use Rattle.mission_records.proofs.Totals.{all_writes, total_setting, total_number, sets, stays, same_area, same_place, mission_stays, zero_fits, clears}

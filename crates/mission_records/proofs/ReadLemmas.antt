@@ -1,6 +1,6 @@
 -- What is read of the mission.
-use Rattle.std.proofs.Common.{◌≢◌, ◌/◌, ◌%◌, ◌≡◌, inl, inr, ℕ, zero, suc, ◌+◌, ◌-◌, ◌*◌, ◌<◌, ◌≤◌, min, Bool, true, false, cond, List, [], ◌∷◌, ◌++◌, length, get_or, take, drop, refl, sym, ◌∙◌, ap, subst, arith, Option, Some, None}
-use Rattle.std.specs.Prelude.{not, ◌==◌, ◌↔◌, IsTrue, slice_get, pos, negsuc}
+use Rattle.std.proofs.Common.{◌≢◌, ◌/◌, ◌%◌, ◌≡◌, inl, inr, ℕ, zero, suc, ◌+◌, ◌-◌, ◌*◌, ◌<◌, ◌≤◌, min, Bool, false, cond, List, [], ◌∷◌, ◌++◌, length, get_or, take, drop, refl, sym, ◌∙◌, ap, subst, arith, Some, None}
+use Rattle.std.specs.Prelude.{not, ◌==◌, ◌↔◌, IsTrue, slice_get}
 use Rattle.std.specs.Str.{bytes_eq}
 use Rattle.std.proofs.lemmas.List.{length-take, length-drop, get_or-take, get_or-drop, ext_get_or}
 use Rattle.std.proofs.lemmas.Bool.{cases_lt, cases_Bool, lt-ltb, le-ltb, ne_eqb, eqb-false, not-true, not_from_false}
@@ -16,10 +16,9 @@ use Rattle.param_records.specs.Steps.{IsInOneLine, place_of_row}
 use Rattle.param_records.proofs.PieceLemmas.{param_line}
 use Rattle.param_records.proofs.ValueLemmas.{found_at}
 use Rattle.storage_lines.proofs.Listed.{length-listed, get_or-listed}
-use Rattle.param_records.specs.declared.values.Value.{Value}
 use Rattle.param_records.specs.Values.{params_of}
 use Rattle.mission_commands.specs.declared.commands.Command.{Command}
-use Rattle.mission_records.specs.Mission.{version, total_row, mission_area, count_of, total_of, place_of_command, bytes_at, command_of, commands_in, mission_of}
+use Rattle.mission_records.specs.Mission.{version, total_row, mission_area, count_of, total_of, bytes_at, command_of, commands_in}
 use Rattle.mission_records.specs.declared.reading.TheConstants.{CAPACITY}
 use Rattle.mission_records.specs.Steps.{HasVersion, IsTotalInOneLine}
 use Rattle.mission_records.proofs.Commands.{length-commands_in}
@@ -86,7 +85,7 @@ last_of_line at fits last e = elim (cases_lt (at + 1) 1280) [
           | inl border ↦ let a : place_of Param at ≡ 4096 + (at - 1280) = rw (le-ltb at 1280 (omega arith), lt-ltb at 2560 border) refl in omega arith
           | inr inside ↦ let a : place_of Param at ≡ 8192 + (at - 1280 - 1280) = rw (le-ltb at 1280 (omega arith), le-ltb at 2560 inside) refl in omega arith
         ]
-    ]
+  ]
 ]
 
 -- both bytes of MIS_TOTAL lie in one line exactly where the first isn't a line's last
@@ -95,10 +94,12 @@ one_line_test b at bytes there =
     let L = logical_of Param b in
     let found = found_at L 20 1 I16 at (bytes_in_area Param b bytes) there in
     let fits : at + 2 ≤ PARAM_BYTES = omega (arith, found.fits, length-area Param b) in
-    (
-      λ t. record { at = at; there = there; one_line = param_line at (at + 1) (omega arith) (omega arith) (let other : at % 8 ≢ 7 = eqb-false (at % 8) 7 (not-true (at % 8 == 7) t) in omega arith) },
+    let first : at + 4 * 0 ≡ at = omega arith in
+    let second : at + 4 * 0 + 2 - 1 ≡ at + 1 = omega arith in
+    let line : ℕ → ℕ = λ k. place_of Param k / 8 in (
+      λ t. record { at = at; there = there; one_line = ap line first ∙ param_line at (at + 1) (omega arith) (omega arith) (let other : at % 8 ≢ 7 = eqb-false (at % 8) 7 (not-true (at % 8 == 7) t) in omega arith) ∙ sym (ap line second) },
       λ one. let same : one.at ≡ at = let both : Some one.at ≡ Some at = sym one.there ∙ there in cc in
-          not_from_false (at % 8 == 7) (ne_eqb (at % 8) 7 (λ e. last_of_line at fits e (subst (IsInOneLine total_row) same one.one_line))),
+          not_from_false (at % 8 == 7) (ne_eqb (at % 8) 7 (λ e. last_of_line at fits e (sym (ap line first) ∙ subst (IsInOneLine total_row) same one.one_line ∙ ap line second))),
     )
 
 pub no_total : (b : List ℕ) → place_of_row b total_row ≡ None → IsTrue false ↔ IsTotalInOneLine b

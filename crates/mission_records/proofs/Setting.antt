@@ -1,5 +1,5 @@
 -- Setting MIS_TOTAL by the rows of the table, and what the calls append.
-use Rattle.std.proofs.Common.{◌≡◌, ℕ, ◌+◌, ◌<◌, ◌≤◌, List, [], ◌∷◌, ◌++◌, length, drop, take, refl, sym, ◌∙◌, ap, subst, arith, Some}
+use Rattle.std.proofs.Common.{◌≡◌, ℕ, ◌+◌, ◌<◌, ◌≤◌, List, ◌++◌, length, drop, refl, sym, ◌∙◌, ap, subst, arith, Some}
 use Rattle.std.specs.Prelude.{All, slice_get, IfSome, OnOk, IfErr, IsErr, Result, ◌↔◌, ℤ, pos}
 use mir.Val.{to_z, of_z}
 use Rattle.std.specs.Int.{w32}

@@ -1,34 +1,32 @@
 -- What setting a row leaves of the mission.
-use Rattle.std.proofs.Common.{◌≡◌, ◌≢◌, ◌⊎◌, inl, inr, ℕ, ◌+◌, ◌<◌, ◌≤◌, Bool, true, false, cond, List, [], ◌∷◌, ◌++◌, length, get_or, take, refl, sym, ◌∙◌, ap, subst, arith, Option, Some, None}
-use Rattle.std.specs.Prelude.{IsTrue, slice_get, pos, negsuc, ◌≤ℤ◌}
+use Rattle.std.proofs.Common.{◌≡◌, ◌≢◌, inl, inr, ℕ, ◌+◌, ◌≤◌, Bool, true, false, cond, List, [], ◌∷◌, ◌++◌, length, get_or, take, refl, sym, ◌∙◌, ap, subst, arith, Option, Some, None}
+use Rattle.std.specs.Prelude.{IsTrue, slice_get, pos}
 use Rattle.std.proofs.lemmas.Int.{ints}
 use Rattle.std.proofs.lemmas.List.{take_all}
 use Rattle.param_tree.specs.declared.Kind.{Kind}
 use Rattle.param_tree.specs.declared.Kind.TheVariants.{I16}
 use Rattle.param_tree.specs.declared.Var.{Var}
-use Rattle.param_tree.specs.Rules.{IsTable, row_fits}
+use Rattle.param_tree.specs.Rules.{row_fits}
 use Rattle.param_tree.specs.Rows.{vehicle_rows, basic_rows, single_rows, mission_rows}
 use Rattle.param_tree.proofs.Vehicle.{vehicle_is_table}
 use Rattle.storage_lines.specs.declared.lines.LineWrite.{LineWrite}
-use Rattle.storage_lines.specs.declared.lines.TheConstants.{STORAGE_BYTES}
-use Rattle.storage_lines.specs.declared.areas.Area.{Area}
 use Rattle.storage_lines.specs.declared.areas.Area.TheVariants.{Param, Mission}
 use Rattle.storage_lines.specs.Areas.{logical_of}
 use Rattle.storage_lines.specs.Bytes.{IsBytes}
 use Rattle.storage_lines.specs.Lines.{after, EachPrefix}
 use Rattle.storage_lines.specs.Pieces.{writes_of}
 use Rattle.storage_lines.proofs.LineLemmas.{length-after}
-use Rattle.param_records.specs.Records.{Record, encoding, matches, records_of, place_from}
+use Rattle.param_records.specs.Records.{Record, encoding, matches, place_from}
 use Rattle.param_records.specs.Values.{value_of_number, params_of}
 use Rattle.param_records.specs.Changes.{fresh, set_pieces, IsFull}
-use Rattle.param_records.specs.Steps.{HasMagic, IsKept, records_in_storage, place_of_row, ReadsBetween, SetsRow}
+use Rattle.param_records.specs.Steps.{IsKept, records_in_storage, place_of_row, ReadsBetween, SetsRow}
 use Rattle.param_records.proofs.OtherAreas.{set_pieces_fit}
 use Rattle.param_records.proofs.SetLemmas.{kept_whole, whole_value}
 use Rattle.param_records.proofs.StepLemmas.{set_steps}
-use Rattle.param_records.proofs.StoreLemmas.{get_all, row_is, FullParts, full_parts}
+use Rattle.param_records.proofs.StoreLemmas.{get_all, row_is, full_parts}
 use Rattle.mission_records.specs.declared.reading.TheConstants.{CAPACITY, TOTAL_INDEX}
-use Rattle.mission_records.specs.Mission.{version, total_row, mission_area, count_of, total_of, mission_of, total_writes}
-use Rattle.mission_records.specs.Steps.{IsFormatted, IsTotalInOneLine, HasVersion, StaysFormatted, IsOneOf, Clears, ClearsInSteps, Keeps, SetsNoMission}
+use Rattle.mission_records.specs.Mission.{total_row, mission_area, count_of, mission_of, total_writes}
+use Rattle.mission_records.specs.Steps.{IsFormatted, IsTotalInOneLine, StaysFormatted, ClearsInSteps, SetsNoMission}
 use Rattle.mission_records.proofs.Pieces.{all_low, set_of_bytes}
 use Rattle.mission_records.proofs.Commands.{same_total, empty_mission, same_mission}
 

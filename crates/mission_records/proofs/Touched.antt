@@ -1,5 +1,5 @@
 -- The lines that a piece of the mission's area touches: by its two ends, six at most.
-use Rattle.std.proofs.Common.{◌≡◌, ◌≢◌, ◌⊎◌, inl, inr, ℕ, zero, suc, ◌+◌, ◌-◌, ◌*◌, ◌/◌, ◌<◌, ◌≤◌, List, length, ◌∙◌, ap, arith, refl}
+use Rattle.std.proofs.Common.{◌≡◌, ◌≢◌, ◌⊎◌, inl, inr, ℕ, zero, suc, ◌+◌, ◌-◌, ◌/◌, ◌<◌, ◌≤◌, List, length, ◌∙◌, ap, arith, refl}
 use Rattle.std.proofs.lemmas.List.{length-append}
 use Rattle.std.proofs.lemmas.Bool.{cases_lt, lt-ltb, le-ltb}
 use Rattle.storage_lines.specs.declared.lines.TheConstants.{STORAGE_BYTES, LINES}
@@ -99,7 +99,7 @@ some_writes at xs b size some few fits =
       | inr far ↦
           let left = few_more first 3 b now in
           let middle : count ((first + 3) + (last - 2 - (first + 3))) ≡ count (first + 3) = apart_lines at xs b (first + 3) (last - 2 - (first + 3)) size (omega arith)
-              (λ n i h g less e. elim (near i some few fits less).1 [ inl x ↦ omega arith | inr x ↦ omega arith ]) in
+          (λ n i h g less e. elim (near i some few fits less).1 [ inl x ↦ omega arith | inr x ↦ omega arith ]) in
           let e4 : (first + 3) + (last - 2 - (first + 3)) ≡ last - 2 = omega arith in
           let a2 : count ((first + 3) + (last - 2 - (first + 3))) ≡ count (last - 2) = ap count e4 in
           let right = few_more (last - 2) 3 b now in

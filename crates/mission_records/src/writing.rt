@@ -92,8 +92,8 @@ fn set_total(current: &[u8], number: u16, batch: &mut Batch) -> Result<(), SetEr
     set_whole(current, &vehicle_table(), TOTAL_INDEX, whole, batch)
 }
 
-/// Appends the writes that begin a mission, which has no commands: MIS_TOTAL becomes 0, and then the
-/// version is written.
+/// Appends the writes that begin a mission, which has no commands: MIS_TOTAL becomes 0, and then
+/// the version is written.
 pub fn begin(current: &[u8], batch: &mut Batch)
     requires size { length current.now ≡ STORAGE_BYTES }
     requires room { array_vec_len batch.old + MISSION_LINES ≤ BATCH_LINES }
@@ -134,12 +134,7 @@ pub fn clear(current: &[u8], batch: &mut Batch)
 ///
 /// `SetError::Full` comes where MIS_TOTAL has no record and none fits; it is never
 /// `SetError::Range`.
-pub fn put(
-    current: &[u8],
-    index: u16,
-    command: &Command,
-    batch: &mut Batch,
-) -> Result<(), SetError>
+pub fn put(current: &[u8], index: u16, command: &Command, batch: &mut Batch) -> Result<(), SetError>
     requires size { length current.now ≡ STORAGE_BYTES }
     requires index { index < CAPACITY }
     requires room { array_vec_len batch.old + MISSION_LINES ≤ BATCH_LINES }

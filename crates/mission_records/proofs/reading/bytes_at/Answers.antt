@@ -1,4 +1,4 @@
-use Rattle.std.proofs.Common.{◌≡◌, ℕ, ◌+◌, ◌*◌, arith, ◌∙◌, ap, List, length, take, drop}
+use Rattle.std.proofs.Common.{ℕ, arith, ◌∙◌, ap, take, drop}
 use Rattle.storage_lines.specs.declared.areas.Area.TheVariants.{Mission}
 use Rattle.storage_lines.proofs.PieceLemmas.{length-area}
 use Rattle.mission_records.specs.Mission.{mission_area, place_of_command}

@@ -1,7 +1,6 @@
-use Rattle.std.proofs.Common.{◌≡◌, min, sym, ◌∙◌, ap, subst, List, Some, rules}
-use Rattle.std.specs.Prelude.{slice_get, IfSome}
+use Rattle.std.proofs.Common.{◌≡◌, min, sym, ◌∙◌, ap, List, Some, rules}
+use Rattle.std.specs.Prelude.{slice_get}
 use Rattle.param_tree.specs.declared.Var.{Var}
-use Rattle.param_tree.specs.Rows.{vehicle_rows}
 use Rattle.param_records.specs.declared.values.Value.{Value}
 use Rattle.param_records.specs.Values.{params_of}
 use Rattle.param_records.proofs.SetLemmas.{is_some}
@@ -9,7 +8,6 @@ use Rattle.mission_records.specs.declared.reading.TheConstants.{CAPACITY}
 use Rattle.mission_records.specs.Mission.{total_row, count_of}
 use Rattle.mission_records.proofs.Commands.{total_is}
 use Rattle.mission_records.proofs.Totals.{total_there}
-use Rattle.mission_records.proofs.ReadLemmas.{total_none}
 use Rattle.mission_records.proofs.reading.total.Goals as goal
 
 pub returns-clause-total : goal.returns-clause-total

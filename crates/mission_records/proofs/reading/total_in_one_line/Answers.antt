@@ -1,8 +1,7 @@
-use Rattle.std.proofs.Common.{◌≡◌, ℕ, ◌∙◌, ap, sym, arith, Some, None}
+use Rattle.std.proofs.Common.{◌∙◌, ap, sym, arith}
 use Rattle.storage_lines.specs.Bytes.{IsBytes}
 use Rattle.param_tree.specs.declared.Var.{Var}
 use Rattle.param_records.specs.Steps.{place_of_row}
-use Rattle.mission_records.specs.Mission.{total_row}
 use Rattle.mission_records.proofs.ReadLemmas.{one_line_test, no_total}
 use Rattle.mission_records.proofs.Setting.{row_is_total}
 use Rattle.mission_records.proofs.reading.total_in_one_line.Goals as goal

@@ -1,6 +1,5 @@
 use Rattle.std.proofs.Common.{◌≡◌, ℕ, ◌+◌, ◌*◌, ◌++◌, List, ◌∙◌, ap, arith}
 use Rattle.storage_lines.specs.declared.areas.Area.TheVariants.{Mission}
-use Rattle.storage_lines.specs.declared.lines.LineWrite.{LineWrite}
 use Rattle.storage_lines.specs.Lines.{after}
 use Rattle.storage_lines.specs.Pieces.{writes_of_piece}
 use Rattle.param_tree.specs.Rows.{vehicle_rows}

@@ -7,8 +7,7 @@ use Rattle.mission_records.proofs.writing.set_total.Goals as goal
 
 pub set_whole-requires : goal.set_whole-requires
 set_whole-requires c =
-    let rows = c.vehicle_table.result in
-    (
+    let rows = c.vehicle_table.result in (
       omega arith,
       (
         c.requires.size,
