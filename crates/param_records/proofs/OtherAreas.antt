@@ -75,7 +75,7 @@ header_fits p head long fits =
       ]
     ]
 
-append_fits : (p : ℕ) (r : Record) → p + 8 + length r.value ≤ PARAM_BYTES → All IsParamPiece (appending p r)
+pub append_fits : (p : ℕ) (r : Record) → p + 8 + length r.value ≤ PARAM_BYTES → All IsParamPiece (appending p r)
 append_fits p r fits =
     let head = header_pieces p (four_bytes (header r)) in
     All-cons IsParamPiece (piece (p + 4 + length r.value) sentinel) (piece (p + 4) r.value ∷ head) (record { area = refl; fits = omega arith })

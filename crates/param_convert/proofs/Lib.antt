@@ -1,0 +1,5 @@
+pub mod VehicleRules
+pub mod NewRows
+pub mod OldValues
+pub mod Due
+pub mod ConvertSteps
