@@ -1,4 +1,5 @@
-//! Sessions of a node, over boards in memory: each loss of power, and what two stations are sent.
+//! Sessions of a node, over boards in memory: each loss of power in sets and uploads, and what two
+//! stations are sent.
 #![tactic(auto)]
 
 #[cfg(test)]
