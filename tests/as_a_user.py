@@ -483,6 +483,23 @@ class AsAUser(unittest.TestCase):
                 self.assertEqual(self.items_of(vehicle, FENCE), before)
             self.ended(vehicle)
 
+    def test_polygons_have_three_to_fifty_one_vertices(self):
+        def polygon(count):
+            return [Item(5001, 0, (float(count), 0.0, 0.0, 0.0), 473977420 + place, 85455970) for place in range(count)]
+
+        with self.served() as vehicle:
+            station = vehicle.ready()
+            for count in (3, 51):
+                self.assertEqual(self.begin(station, FENCE, polygon(count), count), 0)
+                self.assertEqual(self.items_of(vehicle, FENCE), polygon(count))
+            # the first vertex says a count that no polygon has
+            self.assertEqual(self.begin(station, FENCE, polygon(2), 1), 6)
+            self.assertEqual(self.begin(station, FENCE, polygon(52), 0), 4)
+            # the counts of a polygon's vertices differ
+            self.assertEqual(self.begin(station, FENCE, [*polygon(3)[:2], *polygon(4)[2:3]], 3), 5)
+            self.assertEqual(self.items_of(vehicle, FENCE), polygon(51))
+            self.ended(vehicle)
+
     def test_a_fence_is_uploaded_kept_downloaded_and_cleared(self):
         lines = [HOME_LINE, *(f"{number} 0 3 5002 3 0 0 0 {place} 0 1" for number, place in
                               enumerate(("47.1 8.1", "47.2 8.1", "47.1 8.2"), 1)),
