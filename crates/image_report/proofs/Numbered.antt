@@ -1,5 +1,5 @@
 -- The lines of a list's elements, by their indices.
-use Rattle.std.proofs.Common.{◌≡◌, ◌≤◌, ℕ, zero, suc, ◌+◌, ◌<◌, ◌++◌, List, [], ◌∷◌, Some, None, refl, sym, ◌∙◌, ap, subst, arith, take, drop, length}
+use Rattle.std.proofs.Common.{◌≡◌, ◌≤◌, ℕ, zero, suc, ◌+◌, ◌++◌, List, [], ◌∷◌, Some, refl, sym, ◌∙◌, ap, arith, take, drop, length}
 use Rattle.std.specs.Prelude.{slice_get, Result, Ok, Err, IsErrAnd}
 use Rattle.std.specs.List.{flat_map, enumerate_from}
 use Rattle.std.proofs.lemmas.List.{append-nil, take-append-drop, take_more, take_all}
