@@ -119,9 +119,10 @@ class AsAUser(unittest.TestCase):
         self.assertEqual(status, 0)
         self.assertEqual(lines[:3], ["image 16384 guard 0 alone", "param FORMAT_VERSION i16 120",
                                      "param RTL_ALT i32 1700"])
-        self.assertEqual(len(lines), 1 + ROWS + 1 + 1)
+        self.assertEqual(lines[241:243], ["mission 0", "fence 0"])
+        self.assertEqual(len(lines), 1 + ROWS + 2 + 1 + 1)
         # an independent reader of the format finds the same storage bytes
-        self.assertEqual(lines[241], f"sha256 {image.digest(image.storage_of(before))}")
+        self.assertEqual(lines[243], f"sha256 {image.digest(image.storage_of(before))}")
         with open(self.image, "rb") as file:
             self.assertEqual(file.read(), before)
 

@@ -25,6 +25,15 @@ const VERSION_121: [u16; 12] = [
     0x5BFE, 0x5168, 0x0004, 0x0079, 0xFFFF, 0x003F, 0x0000, 0x0000, 0x4150, 0x0006, 0x0200, 0x0000,
 ];
 
+// A sector in use with a mission of one waypoint and a fence of one circle: entries of lines 0 and 1,
+// where MIS_TOTAL is 1, of lines 160 to 162, and of lines 492 to 494.
+const MISSION_AND_FENCE: [u16; 37] = [
+    0x5BFE, 0x5168, 0x2000, 0x4150, 0x0006, 0x4214, 0x0000, 0x0001, 0xFFFF, 0x003F, 0x0000, 0x4280,
+    0x65AE, 0x0000, 0x0510, 0x0100, 0x0BE8, 0x4C00, 0x4052, 0x621C, 0x17F4, 0x0005, 0x0000, 0x0000,
+    0x47B0, 0x00EB, 0x0000, 0x4C5C, 0x4052, 0x621C, 0x17F4, 0x0005, 0xC800, 0x6342, 0x0000, 0x0000,
+    0x0000,
+];
+
 // A board, attached by the call with the number 0, with an image of 16,384-byte sectors that begin
 // with these halfwords.
 fn attached(
@@ -131,10 +140,26 @@ fn dumps_a_stored_parameter_and_the_defaults(rt: HostRuntime) -> Result<(), Fail
     );
     assert!(rt;
         text.ends_with(
-            b"\nparam RC16_OPTION i16 0\nsha256 4e5543722d59094574e27e4bda1557b46c94e177d9248778787b2730e4257920\n"
+            b"\nparam RC16_OPTION i16 0\nmission 0\nfence 0\nsha256 4e5543722d59094574e27e4bda1557b46c94e177d9248778787b2730e4257920\n"
         )
     );
-    assert_eq!(rt; text.iter().filter(|byte| **byte == b'\n').count(), 242);
+    assert_eq!(rt; text.iter().filter(|byte| **byte == b'\n').count(), 244);
+    Ok(())
+}
+
+#[test]
+fn dumps_a_mission_and_a_fence(rt: HostRuntime) -> Result<(), Fail> {
+    let text = dumped(rt.alloc(), &MISSION_AND_FENCE, &AVAILABLE, &[])?;
+    let total = b"\nparam MIS_TOTAL i16 1\n";
+    assert!(rt;
+        text.windows(total.len())
+            .any(|part| part == total.as_slice())
+    );
+    assert!(rt;
+        text.ends_with(
+            b"\nparam RC16_OPTION i16 0\nmission 1\ncommand 0 16 5 01E80B004C52401C62F41705\nfence 1\nfence 0 5003 473977420 85455970 42C80000\nsha256 ccd7248904735ce63732ead5f49834b45e0549a111b53108f038adac3731a424\n"
+        )
+    );
     Ok(())
 }
 
@@ -143,7 +168,9 @@ fn dumps_the_digest_of_zeros(rt: HostRuntime) -> Result<(), Fail> {
     let text = dumped(rt.alloc(), &[0x1234], &IN_USE, &[0])?;
     assert!(rt; text.starts_with(b"image 16384 guard 1 voided\nparam FORMAT_VERSION i16 120\n"));
     assert!(rt;
-        text.ends_with(b"sha256 0299f757a85a1aad6cbe1ad2b0eda925d8df667cd04e646af8917f65cbf24537\n")
+        text.ends_with(
+            b"\nmission 0\nfence 0\nsha256 0299f757a85a1aad6cbe1ad2b0eda925d8df667cd04e646af8917f65cbf24537\n"
+        )
     );
     Ok(())
 }

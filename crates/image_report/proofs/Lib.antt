@@ -4,3 +4,4 @@ pub mod Pieces
 pub mod Found
 pub mod TextLaws
 pub mod Answering
+pub mod Numbered

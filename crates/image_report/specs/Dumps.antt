@@ -6,12 +6,17 @@
 --     ..
 --     param FENCE_ALT_MAX f32 42C80000
 --     ..
+--     mission 1
+--     command 0 16 5 01E80B004C52401C62F41705
+--     fence 1
+--     fence 0 5003 473977420 85455970 42C80000
 --     sha256 H
 --
--- with a line for each parameter, and 64 lower-case digits for H.
+-- with a line for each parameter, each command of the mission and each item of the fence, and 64
+-- lower-case digits for H.
 use Rattle.std.specs.Prelude.{◌≡◌, ℕ, ◌*◌, List, ◌++◌, length, codes, decimal}
 use Rattle.std.specs.Fmt.{signed_decimal}
-use Rattle.std.specs.List.{flat_map}
+use Rattle.std.specs.List.{flat_map, enumerate_from}
 use Rattle.std.specs.Int.{to_be_bytes, w32}
 use Rattle.hex.specs.Hex.{encode_upper, encode_lower}
 use Rattle.sha2.specs.Sha256.{sha256}
@@ -27,6 +32,10 @@ use Rattle.param_tree.specs.Rows.{vehicle_rows}
 use Rattle.param_records.specs.declared.values.Value.{Value}
 use Rattle.param_records.specs.declared.values.Value.TheVariants.{Whole, Bits}
 use Rattle.param_records.specs.Values.{params_of}
+use Rattle.mission_commands.specs.declared.commands.Command.{Command}
+use Rattle.mission_records.specs.Mission.{mission_of}
+use Rattle.fence_records.specs.declared.items.FenceItem.{FenceItem}
+use Rattle.fence_records.specs.Lists.{fence_of}
 use Rattle.printed_text.specs.Pieces.{with_newline}
 use Rattle.image_report.specs.Texts.{size_text, shape_name}
 
@@ -56,9 +65,44 @@ param_line bytes row = param_text row (params_of bytes row)
 unfoldable pub param_lines : List ℕ → List ℕ
 param_lines bytes = flat_map (param_line bytes) vehicle_rows
 
--- What the storage bytes hold, section after section. The parameters are the only section so far.
+-- a line for each element of a list, by its index and itself
+unfoldable pub numbered_lines : {X : Type 0} → (ℕ → X → List ℕ) → List X → List ℕ
+numbered_lines line xs = flat_map (λ p. line p.0 p.1) (enumerate_from 0 xs)
+
+-- `mission 1`, the number of commands
+abbrev pub mission_line : ℕ → List ℕ
+mission_line count = with_newline (codes "mission " ++ decimal count)
+
+-- `command 0 16 5 01E80B004C52401C62F41705`: the index, the command's number, p1, and the twelve
+-- bytes of content in upper-case hexadecimal digits
+abbrev pub command_line : ℕ → Command → List ℕ
+command_line index c = with_newline (codes "command " ++ decimal index ++ codes " "
+    ++ decimal c.id ++ codes " " ++ decimal c.p1 ++ codes " " ++ encode_upper c.content)
+
+-- the stored mission, a line for each command
+unfoldable pub mission_lines : List ℕ → List ℕ
+mission_lines bytes = mission_line (length (mission_of bytes))
+    ++ numbered_lines command_line (mission_of bytes)
+
+-- `fence 1`, the number of items
+abbrev pub fence_line : ℕ → List ℕ
+fence_line count = with_newline (codes "fence " ++ decimal count)
+
+-- `fence 0 5003 473977420 85455970 42C80000`: the index, the item's number, latitude and longitude
+-- in 1e-7 degree, and the pattern of its param1
+abbrev pub fence_item_line : ℕ → FenceItem → List ℕ
+fence_item_line index item = with_newline (codes "fence " ++ decimal index ++ codes " "
+    ++ decimal item.command ++ codes " " ++ signed_decimal item.x ++ codes " "
+    ++ signed_decimal item.y ++ codes " " ++ encode_upper (to_be_bytes w32 item.param1))
+
+-- the stored fence, a line for each item
+unfoldable pub fence_lines : List ℕ → List ℕ
+fence_lines bytes = fence_line (length (fence_of bytes))
+    ++ numbered_lines fence_item_line (fence_of bytes)
+
+-- what the storage bytes hold, section after section
 abbrev pub stored_text : List ℕ → List ℕ
-stored_text bytes = param_lines bytes
+stored_text bytes = param_lines bytes ++ (mission_lines bytes ++ fence_lines bytes)
 
 -- `image 16384 guard 0 alone`
 abbrev pub head_line : ℕ → ℕ → Shape → List ℕ

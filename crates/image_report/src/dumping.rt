@@ -14,7 +14,9 @@ ghost use Rattle.image_report.specs.Writes.{WritesOne, WritesPrefix};
 ghost use Rattle.image_report.specs.Steps.Writes.{Writes};
 
 use crate::ReportError;
+use crate::fence::write_fence;
 use crate::lines::{push_size, shape_name};
+use crate::mission::write_mission;
 use crate::output::write;
 use crate::params::write_params;
 use flash_traits::{Board, Failed, Sink};
@@ -59,7 +61,9 @@ fn write_stored<K: Sink>(out: &mut K, bytes: &[u8]) -> Result<(), Failed>
     requires { length bytes.now ≡ storage_bytes }
     ensures { Writes K.Sink out.old out.new result (stored_text bytes.now) }
 {
-    write_params(out, bytes)
+    write_params(out, bytes)?;
+    write_mission(out, bytes)?;
+    write_fence(out, bytes)
 }
 
 /// Writes the whole text.
@@ -79,8 +83,8 @@ fn write_dump<K: Sink>(
     write(out, digest_line(bytes).as_slice())
 }
 
-/// Prints what an image stands for: its sector size, guard count and state, its parameters, and the
-/// digest of its storage bytes. Nothing is programmed.
+/// Prints what an image stands for: its sector size, guard count and state, its parameters, its
+/// mission, its fence, and the digest of its storage bytes. Nothing is programmed.
 ///
 /// The image is read before the first byte is written.
 pub fn dump<B: Board, K: Sink>(alloc: Global, board: &mut B, out: &mut K) -> Result<(), ReportError>

@@ -7,9 +7,11 @@
 
 mod dumping;
 mod errors;
+mod fence;
 mod findings;
 mod laws;
 mod lines;
+mod mission;
 mod output;
 mod params;
 mod reporting;
