@@ -1,0 +1,101 @@
+//! The mission protocol of MAVLink over the stored mission and the stored fence: uploads,
+//! downloads and clearing.
+#![tactic(auto)]
+
+ghost use Rattle.std.specs.Prelude.{◌≡◌, ◌<◌, ◌≤◌, ◌+◌, ◌++◌, [], ℕ, List, Option, length, take};
+ghost use Rattle.arrayvec.specs.ArrayVec.{array_vec_len};
+ghost use Rattle.storage_lines.specs.declared.lines.TheConstants.{STORAGE_BYTES, BATCH_LINES};
+ghost use Rattle.storage_lines.specs.Bytes.{AreInside};
+ghost use Rattle.storage_lines.specs.Lines.{after};
+ghost use Rattle.param_records.specs.Steps.{HasMagic};
+ghost use Rattle.mav_messages.specs.declared.messages.Reply.{Reply};
+ghost use Rattle.mission_service.specs.Uploads.{no_uploads};
+ghost use Rattle.mission_service.specs.Requests.{Asking, Asks};
+ghost use Rattle.mission_service.specs.Service.{did, idle};
+ghost use Rattle.mission_service.specs.Replies.{target_of, AreRepliesOf, IsAnswered};
+
+mod laws;
+mod replies;
+mod requests;
+mod uploads;
+
+use arrayvec::ArrayVec;
+use fence_records::FenceItem;
+pub use laws::{asks_one_thing, asks_what_fits};
+use mav_messages::{Message, Replies, Sender};
+use std::marker::Model;
+use storage_lines::{BATCH_LINES, Batch, STORAGE_BYTES};
+use uploads::{FENCE_ITEMS, Uploads};
+
+/// The stations that a vehicle tells apart.
+const STATIONS: usize = 8;
+
+/// The uploads of the mission and of the fence, with the items that came so far of a fence's open
+/// one.
+#[derive(Drop)]
+pub struct MissionState {
+    mission: Uploads,
+    fence: Uploads,
+    kept: ArrayVec<FenceItem, FENCE_ITEMS>,
+}
+
+impl Model for MissionState {
+    ghost use Rattle.mission_service.specs.Uploads.{Missions};
+    ghost use Rattle.mission_service.specs.Inside.{IsState, missions_seen};
+
+    ghost Value = { Missions };
+
+    ghost view = { λ state. missions_seen state.mission state.fence state.kept.items };
+
+    ghost invariant = { λ state. IsState state.mission state.fence state.kept.items };
+}
+
+impl MissionState {
+    /// No upload is open, and none is finished.
+    pub fn new() -> MissionState
+        ensures { result ≡ no_uploads }
+    {
+        MissionState {
+            mission: Uploads::Quiet,
+            fence: Uploads::Quiet,
+            kept: ArrayVec::new(),
+        }
+    }
+}
+
+/// Answers a message of a station over the current storage bytes: MISSION_COUNT, MISSION_ITEM_INT,
+/// MISSION_CLEAR_ALL, MISSION_REQUEST_LIST, MISSION_REQUEST_INT, MISSION_REQUEST and MISSION_ACK of
+/// MAVLink's mission protocol. Any other message has no answer. `allowed` is how many lines may
+/// still be issued while the vehicle is armed, and None where it isn't.
+pub fn answer(
+    state: &mut MissionState,
+    current: &[u8],
+    allowed: Option<u32>,
+    from: Sender,
+    message: &Message,
+    batch: &mut Batch,
+    replies: &mut Replies,
+)
+    requires size { length current.now ≡ STORAGE_BYTES }
+    requires station { from.station < STATIONS }
+    requires batch { batch.old.items ≡ [] }
+    requires replies { replies.old.items ≡ [] }
+    ensures answered { (asked : Option Asking) × Asks message.now asked × IsAnswered
+        (did current.now allowed state.old from.station (target_of from) asked)
+        from.station state.new batch.new.items replies.new.items }
+    ensures inside { AreInside batch.new.items }
+    ensures few { length batch.new.items ≤ BATCH_LINES }
+    ensures magic { HasMagic current.now
+        → (j : ℕ) → HasMagic (after current.now (take j batch.new.items)) }
+{}
+
+/// A station's idle turn: it is asked again for the next item of each upload that it has open, and
+/// the eighth turn in a row without an item closes the upload.
+pub fn idle(state: &mut MissionState, station: u8, replies: &mut Replies)
+    requires station { station < STATIONS }
+    requires room { array_vec_len replies.old ≤ 1 }
+    ensures next { state.new ≡ (idle state.old station).missions }
+    ensures told { (more : List Reply) × (replies.new.items ≡ replies.old.items ++ more)
+        × AreRepliesOf station (idle state.old station).told more }
+    ensures few { array_vec_len replies.new ≤ array_vec_len replies.old + 2 }
+{}
