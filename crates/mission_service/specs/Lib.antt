@@ -4,3 +4,4 @@ pub mod Service
 pub mod Replies
 pub mod Asked
 pub mod Inside
+pub mod Steps
