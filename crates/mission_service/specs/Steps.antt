@@ -1,6 +1,9 @@
 -- What the parts of an answer do.
 use Rattle.std.specs.Prelude.{◌≡◌, ℕ, List, [], Option, Result, Ok, Err, ⊤}
 use Rattle.storage_lines.specs.declared.lines.LineWrite.{LineWrite}
+use Rattle.storage_lines.specs.Bytes.{AreInside}
+use Rattle.storage_lines.specs.Lines.{EachPrefix}
+use Rattle.param_records.specs.Steps.{HasMagic}
 use Rattle.fence_records.specs.declared.items.FenceItem.{FenceItem}
 use Rattle.mission_service.specs.Uploads as model
 use Rattle.mission_service.specs.Uploads.{MissionType, Missions}
@@ -11,6 +14,11 @@ use Rattle.mission_service.specs.declared.uploads.Upload.{Upload}
 use Rattle.mission_service.specs.declared.uploads.Uploads.{Uploads}
 use Rattle.mission_service.specs.declared.uploads.Uploads.TheVariants as inner
 use Rattle.mission_service.specs.declared.uploads.Asker.{Asker}
+
+-- the lines are of the storage, and it has the parameters' magic still after each prefix of them
+pub record AreSafe (bytes : List ℕ) (writes : List LineWrite) : Type 0 where
+  pub inside : AreInside writes
+  pub magic : HasMagic bytes → EachPrefix HasMagic bytes writes
 
 -- Whatever is given as an item with this number, it is taken or refused as the next one of the open
 -- upload.

@@ -1,15 +1,15 @@
 //! MISSION_COUNT and MISSION_CLEAR_ALL: an upload is opened, or types are cleared.
 ghost use Rattle.std.specs.Prelude.{◌≡◌, ◌<◌, ◌≤◌, [], length};
 ghost use Rattle.arrayvec.specs.ArrayVec.{array_vec_len};
-ghost use Rattle.storage_lines.specs.Bytes.{AreInside};
 ghost use Rattle.mission_service.specs.Uploads.{uploads_of, with_uploads};
-ghost use Rattle.mission_service.specs.Service.{exceeds, is_anothers, any_anothers, all_quiet, most_of, first_writes, clear_writes, cleared, begun, opened, does};
+ghost use Rattle.mission_service.specs.Service.{exceeds, is_anothers, any_anothers, all_quiet, most_of, first_writes, type_writes, clear_writes, cleared, begun, opened, does};
 ghost use Rattle.mission_service.specs.Inside.{from_seen, types_seen};
+ghost use Rattle.mission_service.specs.Steps.{AreSafe};
 
+use crate::MissionState;
 use crate::replies::{ACCEPTED, Content, DENIED, NO_SPACE};
 use crate::requests::MissionType;
 use crate::uploads::{Asker, FENCE_ITEMS, Upload, Uploads, is_anothers};
-use crate::{MissionState, stored};
 use mission_records::CAPACITY;
 use storage_lines::{Batch, STORAGE_BYTES};
 
@@ -46,16 +46,28 @@ fn is_any_anothers(state: &MissionState, types: Option<MissionType>, station: u8
     }
 }
 
+/// Gives the lines that clear a type.
+fn clear_type(kind: MissionType, current: &[u8], batch: &mut Batch)
+    requires size { length current.now ≡ STORAGE_BYTES }
+    requires batch { batch.old.items ≡ [] }
+    ensures writes { batch.new.items ≡ type_writes kind current.now }
+    ensures safe { AreSafe current.now batch.new.items }
+{
+    match kind {
+        MissionType::Mission => mission_records::clear(current, batch),
+        MissionType::Fence => fence_records::clear(current, batch),
+    }
+}
+
 /// Gives the lines that clear a type, or all.
 fn clear_lines(types: Option<MissionType>, current: &[u8], batch: &mut Batch)
     requires size { length current.now ≡ STORAGE_BYTES }
     requires batch { batch.old.items ≡ [] }
     ensures writes { batch.new.items ≡ clear_writes current.now (types_seen types) }
-    ensures inside { AreInside batch.new.items }
+    ensures safe { AreSafe current.now batch.new.items }
 {
     match types {
-        Some(MissionType::Mission) => mission_records::clear(current, batch),
-        Some(MissionType::Fence) => fence_records::clear(current, batch),
+        Some(kind) => clear_type(kind, current, batch),
         None => {
             mission_records::clear(current, batch);
             fence_records::clear(current, batch);
@@ -90,7 +102,7 @@ pub fn clear(
     requires batch { batch.old.items ≡ [] }
     ensures cleared { cleared current.now allowed state.old (from_seen asker.now) (types_seen types)
         ≡ does (from_seen asker.now) state.new batch.new.items result }
-    ensures inside { AreInside batch.new.items }
+    ensures safe { AreSafe current.now batch.new.items }
 {
     if is_any_anothers(state, types, asker.station) {
         return Content::Answer(DENIED);
@@ -119,7 +131,7 @@ fn first_lines(kind: MissionType, current: &[u8], batch: &mut Batch)
     requires size { length current.now ≡ STORAGE_BYTES }
     requires batch { batch.old.items ≡ [] }
     ensures writes { batch.new.items ≡ first_writes kind current.now }
-    ensures inside { AreInside batch.new.items }
+    ensures safe { AreSafe current.now batch.new.items }
 {
     match kind {
         MissionType::Mission => mission_records::begin(current, batch),
@@ -163,7 +175,7 @@ pub fn begin(
     requires batch { batch.old.items ≡ [] }
     ensures begun { begun current.now allowed state.old (from_seen asker.now) kind count
         ≡ does (from_seen asker.now) state.new batch.new.items result }
-    ensures inside { AreInside batch.new.items }
+    ensures safe { AreSafe current.now batch.new.items }
 {
     if is_anothers_of(state, kind, asker.station) {
         return Content::Answer(DENIED);

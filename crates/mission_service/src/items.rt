@@ -1,20 +1,19 @@
 //! MISSION_ITEM_INT: the next item of an upload is taken or refused.
 ghost use Rattle.std.specs.Prelude.{◌≡◌, ◌<◌, ◌≤◌, ◌+◌, [], length, OnOk, Result};
-ghost use Rattle.storage_lines.specs.Bytes.{AreInside};
 ghost use Rattle.fence_records.specs.Lists.{replace_writes};
 ghost use Rattle.mission_service.specs.Uploads as model;
 ghost use Rattle.mission_service.specs.Uploads.{uploads_of};
 ghost use Rattle.mission_service.specs.Requests as asks;
 ghost use Rattle.mission_service.specs.Service.{given_to, does};
 ghost use Rattle.mission_service.specs.Inside.{from_seen, upload_of};
-ghost use Rattle.mission_service.specs.Steps.{IsTaken, IsWritten};
+ghost use Rattle.mission_service.specs.Steps.{AreSafe, IsTaken, IsWritten};
 
+use crate::MissionState;
 use crate::counts::exceeds;
 use crate::replies::{Content, NO_SPACE};
 use crate::uploads::{
     Asker, FENCE_ITEMS, Upload, Uploads, after_item, expected_by, is_last, told_after,
 };
-use crate::{MissionState, stored};
 use arrayvec::ArrayVec;
 use fence_records::{FenceItem, check, write};
 use mission_commands::Command;
@@ -22,6 +21,7 @@ use mission_records::CAPACITY;
 use storage_lines::{Batch, STORAGE_BYTES};
 
 /// Gives the lines that put the command of the next item, or says why it isn't taken.
+#[tactic(auto, using(crate::proofs::Safe::none_safe))]
 fn take_command(
     current: &[u8],
     allowed: Option<u32>,
@@ -34,20 +34,21 @@ fn take_command(
     requires batch { batch.old.items ≡ [] }
     ensures taken { IsTaken current.now allowed (upload_of [] upload.now) (asks.ForMission given)
         result batch.new.items [] }
-    ensures inside { AreInside batch.new.items }
+    ensures safe { AreSafe current.now batch.new.items }
 {
     let command = given?;
-    if mission_records::put(current, upload.expected, &command, batch).is_err() {
-        return Err(NO_SPACE);
+    match mission_records::put(current, upload.expected, &command, batch) {
+        Ok(()) if exceeds(allowed, batch) => {
+            batch.clear();
+            Err(NO_SPACE)
+        }
+        Ok(()) => Ok(()),
+        Err(_) => Err(NO_SPACE),
     }
-    if exceeds(allowed, batch) {
-        batch.clear();
-        return Err(NO_SPACE);
-    }
-    Ok(())
 }
 
 /// Gives the lines that write a fence's items, or says why they aren't taken.
+#[tactic(auto, using(crate::proofs::Safe::none_safe, crate::proofs::Taking::no_fence))]
 fn write_fence(
     current: &[u8],
     allowed: Option<u32>,
@@ -58,7 +59,7 @@ fn write_fence(
     requires batch { batch.old.items ≡ [] }
     ensures written { IsWritten allowed (replace_writes current.now items.now)
         result batch.new.items }
-    ensures inside { AreInside batch.new.items }
+    ensures safe { AreSafe current.now batch.new.items }
 {
     check(items)?;
     write(current, items, batch)?;
@@ -87,7 +88,7 @@ fn take_fence_item(
         (asks.ForFence given) result batch.new.items kept.new.items }
     ensures kept { OnOk result (upload.now.expected + 1 < upload.now.count
         → length kept.new.items ≡ length kept.old.items + 1) }
-    ensures inside { AreInside batch.new.items }
+    ensures safe { AreSafe current.now batch.new.items }
 {
     let item = given?;
     kept.push(item);
@@ -114,7 +115,7 @@ pub fn give_command(
     ensures given { given_to current.now allowed state.old (from_seen asker.now) model.Mission seq
         (asks.ForMission given) (uploads_of model.Mission state.old)
         ≡ does (from_seen asker.now) state.new batch.new.items result }
-    ensures inside { AreInside batch.new.items }
+    ensures safe { AreSafe current.now batch.new.items }
 {
     let upload = match expected_by(&state.mission, asker, seq) {
         Ok(upload) => upload,
@@ -147,7 +148,7 @@ pub fn give_fence_item(
     ensures given { given_to current.now allowed state.old (from_seen asker.now) model.Fence seq
         (asks.ForFence given) (uploads_of model.Fence state.old)
         ≡ does (from_seen asker.now) state.new batch.new.items result }
-    ensures inside { AreInside batch.new.items }
+    ensures safe { AreSafe current.now batch.new.items }
 {
     let upload = match expected_by(&state.fence, asker, seq) {
         Ok(upload) => upload,

@@ -13,6 +13,7 @@ ghost use Rattle.mission_service.specs.Uploads.{no_uploads};
 ghost use Rattle.mission_service.specs.Requests.{Asking, Asks};
 ghost use Rattle.mission_service.specs.Service.{answered, did, idle};
 ghost use Rattle.mission_service.specs.Inside.{from_seen, request_seen, done_for};
+ghost use Rattle.mission_service.specs.Steps.{AreSafe};
 ghost use Rattle.mission_service.specs.Replies.{target_of, AreRepliesOf, IsAnswered};
 
 mod counts;
@@ -84,7 +85,7 @@ fn serve(
     ensures done { answered current.now allowed state.old (from_seen asker.now)
         (request_seen request.now)
         ≡ done_for (from_seen asker.now) state.new batch.new.items result }
-    ensures inside { AreInside batch.new.items }
+    ensures safe { AreSafe current.now batch.new.items }
 {
     match request {
         Request::Begin(kind, count) => Some(counts::begin(
@@ -143,7 +144,9 @@ pub fn answer(
         },
         number: asking.number,
     };
-    if let Some(content) = serve(state, current, allowed, &asker, &asking.request, batch) {
+    let told = serve(state, current, allowed, &asker, &asking.request, batch);
+    prove!(batch.len() <= BATCH_LINES);
+    if let Some(content) = told {
         replies.push(reply(asker.station, asker.target, asker.number, &content));
     }
 }
