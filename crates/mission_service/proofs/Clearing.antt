@@ -7,7 +7,7 @@ use Rattle.mission_records.specs.Mission.{total_writes}
 use Rattle.fence_records.specs.Lists as fence
 use Rattle.mission_service.specs.Uploads.{MissionType, Mission, Fence}
 use Rattle.mission_service.specs.Service.{type_writes, clear_writes}
-use Rattle.mission_service.specs.Inside.{types_seen}
+use Rattle.mission_service.specs.Steps.Inside.{types_seen}
 
 -- what is appended to an empty batch
 pub from_empty : (b : List ℕ) (f : List ℕ → List LineWrite) (old new : List LineWrite) → old ≡ [] → new ≡ old ++ f (after b old) → new ≡ f b

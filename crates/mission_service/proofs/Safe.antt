@@ -31,7 +31,7 @@ use Rattle.fence_records.specs.Write.{encoded, without_fence, with_records, with
 use Rattle.fence_records.specs.Lists.{clear_writes, replace_writes}
 use Rattle.fence_records.proofs.Steps.{length-cleared, length-behind}
 use Rattle.fence_records.proofs.Replaces.{replaced}
-use Rattle.mission_service.specs.Steps.{AreSafe}
+use Rattle.mission_service.specs.Steps.Parts.{AreSafe}
 
 -- formatted bytes stay so
 abbrev StaysSo : List ℕ → List LineWrite → Type 0

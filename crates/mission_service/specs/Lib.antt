@@ -3,5 +3,4 @@ pub mod Requests
 pub mod Service
 pub mod Replies
 pub mod Asked
-pub mod Inside
 pub mod Steps

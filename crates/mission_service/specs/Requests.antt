@@ -15,6 +15,7 @@ pub data Given : Type 0 where
   ForMission : (stored : Result Command ℕ) → Given
   ForFence : (stored : Result FenceItem ℕ) → Given
 
+-- the type of what is given
 abbrev pub type_of_given : Given → MissionType
 type_of_given (ForMission r) = Mission
 type_of_given (ForFence r) = Fence
@@ -35,6 +36,7 @@ pub record Asking : Type 0 where
   pub number : ℕ
   pub request : Request
 
+-- this is asked, of the type with this number
 abbrev pub ask : ℕ → Request → Option Asking
 ask number request = Some (record { number = number; request = request })
 

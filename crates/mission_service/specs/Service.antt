@@ -58,6 +58,7 @@ abbrev pub exceeds : Option ℕ → List LineWrite → Bool
 exceeds None writes = false
 exceeds (Some allowed) writes = nat_lt allowed (length writes)
 
+-- who asks is told this
 abbrev pub tells : From → Content → List Told
 tells from content = record { target = from.target; number = from.number; content = content } ∷ []
 
@@ -121,6 +122,7 @@ abbrev pub any_anothers : ℕ → Missions → List MissionType → Bool
 any_anothers station m [] = false
 any_anothers station m (t ∷ ts) = is_anothers station (uploads_of t m) || any_anothers station m ts
 
+-- no upload of these types is open, and none is finished
 abbrev pub all_quiet : Missions → List MissionType → Missions
 all_quiet m [] = m
 all_quiet m (t ∷ ts) = all_quiet (with_uploads t m Quiet) ts
@@ -143,6 +145,7 @@ begun bytes allowed m from t count = first_case
     ∷ [])
     (does from (with_uploads t m (opened from count)) (first_writes t bytes) (Next 0))
 
+-- the next item is the last one
 abbrev pub is_last : Upload → Bool
 is_last u = u.expected + 1 == u.count
 
@@ -267,6 +270,7 @@ all_idled station [] m = m
 all_idled station (t ∷ ts) m =
     all_idled station ts (with_uploads t m (idled station t (uploads_of t m)).0)
 
+-- what it is told of them
 abbrev pub all_reminded : ℕ → List MissionType → Missions → List Told
 all_reminded station [] m = []
 all_reminded station (t ∷ ts) m =

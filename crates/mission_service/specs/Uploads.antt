@@ -45,10 +45,12 @@ pub record Missions : Type 0 where
 abbrev pub no_uploads : Missions
 no_uploads = record { mission = Quiet; fence = Quiet }
 
+-- the uploads of a type
 abbrev pub uploads_of : MissionType → Missions → Uploads
 uploads_of Mission m = m.mission
 uploads_of Fence m = m.fence
 
+-- these become the uploads of a type
 abbrev pub with_uploads : MissionType → Missions → Uploads → Missions
 with_uploads Mission m u = record m { mission = u }
 with_uploads Fence m u = record m { fence = u }

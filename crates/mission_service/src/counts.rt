@@ -3,8 +3,8 @@ ghost use Rattle.std.specs.Prelude.{◌≡◌, ◌<◌, ◌≤◌, [], length};
 ghost use Rattle.arrayvec.specs.ArrayVec.{array_vec_len};
 ghost use Rattle.mission_service.specs.Uploads.{uploads_of, with_uploads};
 ghost use Rattle.mission_service.specs.Service.{exceeds, is_anothers, any_anothers, all_quiet, most_of, first_writes, type_writes, clear_writes, cleared, begun, opened, does};
-ghost use Rattle.mission_service.specs.Inside.{from_seen, types_seen};
-ghost use Rattle.mission_service.specs.Steps.{AreSafe};
+ghost use Rattle.mission_service.specs.Steps.Inside.{from_seen, types_seen};
+ghost use Rattle.mission_service.specs.Steps.Parts.{AreSafe};
 
 use crate::MissionState;
 use crate::replies::{ACCEPTED, Content, DENIED, NO_SPACE};

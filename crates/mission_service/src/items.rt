@@ -5,8 +5,8 @@ ghost use Rattle.mission_service.specs.Uploads as model;
 ghost use Rattle.mission_service.specs.Uploads.{uploads_of};
 ghost use Rattle.mission_service.specs.Requests as asks;
 ghost use Rattle.mission_service.specs.Service.{given_to, does};
-ghost use Rattle.mission_service.specs.Inside.{from_seen, upload_of};
-ghost use Rattle.mission_service.specs.Steps.{AreSafe, IsTaken, IsWritten};
+ghost use Rattle.mission_service.specs.Steps.Inside.{from_seen, upload_seen};
+ghost use Rattle.mission_service.specs.Steps.Parts.{AreSafe, IsTaken, IsWritten};
 
 use crate::MissionState;
 use crate::counts::exceeds;
@@ -32,7 +32,7 @@ fn take_command(
     requires size { length current.now ≡ STORAGE_BYTES }
     requires index { upload.now.expected < CAPACITY }
     requires batch { batch.old.items ≡ [] }
-    ensures taken { IsTaken current.now allowed (upload_of [] upload.now) (asks.ForMission given)
+    ensures taken { IsTaken current.now allowed (upload_seen [] upload.now) (asks.ForMission given)
         result batch.new.items [] }
     ensures safe { AreSafe current.now batch.new.items }
 {
@@ -84,7 +84,7 @@ fn take_fence_item(
     requires room { length kept.old.items < FENCE_ITEMS }
     requires next { upload.now.expected < upload.now.count }
     requires batch { batch.old.items ≡ [] }
-    ensures taken { IsTaken current.now allowed (upload_of kept.old.items upload.now)
+    ensures taken { IsTaken current.now allowed (upload_seen kept.old.items upload.now)
         (asks.ForFence given) result batch.new.items kept.new.items }
     ensures kept { OnOk result (upload.now.expected + 1 < upload.now.count
         → length kept.new.items ≡ length kept.old.items + 1) }

@@ -12,8 +12,8 @@ ghost use Rattle.mav_messages.specs.declared.messages.Reply.{Reply};
 ghost use Rattle.mission_service.specs.Uploads.{no_uploads};
 ghost use Rattle.mission_service.specs.Requests.{Asking, Asks};
 ghost use Rattle.mission_service.specs.Service.{answered, did, idle};
-ghost use Rattle.mission_service.specs.Inside.{from_seen, request_seen, done_for};
-ghost use Rattle.mission_service.specs.Steps.{AreSafe};
+ghost use Rattle.mission_service.specs.Steps.Inside.{from_seen, request_seen, done_for};
+ghost use Rattle.mission_service.specs.Steps.Parts.{AreSafe};
 ghost use Rattle.mission_service.specs.Replies.{target_of, AreRepliesOf, IsAnswered};
 
 mod counts;
@@ -49,7 +49,7 @@ pub struct MissionState {
 
 impl Model for MissionState {
     ghost use Rattle.mission_service.specs.Uploads.{Missions};
-    ghost use Rattle.mission_service.specs.Inside.{IsState, missions_seen};
+    ghost use Rattle.mission_service.specs.Steps.Inside.{IsState, missions_seen};
 
     ghost Value = { Missions };
 
@@ -164,3 +164,6 @@ pub fn idle(state: &mut MissionState, station: u8, replies: &mut Replies)
     turns::remind(&mut state.mission, MissionType::Mission, station, replies);
     turns::remind(&mut state.fence, MissionType::Fence, station, replies);
 }
+
+#[cfg(test)]
+mod tests;

@@ -4,7 +4,7 @@ ghost use Rattle.param_service.specs.Requests.{is_for};
 ghost use Rattle.mission_service.specs.Uploads.{number_of, type_of};
 ghost use Rattle.mission_service.specs.Requests as asks;
 ghost use Rattle.mission_service.specs.Requests.{Asks, IsGiven, ask, of_type, if_for, if_supported, types_of, operation_cancelled};
-ghost use Rattle.mission_service.specs.Inside.{asking_seen, request_seen};
+ghost use Rattle.mission_service.specs.Steps.Inside.{asking_seen, request_seen};
 
 use crate::replies::OPERATION_CANCELLED;
 use fence_records::{FenceItem, from_item};

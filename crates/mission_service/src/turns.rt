@@ -6,7 +6,7 @@ ghost use Rattle.mav_messages.specs.declared.messages.Reply.{Reply};
 ghost use Rattle.mission_service.specs.Uploads.{uploads_of, with_uploads};
 ghost use Rattle.mission_service.specs.Service.{idled, cancelled};
 ghost use Rattle.mission_service.specs.Replies.{AreRepliesOf};
-ghost use Rattle.mission_service.specs.Inside.{uploads_seen, IsOpenRight, AreKept};
+ghost use Rattle.mission_service.specs.Steps.Inside.{uploads_seen, IsOpenRight, AreKept};
 
 use crate::MissionState;
 use crate::replies::{Content, OPERATION_CANCELLED, reply};
@@ -16,7 +16,7 @@ use mav_messages::Replies;
 
 /// A station's idle turn for the uploads of a type: its own open one is reminded of, or closed.
 pub fn remind(uploads: &mut Uploads, kind: MissionType, station: u8, replies: &mut Replies)
-    requires room { array_vec_len replies.old < 8 }
+    requires room { array_vec_len replies.old ≤ 2 }
     requires turns { (most : ℕ) × IsOpenRight most uploads.old }
     ensures seen { (kept : List FenceItem) → uploads_seen kept uploads.new
         ≡ (idled station kind (uploads_seen kept uploads.old)).0 }

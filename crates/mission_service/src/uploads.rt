@@ -2,8 +2,8 @@
 ghost use Rattle.std.specs.Prelude.{◌≡◌, ◌<◌, ◌≤◌, ◌+◌, ℕ, List, [], length};
 ghost use Rattle.fence_records.specs.declared.items.FenceItem.{FenceItem};
 ghost use Rattle.mission_service.specs.Service.{is_anothers, is_last, after_item, told_after, cancelled};
-ghost use Rattle.mission_service.specs.Inside.{uploads_seen, upload_of, IsOpenRight, AreKept};
-ghost use Rattle.mission_service.specs.Steps.{IsExpected};
+ghost use Rattle.mission_service.specs.Steps.Inside.{uploads_seen, upload_seen, IsOpenRight, AreKept};
+ghost use Rattle.mission_service.specs.Steps.Parts.{IsExpected};
 
 use crate::replies::{ACCEPTED, Content, DENIED, ERROR, INVALID_SEQUENCE};
 
@@ -90,7 +90,7 @@ pub fn expected_by(uploads: &Uploads, asker: &Asker, seq: u16) -> Result<Upload,
 /// Whether the next item is the last one.
 pub fn is_last(upload: &Upload) -> bool
     requires { upload.now.expected < upload.now.count }
-    ensures { result ≡ is_last (upload_of [] upload.now) }
+    ensures { result ≡ is_last (upload_seen [] upload.now) }
 {
     upload.expected + 1 == upload.count
 }
@@ -99,7 +99,7 @@ pub fn is_last(upload: &Upload) -> bool
 pub fn after_item(upload: &Upload, station: u8) -> Uploads
     requires { upload.now.expected < upload.now.count }
     ensures seen { (before kept : List FenceItem) → uploads_seen kept result
-        ≡ after_item (upload_of before upload.now) station kept }
+        ≡ after_item (upload_seen before upload.now) station kept }
     ensures right { (most : ℕ) → upload.now.count ≤ most → IsOpenRight most result }
     ensures kept { (kept : List FenceItem) → (upload.now.expected + 1 < upload.now.count
         → length kept ≡ upload.now.expected + 1) → AreKept result kept }
@@ -122,7 +122,7 @@ pub fn after_item(upload: &Upload, station: u8) -> Uploads
 /// accepted.
 pub fn told_after(upload: &Upload) -> Content
     requires { upload.now.expected < upload.now.count }
-    ensures { result ≡ told_after (upload_of [] upload.now) }
+    ensures { result ≡ told_after (upload_seen [] upload.now) }
 {
     if is_last(upload) {
         Content::Answer(ACCEPTED)

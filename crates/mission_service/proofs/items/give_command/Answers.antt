@@ -5,7 +5,7 @@ use Rattle.mission_service.specs.Uploads as model
 use Rattle.mission_service.specs.Uploads.{Missions, Mission, uploads_of, with_uploads}
 use Rattle.mission_service.specs.Requests.{ForMission}
 use Rattle.mission_service.specs.Service.{taken, given_to}
-use Rattle.mission_service.specs.Inside.{from_seen, upload_of, uploads_seen, IsOpenRight}
+use Rattle.mission_service.specs.Steps.Inside.{from_seen, upload_seen, uploads_seen, IsOpenRight}
 use Rattle.mission_service.proofs.Taking.{took_some}
 use Rattle.mission_service.proofs.items.give_command.Goals as goal
 
@@ -24,7 +24,7 @@ returns-in-Ok-take_command-clause-given c =
     let m : Missions = c.args.state.now in
     let from = from_seen c.args.asker.now in
     let given = ForMission c.args.given in
-    let u = upload_of [] c.in-Ok.upload in
+    let u = upload_seen [] c.in-Ok.upload in
     let now = uploads_seen [] c.after_item-state-inside.result in
     let seen = ap (λ (x : Missions). given_to b allowed m from Mission c.args.seq given (uploads_of Mission x)) (sym c.state.view_is) in
     let next = c.in-Ok.ensures.takes b allowed m Mission given [] in

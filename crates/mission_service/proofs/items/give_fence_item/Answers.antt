@@ -4,7 +4,7 @@ use Rattle.mission_service.specs.Uploads as model
 use Rattle.mission_service.specs.Uploads.{Missions, Fence, uploads_of, with_uploads}
 use Rattle.mission_service.specs.Requests.{ForFence}
 use Rattle.mission_service.specs.Service.{fence_capacity, taken, given_to}
-use Rattle.mission_service.specs.Inside.{from_seen, upload_of, uploads_seen, IsOpenRight, AreKept}
+use Rattle.mission_service.specs.Steps.Inside.{from_seen, upload_seen, uploads_seen, IsOpenRight, AreKept}
 use Rattle.mission_service.proofs.Taking.{took_some}
 use Rattle.mission_service.proofs.items.give_fence_item.Goals as goal
 
@@ -27,7 +27,7 @@ returns-in-Ok-take_fence_item-clause-given c =
     let given = ForFence c.args.given in
     let old = c.state.inside.kept.items in
     let new = c.take_fence_item.new.kept.items in
-    let u = upload_of old c.in-Ok.upload in
+    let u = upload_seen old c.in-Ok.upload in
     let now = uploads_seen new c.after_item-state-inside.result in
     let seen = ap (λ (x : Missions). given_to b allowed m from Fence c.args.seq given (uploads_of Fence x)) (sym c.state.view_is) in
     let next = c.in-Ok.ensures.takes b allowed m Fence given old in

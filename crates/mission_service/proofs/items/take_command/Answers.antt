@@ -17,6 +17,6 @@ returns-in-Ok-2-clause-safe c =
     let small : IsBytes b = λ k. omega (arith, c.type_inv.current k) in
     let long : length x.content ≡ 12 = search rules in
     let room : ¬ IsFull (records_in_storage b) total_row (i + 1) = λ f.
-        let before = subst (λ (o : List LineWrite). IsFull (records_in_storage (after b o)) total_row (i + 1)) (sym c.requires.batch) f in
-        let both : false ≡ true = c.in-Ok-2.ensures.full.1 before in cc in
+    let before = subst (λ (o : List LineWrite). IsFull (records_in_storage (after b o)) total_row (i + 1)) (sym c.requires.batch) f in
+    let both : false ≡ true = c.in-Ok-2.ensures.full.1 before in cc in
     put_safe b i x c.put.new.batch.items c.requires.size small c.requires.index long room (from_empty b (λ y. put_writes y i x) c.args.batch.now.items c.put.new.batch.items c.requires.batch c.in-Ok-2.ensures.ok)

@@ -18,8 +18,8 @@ use Rattle.mission_service.specs.declared.requests.Request.TheVariants as reques
 use Rattle.mission_service.specs.declared.requests.Asking.{Asking}
 
 -- an upload, with the items that are kept of it
-abbrev pub upload_of : List FenceItem → Upload → model.Upload
-upload_of kept u = record {
+abbrev pub upload_seen : List FenceItem → Upload → model.Upload
+upload_seen kept u = record {
   owner = u.owner;
   target = u.target;
   count = u.count;
@@ -31,7 +31,7 @@ upload_of kept u = record {
 -- the uploads of a type, with the items that are kept of an open one
 abbrev pub uploads_seen : List FenceItem → Uploads → model.Uploads
 uploads_seen kept inner.Quiet = model.Quiet
-uploads_seen kept (inner.Open u) = model.Open (upload_of kept u)
+uploads_seen kept (inner.Open u) = model.Open (upload_seen kept u)
 uploads_seen kept (inner.Finished station last) = model.Finished station last
 
 -- the uploads of each type: of a mission no item is kept
@@ -62,10 +62,12 @@ abbrev pub types_seen : Option MissionType → List MissionType
 types_seen None = model.kinds
 types_seen (Some t) = t ∷ []
 
+-- what is given
 abbrev pub given_seen : Given → model_requests.Given
 given_seen (given.ForMission stored) = model_requests.ForMission stored
 given_seen (given.ForFence stored) = model_requests.ForFence stored
 
+-- what is asked
 abbrev pub request_seen : Request → model_requests.Request
 request_seen (request.Begin type count) = model_requests.Begin type count
 request_seen (request.Give seq given) = model_requests.Give seq (given_seen given)
@@ -75,6 +77,7 @@ request_seen (request.Show type seq) = model_requests.Show type seq
 request_seen (request.Cancel type) = model_requests.Cancel type
 request_seen request.Unsupported = model_requests.Unsupported
 
+-- what is asked, with its type's number, or nothing
 abbrev pub asking_seen : Option Asking → Option model_requests.Asking
 asking_seen None = None
 asking_seen (Some a) = Some (record { number = a.number; request = request_seen a.request })
