@@ -13,9 +13,12 @@ pub use appending::{APPEND_LINES, append};
 pub use formatting::{FORMAT_LINES, format_batch};
 pub use laws::{formats_in_steps, numbers_are_kept, records_are_read, sets_in_steps};
 pub use reading::value;
-pub use records::{Lookup, MAGIC, PARAM_BYTES, end_place, has_magic, look_up, place, size_of};
-pub use setting::{SET_LINES, SetError, fresh_value, set, set_whole};
-pub use values::Value;
+pub use records::{
+    Header, Lookup, MAGIC, PARAM_BYTES, end_place, has_magic, header_at, is_match, look_up, place,
+    size_of,
+};
+pub use setting::{SET_LINES, SetError, fresh_value, number_of, set, set_whole, store};
+pub use values::{Value, default_value, value_of};
 
 #[cfg(test)]
 mod tests;

@@ -30,7 +30,9 @@ pub enum Lookup {
 /// What stands before a value.
 #[derive(Clone, Copy)]
 pub struct Header {
+    /// The key of the value's group, below 512.
     pub key: u16,
+    /// The value's path inside its group, below 2^18.
     pub element: u32,
     pub kind: Kind,
 }
@@ -95,8 +97,8 @@ pub fn has_magic(current: &[u8]) -> bool
     four_at(current, 0) == MAGIC
 }
 
-/// The record that begins at a place, or None at an end.
-fn header_at(current: &[u8], at: usize) -> Option<Header>
+/// The header of the record that begins at a logical place, or None at an end.
+pub fn header_at(current: &[u8], at: usize) -> Option<Header>
     requires size { length current.now ≡ STORAGE_BYTES }
     requires inside { at ≤ PARAM_BYTES }
     ensures { let bytes = drop at (logical_of Param current.now) in
@@ -118,7 +120,7 @@ fn header_at(current: &[u8], at: usize) -> Option<Header>
 }
 
 /// Whether a record with this header is the one that is looked for.
-fn is_match(header: &Header, key: u16, element: u32, kind: Kind) -> bool
+pub fn is_match(header: &Header, key: u16, element: u32, kind: Kind) -> bool
     ensures { result ≡ ((header.now.key == key)
         && ((header.now.element == element) && kind_eq header.now.kind kind)) }
 {

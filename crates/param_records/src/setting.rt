@@ -169,8 +169,8 @@ fn write<const N: usize>(
 }
 
 /// Sets a row to a number: the pattern of a float, or a whole number in two's complement. What was
-/// looked up may come from a walk or be remembered.
-fn store<const N: usize>(
+/// looked up may come from a walk or be remembered. `Full` is its only refusal.
+pub fn store<const N: usize>(
     current: &[u8],
     table: &Table<N>,
     lookup: Lookup,
@@ -212,8 +212,8 @@ fn look_up_row<const N: usize>(current: &[u8], table: &Table<N>, var: u16) -> Lo
     look_up(current, row.key, row.element, row.kind)
 }
 
-/// The number that a pattern is for a kind, or None where it is no value of the kind.
-fn number_of(kind: Kind, bits: u32) -> Option<u32>
+/// The number that a binary32 pattern is for a kind, or None where it is no value of the kind.
+pub fn number_of(kind: Kind, bits: u32) -> Option<u32>
     ensures { MatchOption result ((n : ℕ) → ¬ IsNumberOf kind bits n)
         (λ n. IsNumberOf kind bits n) }
 {
