@@ -29,11 +29,14 @@ use arrayvec::ArrayVec;
 use fence_records::FenceItem;
 pub use laws::{asks_one_thing, asks_what_fits};
 use mav_messages::{Message, Replies, Sender};
-use replies::{Content, UNSUPPORTED, reply};
-use requests::{Given, MissionType, Request, asked};
+pub use replies::Content;
+use replies::{UNSUPPORTED, reply};
+pub use requests::MissionType;
+use requests::{Given, Request, asked};
 use std::marker::Model;
 use storage_lines::{BATCH_LINES, Batch, STORAGE_BYTES};
-use uploads::{Asker, FENCE_ITEMS, Target, Uploads};
+pub use uploads::Target;
+use uploads::{Asker, FENCE_ITEMS, Uploads};
 
 /// The stations that a vehicle tells apart.
 const STATIONS: usize = 8;
