@@ -4,7 +4,7 @@ use Rattle.storage_lines.specs.declared.lines.LineWrite.{LineWrite}
 use Rattle.param_service.specs.Service as parameters
 use Rattle.mav_messages.specs.declared.messages.To.TheVariants.{Station}
 use Rattle.mission_service.specs.Service as missions
-use Rattle.vehicle_core.specs.Vehicle.{Vehicle, Asked, Parameters, Missions, Content, Alive, Told, tells_value, tells_of_missions, is_heard, hears}
+use Rattle.vehicle_core.specs.Vehicle.{Vehicle, Asked, Parameters, Missions, Alive, Told, tells_value, tells_of_missions, is_heard, hears}
 
 -- What was heard: whether the frame was of version 2, and what its message asks for.
 pub record Heard : Type 0 where

@@ -1,5 +1,5 @@
 -- The messages by which the vehicle tells something.
-use Rattle.std.specs.Prelude.{◌≡◌, ℕ, List}
+use Rattle.std.specs.Prelude.{◌≡◌, List}
 use Rattle.std.specs.List.{AllZip}
 use Rattle.param_service.specs.Replies.{ShowsValue}
 use Rattle.mav_messages.specs.declared.messages.Message.{Message}

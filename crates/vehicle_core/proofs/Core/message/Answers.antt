@@ -1,4 +1,4 @@
-use Rattle.std.proofs.Common.{◌≡◌, refl, sym, Option, None, option_map}
+use Rattle.std.proofs.Common.{refl, sym, Option, None, option_map}
 use Rattle.param_service.specs.Requests as parameters
 use Rattle.mission_service.specs.Requests as missions
 use Rattle.mission_service.specs.Replies.{target_of}

@@ -1,4 +1,4 @@
-use Rattle.std.proofs.Common.{◌≡◌, List, [], sym, ◌∙◌, ap, subst}
+use Rattle.std.proofs.Common.{List, [], sym, ◌∙◌, ap, subst}
 use Rattle.mav_messages.specs.declared.messages.Reply.{Reply}
 use Rattle.vehicle_core.specs.Vehicle.{Told}
 use Rattle.vehicle_core.specs.Acts.{Did}

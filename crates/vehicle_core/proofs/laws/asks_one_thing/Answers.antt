@@ -1,4 +1,4 @@
-use Rattle.std.proofs.Common.{Option, option_map, refl, sym, ◌∙◌, ap, ap₂}
+use Rattle.std.proofs.Common.{Option, option_map, refl, sym, ◌∙◌, ap₂}
 use Rattle.param_service.specs.Requests.{Request}
 use Rattle.mission_service.specs.Requests.{Asking}
 use Rattle.vehicle_core.specs.Vehicle.{Parameters, Missions, one_of}
