@@ -1,7 +1,8 @@
 -- An appended record leaves bytes in the parameter storage.
-use Rattle.std.proofs.Common.{◌≡◌, ◌+◌, ◌-◌, ◌/◌, ◌%◌, ◌<◌, ◌≤◌, ℕ, zero, suc, inl, inr, Bool, cond, List, [], ◌∷◌, length, get_or, take, drop, sym, ◌∙◌, ap, subst, arith}
-use Rattle.std.specs.Prelude.{◌==◌, All}
-use Rattle.std.proofs.lemmas.Bool.{cases_lt, cases_eq, lt-ltb, le-ltb, eq-eqb, ne_eqb}
+use Rattle.std.proofs.Common.{◌≡◌, ◌+◌, ◌-◌, ◌/◌, ◌%◌, ◌<◌, ◌≤◌, ℕ, zero, suc, inl, inr, Bool, true, cond, List, [], ◌∷◌, length, get_or, take, drop, sym, ◌∙◌, ap, subst, arith}
+use Rattle.std.specs.Prelude.{◌==◌, All, nat_lt}
+use Rattle.std.specs.List.{list_all}
+use Rattle.std.proofs.lemmas.Bool.{cases_lt, cases_eq, and_parts, ltb-true, lt-ltb, le-ltb, eq-eqb, ne_eqb}
 use Rattle.std.proofs.lemmas.List.{get_or-take, get_or-drop, get_or_past, length-take, take_all}
 use Rattle.std.proofs.lemmas.List.Elements.{All-head, All-tail, All-nil, All-cons}
 use Rattle.storage_lines.specs.declared.lines.LineWrite.{LineWrite}
@@ -26,7 +27,7 @@ abbrev pub IsLow : List ℕ → Type 0
 IsLow bytes = IsBytes (logical_of Param bytes)
 
 -- the piece has bytes
-abbrev HasBytes : Piece → Type 0
+abbrev pub HasBytes : Piece → Type 0
 HasBytes q = IsBytes q.bytes
 
 put_low : (at : ℕ) (new : List ℕ) (c : ℕ) (old now : List ℕ) → IsBytes old → IsBytes new → HasPut at new c old now → IsBytes now
@@ -57,12 +58,22 @@ low_pieces bytes (q ∷ qs) size fit low was =
     prefix_append IsLow bytes ws (writes_of (after bytes ws) qs) here
     (low_pieces (after bytes ws) qs (length-after bytes ws ∙ size) (All-tail IsParamPiece q qs fit) (All-tail HasBytes q qs low) then)
 
+low_cons : (x : ℕ) (xs : List ℕ) → x < 256 → IsBytes xs → IsBytes (x ∷ xs)
+low_cons x xs first low zero = first
+low_cons x xs first low (suc i) = low i
+
+low_nil : IsBytes []
+low_nil i = omega (arith, get_or_past {X = ℕ} [] i 0)
+
 four_low : (a b c d : ℕ) → a < 256 → b < 256 → c < 256 → d < 256 → IsBytes (a ∷ b ∷ c ∷ d ∷ [])
-four_low a b c d la lb lc ld zero = la
-four_low a b c d la lb lc ld (suc zero) = lb
-four_low a b c d la lb lc ld (suc (suc zero)) = lc
-four_low a b c d la lb lc ld (suc (suc (suc zero))) = ld
-four_low a b c d la lb lc ld (suc (suc (suc (suc i)))) = omega (arith, get_or_past {X = ℕ} [] i 0)
+four_low a b c d la lb lc ld = low_cons a (b ∷ c ∷ d ∷ []) la (low_cons b (c ∷ d ∷ []) lb (low_cons c (d ∷ []) lc (low_cons d [] ld low_nil)))
+
+-- bytes that are written out
+pub written_low : (xs : List ℕ) → list_all (λ x. nat_lt x 256) xs ≡ true → IsBytes xs
+written_low [] h = low_nil
+written_low (x ∷ xs) h =
+    let both = and_parts (nat_lt x 256) (list_all (λ y. nat_lt y 256) xs) h in
+    low_cons x xs (ltb-true x 256 both.0) (written_low xs both.1)
 
 take_low : (n : ℕ) (xs : List ℕ) → IsBytes xs → IsBytes (take n xs)
 take_low n xs low i = elim (cases_lt i n) [
