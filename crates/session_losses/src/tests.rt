@@ -10,6 +10,8 @@ use std::alloc::Global;
 use std::test::Fail;
 use vehicle_node::{Node, NodeError};
 
+mod boot;
+
 // A formatted image of 16,384-byte sectors: sector 0 in use, sector 1 available.
 fn formatted_image(alloc: Global) -> Result<Vec<u8>, Fail> {
     let mut image = vec![in alloc; 0xFF; 49_152]?;
