@@ -3,7 +3,7 @@ use Rattle.std.proofs.Common.{◌≡◌, ◌≢◌, inl, inr, ◌+◌, ◌<◌, 
 use Rattle.std.specs.Prelude.{◌==◌, ◌&&◌, ◌↔◌, IsTrue, IfSome, slice_get}
 use Rattle.std.specs.Option.{option_map_or}
 use Rattle.std.proofs.lemmas.Bool.{cases_Bool, cases_lt, and_parts, and_from, eq-eqb}
-use Rattle.std.proofs.lemmas.List.{take_all, length-append}
+use Rattle.std.proofs.lemmas.List.{take_all, length-append, get_or_past}
 use Rattle.std.proofs.lemmas.Option.{slice_get-get_or}
 use Rattle.param_tree.specs.declared.Kind.{Kind}
 use Rattle.param_tree.specs.declared.Var.{Var}
@@ -24,7 +24,7 @@ use Rattle.param_records.specs.Steps.{HasMagic, records_in_storage, KeepsOtherAr
 use Rattle.param_records.proofs.RecordLemmas.{records_are}
 use Rattle.param_records.proofs.WalkLemmas.{logical_bytes}
 use Rattle.param_records.proofs.StoreLemmas.{row_is}
-use Rattle.param_records.proofs.ValueLemmas.{found_at, value_none, value_first}
+use Rattle.param_records.proofs.ValueLemmas.{found_at, found_byte, value_none, value_first}
 use Rattle.param_records.proofs.OtherLemmas.{value_push, match_same}
 use Rattle.param_records.proofs.OtherAreas.{append_fits, other_areas}
 use Rattle.param_records.proofs.AppendLemmas.{append_done}
@@ -35,6 +35,7 @@ use Rattle.param_convert.specs.Conversion.{new_record, Converts, convert_writes}
 use Rattle.param_convert.specs.Steps.{HasAdded, AddsOne, HasConverted, IsConversion, ConvertsInSteps}
 use Rattle.param_convert.proofs.NewRows.{IsRowOf, row_of, is_row, one_or_more}
 use Rattle.param_convert.proofs.OldValues.{value_there}
+use Rattle.param_convert.proofs.LowBytes.{IsLow, low_pieces, append_low}
 use Rattle.param_convert.proofs.Due.{pieces_some, pieces_none, convert_cases}
 
 -- a record of another key, element or kind
@@ -64,6 +65,7 @@ record Stored (L : List ℕ) (kind : Kind) (value : List ℕ) : Type 0 where
   pub end : ℕ
   pub has : HasRecords L (records_of L) end
   pub size : length value ≡ size_of kind
+  pub low : IsBytes value
 
 stored : (L : List ℕ) (key element : ℕ) (kind : Kind) (value : List ℕ) → IsBytes L → value_in key element kind (records_of L) ≡ Some value → Stored L kind value
 stored L key element kind value low is = by_place (place_from 4 key element kind (records_of L)) refl
@@ -78,6 +80,10 @@ stored L key element kind value low is = by_place (place_from 4 key element kind
           end = f.end;
           has = subst (λ (rs : List Record). HasRecords L rs f.end) (sym f.first.whole) f.has;
           size = ap (λ (v : List ℕ). length v) (sym same) ∙ f.size;
+          low = subst IsBytes same (λ i. elim (cases_lt i (size_of kind)) [
+            | inl few ↦ omega (arith, found_byte L key element kind at f i few, low (at + i))
+            | inr past ↦ omega (arith, get_or_past f.first.one.value i 0 (omega (arith, f.size)))
+          ]);
         }
 
 -- the key and the element of the record that a rule makes are in their ranges
@@ -97,17 +103,19 @@ new_fits rows rule table has =
     record { key = omega (arith, of.key); element = omega (arith, of.element) }
 
 -- the same records, or one more
-adds_none : (rule : Rule) (old now : List ℕ) → take 4 (logical_of Param now) ≡ take 4 (logical_of Param old) → records_in_storage now ≡ records_in_storage old → KeepsOtherAreas old now → AddsOne rule old now
-adds_none rule old now front same areas = record {
+adds_none : (rule : Rule) (old now : List ℕ) → take 4 (logical_of Param now) ≡ take 4 (logical_of Param old) → IsLow now → records_in_storage now ≡ records_in_storage old → KeepsOtherAreas old now → AddsOne rule old now
+adds_none rule old now front low same areas = record {
   front = front;
+  low = low;
   added = inl same;
   others = λ row other. ap (λ (rs : List Record). value_in_records rs row) same;
   areas = areas;
 }
 
-adds_one : (rule : Rule) (value old now : List ℕ) → take 4 (logical_of Param now) ≡ take 4 (logical_of Param old) → HasAdded rule value old now → KeepsOtherAreas old now → AddsOne rule old now
-adds_one rule value old now front added areas = record {
+adds_one : (rule : Rule) (value old now : List ℕ) → take 4 (logical_of Param now) ≡ take 4 (logical_of Param old) → IsLow now → HasAdded rule value old now → KeepsOtherAreas old now → AddsOne rule old now
+adds_one rule value old now front low added areas = record {
   front = front;
+  low = low;
   added = inr (value, added);
   others = λ row other.
       ap (λ (rs : List Record). value_in_records rs row) added
@@ -149,12 +157,13 @@ makes_one bytes rows rule value size low table has c =
     let done = append_done rs end r bytes size there one within in
     let ws = writes_of bytes (appending end r) in
     let areas = other_areas bytes (appending end r) size (append_fits end r within) in
+    let kept = low_pieces bytes (appending end r) size (append_fits end r within) (append_low end r old.low) low in
     let front = front_is L rs end there in
     let last = end + length (encoding r) in
     record {
       each = λ j h. elim (done.each j h) [
-        | inl same ↦ adds_none rule bytes (after bytes (take j ws)) (front_is (logical_of Param (after bytes (take j ws))) rs end same ∙ sym front) (records_are (logical_of Param (after bytes (take j ws))) rs end same) (areas j h)
-        | inr more ↦ adds_one rule value bytes (after bytes (take j ws)) (front_is (logical_of Param (after bytes (take j ws))) (rs ++ r ∷ []) last more ∙ sym front) (records_are (logical_of Param (after bytes (take j ws))) (rs ++ r ∷ []) last more) (areas j h)
+        | inl same ↦ adds_none rule bytes (after bytes (take j ws)) (front_is (logical_of Param (after bytes (take j ws))) rs end same ∙ sym front) (kept j h) (records_are (logical_of Param (after bytes (take j ws))) rs end same) (areas j h)
+        | inr more ↦ adds_one rule value bytes (after bytes (take j ws)) (front_is (logical_of Param (after bytes (take j ws))) (rs ++ r ∷ []) last more ∙ sym front) (kept j h) (records_are (logical_of Param (after bytes (take j ws))) (rs ++ r ∷ []) last more) (areas j h)
       ];
       whole = λ other d.
           let both : Some other ≡ Some value = sym d.old ∙ c.old in
@@ -164,9 +173,9 @@ makes_one bytes rows rule value size low table has c =
     }
 
 -- and one that makes none
-makes_none : (bytes : List ℕ) (rows : List Var) (rule : Rule) → ((value : List ℕ) → Converts rows (records_in_storage bytes) rule value → ⊥) → IsConversion rows rule bytes []
-makes_none bytes rows rule never = record {
-  each = prefix_nil (AddsOne rule bytes) bytes (adds_none rule bytes bytes refl refl (λ area apart. refl));
+makes_none : (bytes : List ℕ) (rows : List Var) (rule : Rule) → IsLow bytes → ((value : List ℕ) → Converts rows (records_in_storage bytes) rule value → ⊥) → IsConversion rows rule bytes []
+makes_none bytes rows rule low never = record {
+  each = prefix_nil (AddsOne rule bytes) bytes (adds_none rule bytes bytes refl low refl (λ area apart. refl));
   whole = λ value c. absurd (never value c);
 }
 
@@ -175,7 +184,7 @@ converts_in_steps bytes rows rule size low table has =
     let rs = records_in_storage bytes in
     elim (convert_cases rows rs rule) [
       | inl makes ↦ subst (λ (qs : List Piece). IsConversion rows rule bytes (writes_of bytes qs)) (sym (pieces_some rows rs rule makes.0 makes.1)) (makes_one bytes rows rule makes.0 size low table has makes.1)
-      | inr never ↦ subst (λ (qs : List Piece). IsConversion rows rule bytes (writes_of bytes qs)) (sym (pieces_none rows rs rule never)) (makes_none bytes rows rule never)
+      | inr never ↦ subst (λ (qs : List Piece). IsConversion rows rule bytes (writes_of bytes qs)) (sym (pieces_none rows rs rule never)) (makes_none bytes rows rule low never)
     ]
 
 -- the first bytes are as they were, so the magic is kept

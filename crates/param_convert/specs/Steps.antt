@@ -20,9 +20,11 @@ HasAdded rule value old now =
     records_in_storage now ≡ records_in_storage old ++ new_record rule value ∷ []
 
 -- After a prefix of the rule's writes: the new record is absent or whole, and stands after all old
--- ones. Every row of another record has its old value, and no other area changes.
+-- ones. Every row of another record has its old value, and no other area changes. The parameter
+-- storage has bytes, and begins as it did.
 pub record AddsOne (rule : Rule) (old now : List ℕ) : Type 0 where
   pub front : take 4 (logical_of Param now) ≡ take 4 (logical_of Param old)
+  pub low : IsBytes (logical_of Param now)
   pub added : (records_in_storage now ≡ records_in_storage old)
       ⊎ ((value : List ℕ) × HasAdded rule value old now)
   pub others : (row : Var) → ¬ IsTrue (is_new_row rule row) → params_of now row ≡ params_of old row

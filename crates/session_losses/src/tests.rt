@@ -10,6 +10,7 @@ use std::alloc::Global;
 use std::test::Fail;
 use vehicle_node::{Node, NodeError};
 
+mod boot;
 mod uploads;
 
 // A formatted image of 16,384-byte sectors: sector 0 in use, sector 1 available.

@@ -1,8 +1,8 @@
 -- A node opened: the lines of boot are issued and put; and closed: all pending lines are put.
-use Rattle.std.proofs.Common.{◌≡◌, ◌≢◌, inl, ℕ, zero, suc, ◌+◌, ◌*◌, ◌-◌, ◌^◌, ◌<◌, ◌≤◌, min, Bool, true, false, cond, List, [], ◌∷◌, ◌++◌, length, take, refl, sym, ◌∙◌, ap, subst, arith, append-nil, Result, Ok, Err}
-use Rattle.std.specs.Prelude.{◌↔◌, ⊤, All, OnOk, IfErr, IsTrue, if◌then◌else◌}
+use Rattle.std.proofs.Common.{◌≡◌, ◌≢◌, inl, ℕ, ◌+◌, ◌*◌, ◌-◌, ◌^◌, ◌<◌, ◌≤◌, min, Bool, true, false, cond, List, [], ◌∷◌, ◌++◌, length, get_or, take, drop, refl, sym, ◌∙◌, ap, subst, arith, append-nil, append_assoc, Some, Result, Ok, Err}
+use Rattle.std.specs.Prelude.{◌↔◌, ⊤, OnOk, IfErr, IfSome, IsTrue, if◌then◌else◌, map, slice_get}
 use Rattle.std.specs.Str.{bytes_eq}
-use Rattle.std.proofs.lemmas.List.Elements.{All-nil, All-cons, All-append, All-weaker}
+use Rattle.std.proofs.lemmas.Option.{slice_get-get_or}
 use Rattle.std.proofs.lemmas.Slice.Eq.{bytes_eq-Decides}
 use Rattle.flash_traits.specs.Words.{Words}
 use Rattle.flash_traits.specs.declared.board.Board.{Ghosts}
@@ -14,12 +14,18 @@ use Rattle.guard_row.specs.Row.{IsGuardRow}
 use Rattle.guard_row.proofs.RowLaws.{one_count}
 use Rattle.storage_lines.specs.declared.areas.Area.TheVariants.{Param}
 use Rattle.storage_lines.specs.declared.lines.LineWrite.{LineWrite}
-use Rattle.storage_lines.specs.declared.lines.TheConstants.{LINES}
 use Rattle.storage_lines.specs.Areas.{logical_of}
-use Rattle.storage_lines.specs.Lines.{after, line_of, line_change, changes_below}
-use Rattle.storage_lines.specs.Pieces.{Piece, writes_of, writes_of_piece}
+use Rattle.storage_lines.specs.Lines.{after}
+use Rattle.storage_lines.specs.Pieces.{writes_of}
+use Rattle.storage_lines.proofs.LineLemmas.{after-append}
 use Rattle.param_records.specs.Records.{magic}
 use Rattle.param_records.specs.Changes.{formatting}
+use Rattle.param_records.specs.declared.formatting.TheConstants.{FORMAT_LINES}
+use Rattle.param_records.specs.declared.appending.TheConstants.{APPEND_LINES}
+use Rattle.param_records.proofs.StoreLemmas.{get_drop}
+use Rattle.param_convert.specs.declared.rules.Rule.{Rule}
+use Rattle.param_convert.specs.Rules.{to_servo1_trim, vehicle_rules}
+use Rattle.param_convert.proofs.ConvertSteps.{from_step}
 use Rattle.sector_log.specs.Bytes.{value_of}
 use Rattle.sector_image.specs.Stands.{Stands, Reading, Reads, entries_in}
 use Rattle.sector_image.proofs.Values.{is_value}
@@ -31,12 +37,12 @@ use Rattle.block_store.specs.declared.OpenError.TheVariants as open_error
 use Rattle.block_store.specs.Refusals.{OnOpenFault, OnOpenForeign, OnOpenWorn}
 use Rattle.block_store.specs.Store.{Store, State, Alone, Spilled, Spent, in_one_sector, in_both_sectors, durable_of, guard_in, guard_of, guard_ahead, is_alone}
 use Rattle.block_store.specs.Store as store
-use Rattle.dirty_lines.specs.Lines.{Lines, lines_of, current_of, AreInside}
+use Rattle.dirty_lines.specs.Lines.{Lines, lines_of, current_of}
 use Rattle.vehicle_node.specs.declared.NodeError.{NodeError}
 use Rattle.vehicle_node.specs.declared.NodeError.TheVariants as node_error
 use Rattle.vehicle_node.specs.Refusals.{OnFault, OnForeign, OnWorn}
 use Rattle.vehicle_node.specs.Reading.{no_rests}
-use Rattle.vehicle_node.specs.Runs.{Run, format_step, boot, run_of}
+use Rattle.vehicle_node.specs.Runs.{Run, BootStep, format_step, convert_step, boot_steps, boot, run_of}
 use Rattle.vehicle_node.specs.Guard.{CountsUpTo, RisesWithin}
 use Rattle.vehicle_node.specs.Safe.{Safe, SafeSince, Adds}
 use Rattle.vehicle_node.specs.Standing.{Node, Fits, IsAlone, StandsAt, StandsForRun, StaysWithin, counts, ceiling, raised_in}
@@ -51,29 +57,6 @@ use Rattle.block_store.proofs.StoreLaws.{fits_stands, fits_guard}
 use Rattle.vehicle_node.proofs.Putting.{nothing_sent}
 use Rattle.vehicle_node.proofs.Passing.{going_on}
 
--- the lines of a change are lines of the storage
-line_inside : (n : ℕ) (differs : Bool) (bytes : List ℕ) → All (λ (w : LineWrite). w.line < suc n) (cond differs [] (record { line = n; bytes = bytes } ∷ []))
-line_inside n true bytes = All-nil (λ (w : LineWrite). w.line < suc n)
-line_inside n false bytes = All-cons (λ (w : LineWrite). w.line < suc n) (record { line = n; bytes = bytes }) [] (omega arith) (All-nil (λ (w : LineWrite). w.line < suc n))
-
-changes_inside : (n : ℕ) (before now : List ℕ) → All (λ (w : LineWrite). w.line < n) (changes_below n before now)
-unfolding changes_below
-changes_inside zero before now = All-nil (λ (w : LineWrite). w.line < zero)
-changes_inside (suc n) before now =
-    All-append (λ (w : LineWrite). w.line < suc n) (changes_below n before now) (line_change n before now)
-    (All-weaker (λ (w : LineWrite). w.line < n) (λ (w : LineWrite). w.line < suc n) (λ w lt. omega (arith, lt)) (changes_below n before now) (changes_inside n before now))
-    (line_inside n (bytes_eq (line_of before n) (line_of now n)) (line_of now n))
-
-pub writes_inside : (bytes : List ℕ) (pieces : List Piece) → AreInside (writes_of bytes pieces)
-writes_inside bytes [] = All-nil (λ (w : LineWrite). w.line < LINES)
-writes_inside bytes (p ∷ pieces) =
-    let first = writes_of_piece p.area p.at p.bytes bytes in
-    All-append (λ (w : LineWrite). w.line < LINES) first (writes_of (after bytes first) pieces) (changes_inside LINES bytes _) (writes_inside (after bytes first) pieces)
-
-chosen_inside : (due : Bool) (bytes : List ℕ) (pieces : List Piece) → AreInside (cond due (writes_of bytes pieces) [])
-chosen_inside true bytes pieces = writes_inside bytes pieces
-chosen_inside false bytes pieces = All-nil (λ (w : LineWrite). w.line < LINES)
-
 boot_cases : (due begins : Bool) (x : List ℕ) (writes : List LineWrite) → ((due ≡ true) ↔ (x ≢ magic)) → (begins ≡ true → x ≡ magic) → (x ≡ magic → begins ≡ true) → cond due writes [] ≡ cond begins [] writes
 boot_cases true true x writes due is back = absurd (due.0 refl (is refl))
 boot_cases true false x writes due is back = refl
@@ -81,20 +64,14 @@ boot_cases false true x writes due is back = refl
 boot_cases false false x writes due is back = let no : false ≡ true = due.1 (λ e. let f = back e in cc) in cc
 
 -- the formatting, where it is due
-pub boot_is : (due : Bool) (b : List ℕ) → (IsTrue due ↔ (take 4 (logical_of Param b) ≢ magic)) → cond due (writes_of b formatting) [] ≡ boot b
-unfolding boot
-boot_is due b is =
+format_is : (due : Bool) (b : List ℕ) → (IsTrue due ↔ (take 4 (logical_of Param b) ≢ magic)) → cond due (writes_of b formatting) [] ≡ format_step b
+format_is due b is =
     let same = bytes_eq-Decides (take 4 (logical_of Param b)) magic in
     boot_cases due (bytes_eq (take 4 (logical_of Param b)) magic) (take 4 (logical_of Param b)) (writes_of b formatting) is same.0 same.1
-    ∙ sym (append-nil (format_step b))
 
-pub batch_is : (due : Bool) (b now : List ℕ) (old items : List LineWrite) → old ≡ [] → now ≡ b → (IsTrue due ↔ (take 4 (logical_of Param now) ≢ magic)) → items ≡ old ++ cond due (writes_of (after now old) formatting) [] → items ≡ boot b
-batch_is due b now old items none same is are =
-    are ∙ ap (λ (l : List LineWrite). l ++ cond due (writes_of (after now l) formatting) []) none ∙ boot_is due now is ∙ ap boot same
-
-pub batch_inside : (due : Bool) (now : List ℕ) (old items : List LineWrite) → old ≡ [] → items ≡ old ++ cond due (writes_of (after now old) formatting) [] → AreInside items
-batch_inside due now old items none are =
-    subst AreInside (sym (are ∙ ap (λ (l : List LineWrite). l ++ cond due (writes_of (after now l) formatting) []) none)) (chosen_inside due now formatting)
+pub formatting_is : (due : Bool) (b now : List ℕ) (old items : List LineWrite) → old ≡ [] → now ≡ b → (IsTrue due ↔ (take 4 (logical_of Param now) ≢ magic)) → items ≡ old ++ cond due (writes_of (after now old) formatting) [] → items ≡ format_step b
+formatting_is due b now old items none same is are =
+    are ∙ ap (λ (l : List LineWrite). l ++ cond due (writes_of (after now l) formatting) []) none ∙ format_is due now is ∙ ap format_step same
 
 pub current_none : (lines : Lines) → lines.pending ≡ [] → current_of lines ≡ durable_of lines.store
 current_none lines none = ap (after (durable_of lines.store)) none
@@ -102,11 +79,60 @@ current_none lines none = ap (after (durable_of lines.store)) none
 pub issued_none : (store : Store) (pending items writes : List LineWrite) → pending ≡ [] → items ≡ writes → lines_of store (pending ++ items) ≡ lines_of store writes
 issued_none store pending items writes none are = ap (λ (l : List LineWrite). lines_of store (l ++ items)) none ∙ ap (lines_of store) are
 
+-- The lines issued so far and those of the steps still to come are the lines of boot.
+pub record Booting (lines first : Lines) (k : ℕ) : Type 0 where
+  pub store : lines.store ≡ first.store
+  pub whole : lines.pending ++ boot_steps (map convert_step (drop k vehicle_rules)) (after (durable_of first.store) lines.pending) ≡ boot (durable_of first.store)
+  pub few : length lines.pending ≤ FORMAT_LINES + APPEND_LINES * k
+
+-- one step more
+steps_more : (b : List ℕ) (step : Rule → BootStep) (rules : List Rule) (k : ℕ) (rule : Rule) (pending now all : List LineWrite) → slice_get rules k ≡ Some rule → now ≡ pending ++ step rule (after b pending) →
+    pending ++ boot_steps (map step (drop k rules)) (after b pending) ≡ all → now ++ boot_steps (map step (drop (k + 1) rules)) (after b now) ≡ all
+steps_more b step rules k rule pending now all is more whole =
+    let w = step rule (after b pending) in
+    let rest = map step (drop (k + 1) rules) in
+    ap (λ (l : List LineWrite). l ++ boot_steps rest (after b l)) more
+    ∙ ap (λ (c : List ℕ). (pending ++ w) ++ boot_steps rest c) (after-append b pending w)
+    ∙ append_assoc pending w (boot_steps rest (after (after b pending) w))
+    ∙ sym (ap (λ (l : List Rule). pending ++ boot_steps (map step l) (after b pending)) (get_drop rules k (k + 1) rule refl is))
+    ∙ whole
+
+pub boot_begins : (lines first : Lines) → lines ≡ lines_of first.store (format_step (durable_of first.store)) → length lines.pending ≤ FORMAT_LINES → Booting lines first 0
+unfolding boot
+boot_begins lines first is few = record {
+  store = ap (λ (l : Lines). l.store) is;
+  whole = ap (λ (l : Lines). l.pending ++ boot_steps (map convert_step vehicle_rules) (after (durable_of first.store) l.pending)) is;
+  few = omega arith;
+}
+
+pub boot_goes_on : (lines now first : Lines) (k : ℕ) → Booting lines first k → k < 4 → IfSome (slice_get vehicle_rules k) (λ rule. now ≡ lines_of lines.store (lines.pending ++ convert_step rule (current_of lines))) → length now.pending ≤ length lines.pending + APPEND_LINES → Booting now first (k + 1)
+boot_goes_on lines now first k so within more few =
+    let b = durable_of first.store in
+    let rule = get_or vehicle_rules k to_servo1_trim in
+    let is : slice_get vehicle_rules k ≡ Some rule = slice_get-get_or vehicle_rules k to_servo1_trim within in
+    let issued : now ≡ lines_of lines.store (lines.pending ++ convert_step rule (current_of lines)) = from_step (λ r. now ≡ lines_of lines.store (lines.pending ++ convert_step r (current_of lines))) vehicle_rules k to_servo1_trim within more in
+    let here : now.pending ≡ lines.pending ++ convert_step rule (after b lines.pending) =
+    ap (λ (l : Lines). l.pending) issued ∙ ap (λ (s : Store). lines.pending ++ convert_step rule (after (durable_of s) lines.pending)) so.store in
+    let before = so.few in
+    record {
+      store = ap (λ (l : Lines). l.store) issued ∙ so.store;
+      whole = steps_more b convert_step vehicle_rules k rule lines.pending now.pending (boot b) is here so.whole;
+      few = omega arith;
+    }
+
+pub boot_ends : (lines first : Lines) (k : ℕ) → Booting lines first k → k ≡ 4 → lines ≡ lines_of first.store (boot (durable_of first.store))
+boot_ends lines first k so all =
+    let b = durable_of first.store in
+    let whole : lines.pending ≡ boot b =
+    sym (append-nil lines.pending) ∙ sym (ap (λ (n : ℕ). lines.pending ++ boot_steps (map convert_step (drop n vehicle_rules)) (after b lines.pending)) all) ∙ so.whole in
+    ap (λ (s : Store). lines_of s lines.pending) so.store ∙ ap (lines_of first.store) whole
+
 few_lines : (top n count : ℕ) → count ≡ n → count ≤ top → count ≡ min n top
 few_lines top n count is le = omega arith
 
-pub batch_count : (count : ℕ) (items writes : List LineWrite) → count ≡ length items → count ≤ 64 → items ≡ writes → count ≡ counts (length writes)
-batch_count count items writes is le are = few_lines (2 ^ 64 - 1) (length writes) count (is ∙ ap length are) (omega arith)
+-- the lines of boot are few, so their number is counted whole
+pub boot_count : (count : ℕ) (lines : Lines) (store : Store) → count ≡ length lines.pending → count ≤ 2048 → lines ≡ lines_of store (boot (durable_of store)) → count ≡ counts (length (boot (durable_of store)))
+boot_count count lines store is le are = few_lines (2 ^ 64 - 1) (length (boot (durable_of store))) count (is ∙ ap (λ (l : Lines). length l.pending) are) (omega arith)
 
 pub on_foreign : (e : OpenError) (P : Place → Type 0) → OnOpenForeign e P → OnForeign (error_of e) P
 on_foreign open_error.Memory P p = tt

@@ -9,6 +9,7 @@ pub mod Heard
 pub mod Events
 pub mod Finishing
 pub mod Boot
+pub mod BootLaws
 pub mod Putting
 pub mod FramesSent
 pub mod RepliesSent

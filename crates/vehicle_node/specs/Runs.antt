@@ -1,6 +1,6 @@
 -- A run of the vehicle machine: what it issues and sends, event by event, and what must be flushed
 -- by then.
-use Rattle.std.specs.Prelude.{ℕ, ◌+◌, min, List, [], ◌∷◌, ◌++◌, length, take, if◌then◌else◌}
+use Rattle.std.specs.Prelude.{ℕ, ◌+◌, min, List, [], ◌∷◌, ◌++◌, length, take, map, if◌then◌else◌}
 use Rattle.std.specs.Str.{bytes_eq}
 use Rattle.storage_lines.specs.declared.areas.Area.TheVariants.{Param}
 use Rattle.storage_lines.specs.declared.lines.LineWrite.{LineWrite}
@@ -9,6 +9,10 @@ use Rattle.storage_lines.specs.Lines.{after}
 use Rattle.storage_lines.specs.Pieces.{writes_of}
 use Rattle.param_records.specs.Records.{magic}
 use Rattle.param_records.specs.Changes.{formatting}
+use Rattle.param_tree.specs.Rows.{vehicle_rows}
+use Rattle.param_convert.specs.declared.rules.Rule.{Rule}
+use Rattle.param_convert.specs.Rules.{vehicle_rules}
+use Rattle.param_convert.specs.Conversion.{convert_writes}
 use Rattle.vehicle_core.specs.Vehicle.{Told}
 use Rattle.vehicle_core.specs.Acts.{Act, Did, did}
 use Rattle.vehicle_node.specs.Frames.{Machine, new_machine, Answer, deliveries, numbered, counted_all}
@@ -56,19 +60,24 @@ abbrev pub event_done : List ℕ → Run → List Act → Run
 event_done b r acts = finish (all_acts b r acts)
 
 -- The lines of boot are those of its steps in order, each over the bytes with the lines before. The
--- one step is the formatting, where the parameter storage doesn't begin with its magic.
+-- steps are the formatting, where the parameter storage doesn't begin with its magic, and then each
+-- rule that turns an old parameter record into a new one.
 abbrev pub BootStep : Type 0
 BootStep = List ℕ → List LineWrite
 
 abbrev pub format_step : BootStep
 format_step b = if bytes_eq (take 4 (logical_of Param b)) magic then [] else writes_of b formatting
 
+-- the lines of a rule, for the vehicle's table
+abbrev pub convert_step : Rule → BootStep
+convert_step rule b = convert_writes vehicle_rows rule b
+
 abbrev pub boot_steps : List BootStep → List ℕ → List LineWrite
 boot_steps [] b = []
 boot_steps (step ∷ steps) b = step b ++ boot_steps steps (after b (step b))
 
 unfoldable pub boot : List ℕ → List LineWrite
-boot b = boot_steps (format_step ∷ []) b
+boot b = boot_steps (format_step ∷ map convert_step vehicle_rules) b
 
 -- at the start the lines of boot are issued and flushed
 abbrev pub start : List ℕ → Run

@@ -1,4 +1,5 @@
-//! What holds of every reading of events.
+//! What holds of every reading of events, and of boot.
+ghost use Rattle.vehicle_node.specs.Boot.{BootFormats};
 ghost use Rattle.vehicle_node.specs.Laws.{FramesAreRead, EventsAreRead, EventsAreReadOnce};
 
 use mav_frames::{a_message_or_none, one_message};
@@ -26,3 +27,8 @@ pub fn events_are_read_once()
 {
     frames_are_read();
 }
+
+/// Boot leaves a parameter storage that is formatted.
+pub fn boot_formats()
+    ensures { BootFormats }
+{}

@@ -36,7 +36,7 @@ mod opening;
 use crate::opening::{booted, error_of};
 use dirty_lines::{DirtyLines, PENDING_LINES};
 use flash_traits::{Board, Event, Fault, Region};
-pub use laws::{events_are_read, events_are_read_once, frames_are_read};
+pub use laws::{boot_formats, events_are_read, events_are_read_once, frames_are_read};
 use mav_frames::Cutter;
 use std::alloc::Global;
 use std::marker::Model;
