@@ -16,7 +16,7 @@ use Rattle.mav_messages.specs.declared.messages.To.TheVariants as to
 use Rattle.mav_messages.specs.declared.messages.Reply.{Reply}
 use Rattle.mission_service.specs.Service as missions
 use Rattle.vehicle_core.specs.Vehicle.{Vehicle, Asked, Parameters, Missions, Told, tells_value, tells_of_missions, is_heard, hears}
-use Rattle.vehicle_core.specs.Acts.{Act, Did, Said, Beat, Stream, did, nothing, by_parameters, beaten, asked_of}
+use Rattle.vehicle_core.specs.Acts.{Act, Said, Beat, Stream, did, nothing, by_parameters, beaten, asked_of}
 use Rattle.vehicle_core.specs.Replies.{AreRepliesOf}
 use Rattle.vehicle_node.specs.Steps.Sending.{IsInside}
 

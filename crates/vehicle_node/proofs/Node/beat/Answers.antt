@@ -1,4 +1,4 @@
-use Rattle.std.proofs.Common.{◌≡◌, List, [], ap, sym, subst, ◌∙◌}
+use Rattle.std.proofs.Common.{[], ap, sym, subst, ◌∙◌}
 use Rattle.dirty_lines.specs.Lines.{current_of}
 use Rattle.vehicle_core.specs.Acts.{Beat, Did, did}
 use Rattle.vehicle_core.specs.Replies.{AreRepliesOf}
