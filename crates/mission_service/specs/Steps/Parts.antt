@@ -8,7 +8,7 @@ use Rattle.fence_records.specs.declared.items.FenceItem.{FenceItem}
 use Rattle.mission_service.specs.Uploads as model
 use Rattle.mission_service.specs.Uploads.{MissionType, Missions}
 use Rattle.mission_service.specs.Requests.{Given}
-use Rattle.mission_service.specs.Service.{Content, Taken, if_allowed, taken, took, only, given_to}
+use Rattle.mission_service.specs.Service.{Content, if_allowed, taken, took, only, given_to}
 use Rattle.mission_service.specs.Steps.Inside.{uploads_seen, upload_seen, from_seen}
 use Rattle.mission_service.specs.declared.uploads.Upload.{Upload}
 use Rattle.mission_service.specs.declared.uploads.Uploads.{Uploads}
