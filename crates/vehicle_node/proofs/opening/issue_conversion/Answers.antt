@@ -1,6 +1,5 @@
-use Rattle.std.proofs.Common.{◌≡◌, List, sym, subst, arith}
+use Rattle.std.proofs.Common.{List, sym, subst, arith}
 use Rattle.std.specs.Prelude.{IfSome, slice_get}
-use Rattle.param_tree.specs.declared.Var.{Var}
 use Rattle.param_convert.specs.declared.rules.Rule.{Rule}
 use Rattle.param_convert.specs.Rules.{HasRows, vehicle_rules}
 use Rattle.param_convert.proofs.VehicleRules.{step_has_rows, vehicle_rules_have_rows}
