@@ -1,5 +1,5 @@
 -- An appended record leaves bytes in the parameter storage.
-use Rattle.std.proofs.Common.{◌≡◌, ◌+◌, ◌-◌, ◌/◌, ◌%◌, ◌<◌, ◌≤◌, ℕ, zero, suc, inl, inr, Bool, true, cond, List, [], ◌∷◌, length, get_or, take, drop, sym, ◌∙◌, ap, subst, arith}
+use Rattle.std.proofs.Common.{◌≡◌, ◌+◌, ◌-◌, ◌/◌, ◌%◌, ◌<◌, ℕ, zero, suc, inl, inr, Bool, true, cond, List, [], ◌∷◌, length, get_or, take, drop, sym, ◌∙◌, ap, subst, arith}
 use Rattle.std.specs.Prelude.{◌==◌, All, nat_lt}
 use Rattle.std.specs.List.{list_all}
 use Rattle.std.proofs.lemmas.Bool.{cases_lt, cases_eq, and_parts, ltb-true, lt-ltb, le-ltb, eq-eqb, ne_eqb}
@@ -17,7 +17,6 @@ use Rattle.storage_lines.specs.Pieces.{Piece, writes_of, writes_of_piece}
 use Rattle.storage_lines.proofs.LineLemmas.{length-after}
 use Rattle.storage_lines.proofs.PieceLemmas.{pieces_in_steps}
 use Rattle.storage_lines.proofs.PrefixLemmas.{prefix_nil, prefix_append}
-use Rattle.param_records.specs.declared.records.TheConstants.{PARAM_BYTES}
 use Rattle.param_records.specs.Records.{Record, four_bytes, header, sentinel}
 use Rattle.param_records.specs.Changes.{piece, header_pieces, appending}
 use Rattle.param_records.proofs.OtherAreas.{IsParamPiece}
