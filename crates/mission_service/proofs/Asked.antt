@@ -19,7 +19,7 @@ use Rattle.fence_records.specs.declared.items.FenceItem.{FenceItem}
 use Rattle.fence_records.proofs.Results.{each_has_one_fence_result, keeps_fence_items}
 use Rattle.fence_records.specs.Lists.{IsFenceItem}
 use Rattle.mission_service.specs.Uploads.{MissionType, Mission, Fence, kinds, type_of}
-use Rattle.mission_service.specs.Requests.{Given, ForMission, ForFence, Request, Give, Unsupported, Begin, Clear, Count, Show, Cancel, Asking, Asks, IsGiven, ask, if_for, if_supported, of_type, types_of}
+use Rattle.mission_service.specs.Requests.{ForMission, ForFence, Request, Give, Unsupported, Begin, Clear, Count, Show, Cancel, Asking, Asks, IsGiven, ask, if_for, if_supported, of_type, types_of}
 use Rattle.mission_service.specs.Asked.{AsksOneThing, GivenFits, RequestFits, AsksWhatFits}
 
 some_given : (t : Option MissionType) (item : Item) → (request : Request) × IsGiven t item request

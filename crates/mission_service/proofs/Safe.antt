@@ -1,12 +1,11 @@
 -- The lines that are written leave the parameters' magic, and are of the storage.
-use Rattle.std.proofs.Common.{◌≡◌, ◌≢◌, ℕ, suc, ◌+◌, ◌*◌, ◌/◌, ◌%◌, ◌<◌, ◌≤◌, Bool, true, false, cond, List, [], ◌∷◌, ◌++◌, length, take, drop, refl, sym, ◌∙◌, ap, subst, arith, length-drop, length-take}
-use Rattle.std.specs.Prelude.{All, Result, Ok, nat_lt}
-use Rattle.std.proofs.lemmas.List.{append-nil}
+use Rattle.std.proofs.Common.{◌≡◌, ◌≢◌, ℕ, ◌+◌, ◌/◌, ◌%◌, ◌<◌, ◌≤◌, Bool, true, false, cond, List, [], ◌∷◌, ◌++◌, length, take, drop, refl, sym, ◌∙◌, ap, subst, arith, length-drop, length-take}
+use Rattle.std.specs.Prelude.{Ok, nat_lt}
 use Rattle.std.proofs.lemmas.List.Elements.{All-nil, All-append}
 use Rattle.storage_lines.specs.declared.lines.LineWrite.{LineWrite}
 use Rattle.storage_lines.specs.declared.lines.TheConstants.{STORAGE_BYTES, LINES}
 use Rattle.storage_lines.specs.declared.areas.Area.TheVariants.{Param, Mission, Fence}
-use Rattle.storage_lines.specs.Areas.{logical_of, size_of_area}
+use Rattle.storage_lines.specs.Areas.{size_of_area}
 use Rattle.storage_lines.specs.Bytes.{IsBytes, AreInside}
 use Rattle.storage_lines.specs.Lines.{after, changes, EachPrefix}
 use Rattle.storage_lines.specs.Pieces.{writes_of_piece}

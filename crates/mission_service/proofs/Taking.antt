@@ -1,5 +1,5 @@
 -- What taking an item does.
-use Rattle.std.proofs.Common.{◌≡◌, ℕ, ◌+◌, ◌<◌, ◌≤◌, Bool, true, false, cond, List, [], ◌∷◌, ◌++◌, length, take, refl, sym, ◌∙◌, ap, subst, arith, Option, Some, None, inl, inr}
+use Rattle.std.proofs.Common.{◌≡◌, ℕ, List, length, take, sym, ◌∙◌, ap, subst, arith, inl, inr}
 use Rattle.std.specs.Prelude.{Result, Ok, Err}
 use Rattle.std.proofs.lemmas.List.{take_all}
 use Rattle.std.proofs.lemmas.Bool.{cases_lt}
@@ -9,9 +9,8 @@ use Rattle.fence_records.specs.declared.items.FenceItem.{FenceItem}
 use Rattle.fence_records.specs.Cut.{IsAllowedFence}
 use Rattle.fence_records.specs.Lists.{replace_writes}
 use Rattle.fence_records.proofs.Runs.{figures_are_cuts}
-use Rattle.mission_service.specs.Uploads as model
 use Rattle.mission_service.specs.Uploads.{MissionType, Missions, Upload, Uploads, with_uploads}
-use Rattle.mission_service.specs.Service.{From, Did, Taken, Content, Answer, after_item, told_after, took, does, only}
+use Rattle.mission_service.specs.Service.{From, Did, Taken, Content, after_item, told_after, took, does}
 
 -- what holds after each prefix, for any number
 pub every_prefix : (P : List ℕ → Type 0) (b : List ℕ) (ws : List LineWrite) → EachPrefix P b ws → (j : ℕ) → P (after b (take j ws))

@@ -1,5 +1,5 @@
 -- What a message asks for.
-use Rattle.std.specs.Prelude.{◌≡◌, ◌≢◌, Option, Some, Result, Ok, Err}
+use Rattle.std.specs.Prelude.{◌≡◌, ◌≢◌, Option, Some, Ok, Err}
 use Rattle.mission_commands.specs.Storable.{IsStorable}
 use Rattle.fence_records.specs.Lists.{IsFenceItem}
 use Rattle.mav_messages.specs.declared.messages.Message.{Message}

@@ -1,4 +1,3 @@
-use Rattle.std.proofs.Common.{◌≡◌, arith}
 use Rattle.param_records.specs.Steps.{HasMagic}
 use Rattle.mission_service.proofs.Taking.{every_prefix}
 use Rattle.mission_service.proofs.answer.Goals as goal

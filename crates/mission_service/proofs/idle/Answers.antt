@@ -1,8 +1,7 @@
-use Rattle.std.proofs.Common.{◌≡◌, ℕ, List, [], ◌∷◌, ◌++◌, sym, ◌∙◌, ap, subst, append_assoc}
-use Rattle.std.proofs.lemmas.List.{append-nil}
+use Rattle.std.proofs.Common.{List, [], ◌++◌, ◌∙◌, ap, subst, append_assoc}
 use Rattle.mav_messages.specs.declared.messages.Reply.{Reply}
 use Rattle.mission_service.specs.Uploads.{Missions, kinds}
-use Rattle.mission_service.specs.Service.{Told, all_reminded}
+use Rattle.mission_service.specs.Service.{all_reminded}
 use Rattle.mission_service.specs.Replies.{AreRepliesOf}
 use Rattle.mission_service.proofs.Telling.{two_told}
 use Rattle.mission_service.proofs.idle.Goals as goal

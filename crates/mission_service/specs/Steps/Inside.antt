@@ -4,7 +4,7 @@ use Rattle.storage_lines.specs.declared.lines.LineWrite.{LineWrite}
 use Rattle.fence_records.specs.declared.items.FenceItem.{FenceItem}
 use Rattle.mission_service.specs.Uploads as model
 use Rattle.mission_service.specs.Requests as model_requests
-use Rattle.mission_service.specs.Service.{Content, From, Did, does, nothing, fence_capacity, idle_turns}
+use Rattle.mission_service.specs.Service.{Content, From, Did, does, fence_capacity, idle_turns}
 use Rattle.mission_records.specs.declared.reading.TheConstants.{CAPACITY}
 use Rattle.mission_service.specs.declared.uploads.Upload.{Upload}
 use Rattle.mission_service.specs.declared.uploads.Uploads.{Uploads}

@@ -1,4 +1,4 @@
-use Rattle.std.proofs.Common.{◌≡◌, arith}
+use Rattle.std.proofs.Common.{arith}
 use Rattle.storage_lines.specs.Bytes.{IsBytes}
 use Rattle.mission_service.proofs.Clearing.{clears_one, after_first, clears_both}
 use Rattle.mission_service.proofs.Safe.{clear_both_safe}

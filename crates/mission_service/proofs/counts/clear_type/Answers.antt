@@ -1,4 +1,4 @@
-use Rattle.std.proofs.Common.{◌≡◌, arith}
+use Rattle.std.proofs.Common.{arith}
 use Rattle.storage_lines.specs.Bytes.{IsBytes}
 use Rattle.mission_records.specs.Mission.{total_writes}
 use Rattle.fence_records.specs.Lists.{clear_writes}

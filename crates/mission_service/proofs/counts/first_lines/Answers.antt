@@ -1,4 +1,4 @@
-use Rattle.std.proofs.Common.{◌≡◌, arith}
+use Rattle.std.proofs.Common.{arith}
 use Rattle.storage_lines.specs.Bytes.{IsBytes}
 use Rattle.mission_records.specs.Mission.{begin_writes}
 use Rattle.mission_service.proofs.Clearing.{from_empty}

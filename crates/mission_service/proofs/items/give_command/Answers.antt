@@ -1,7 +1,6 @@
-use Rattle.std.proofs.Common.{◌≡◌, [], sym, ◌∙◌, ap, subst}
+use Rattle.std.proofs.Common.{[], sym, ◌∙◌, ap, subst}
 use Rattle.mission_records.specs.declared.reading.TheConstants.{CAPACITY}
 use Rattle.mission_service.specs.declared.uploads.Uploads.{Uploads}
-use Rattle.mission_service.specs.Uploads as model
 use Rattle.mission_service.specs.Uploads.{Missions, Mission, uploads_of, with_uploads}
 use Rattle.mission_service.specs.Requests.{ForMission}
 use Rattle.mission_service.specs.Service.{taken, given_to}

@@ -1,6 +1,5 @@
-use Rattle.std.proofs.Common.{◌≡◌, ℕ, ◌<◌, ◌+◌, length, sym, ◌∙◌, ap, subst}
+use Rattle.std.proofs.Common.{◌≡◌, ℕ, ◌+◌, length, sym, ◌∙◌, ap, subst}
 use Rattle.mission_service.specs.declared.uploads.Uploads.{Uploads}
-use Rattle.mission_service.specs.Uploads as model
 use Rattle.mission_service.specs.Uploads.{Missions, Fence, uploads_of, with_uploads}
 use Rattle.mission_service.specs.Requests.{ForFence}
 use Rattle.mission_service.specs.Service.{fence_capacity, taken, given_to}

@@ -1,4 +1,4 @@
-use Rattle.std.proofs.Common.{◌≡◌, ℕ, ◌+◌, List, length, sym, subst, arith, rules, true, false}
+use Rattle.std.proofs.Common.{◌≡◌, ◌+◌, List, length, sym, subst, arith, rules, true, false}
 use Rattle.storage_lines.specs.Bytes.{IsBytes}
 use Rattle.storage_lines.specs.declared.lines.LineWrite.{LineWrite}
 use Rattle.storage_lines.specs.Lines.{after}

@@ -1,4 +1,4 @@
-use Rattle.std.proofs.Common.{◌≡◌, arith}
+use Rattle.std.proofs.Common.{arith}
 use Rattle.storage_lines.specs.Bytes.{IsBytes}
 use Rattle.mission_service.proofs.Safe.{replace_safe}
 use Rattle.mission_service.proofs.items.write_fence.Goals as goal
