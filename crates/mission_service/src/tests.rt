@@ -1,5 +1,5 @@
-//! Worked values: a mission of one waypoint, uploads of two stations at once, finished and cancelled
-//! uploads, a fence of one circle, idle turns, and lines that may not be issued.
+//! Worked values: a mission of one waypoint, uploads of two stations at once, finished and
+//! cancelled uploads, a fence of one circle, idle turns, and lines that may not be issued.
 ghost use Rattle.std.specs.Prelude.{◌≡◌, ◌<◌, length};
 
 use crate::*;

@@ -1,4 +1,4 @@
-//! What is known of the uploads of a type, and what an item and an idle turn do to it.
+//! What is known of the uploads of a type, and which item is the next one of an open upload.
 ghost use Rattle.std.specs.Prelude.{◌≡◌, ◌<◌, ◌≤◌, ◌+◌, ℕ, List, [], length};
 ghost use Rattle.fence_records.specs.declared.items.FenceItem.{FenceItem};
 ghost use Rattle.mission_service.specs.Service.{is_anothers, is_last, after_item, told_after, cancelled};

@@ -30,7 +30,8 @@ pub record IsNextItem (uploads : Uploads) (asker : Asker) (seq : ℕ) (upload : 
       (taken bytes allowed (upload_seen kept upload) given)
 
 -- Whatever is given as an item with this number, its station is told this, and nothing is done.
-pub record IsOtherItem (uploads : Uploads) (asker : Asker) (seq : ℕ) (content : Content) : Type 0 where
+pub record IsOtherItem (uploads : Uploads) (asker : Asker) (seq : ℕ) (content : Content)
+    : Type 0 where
   pub tells : (bytes : List ℕ) (allowed : Option ℕ) (m : Missions) (t : MissionType) (given : Given)
       (kept : List FenceItem) → given_to bytes allowed m (from_seen asker) t seq given
       (uploads_seen kept uploads) ≡ only (from_seen asker) m content
