@@ -1,0 +1,7 @@
+pub mod Keeping
+pub mod Effects
+pub mod RunsByActs
+pub mod Fences
+pub mod ActEffects
+pub mod Held
+pub mod Status

@@ -1,0 +1,220 @@
+-- At each act of a run no upload of a mission is open, or one has been opened and goes on since.
+use Rattle.std.proofs.Common.{◌≡◌, ◌≢◌, ◌⊎◌, inl, inr, ℕ, zero, suc, ◌+◌, ◌-◌, ◌<◌, ◌≤◌, Bool, true, false, cond, not, List, [], ◌∷◌, ◌++◌, length, take, refl, sym, ◌∙◌, ap, subst, arith, Option, Some, None, append_assoc, append-nil, length-append}
+use Rattle.std.specs.Prelude.{Result, Ok, Err, ◌==◌, map}
+use Rattle.std.specs.Option.{option_map_or}
+use Rattle.std.proofs.lemmas.List.{length_push}
+use Rattle.std.proofs.lemmas.Bool.{cases_Bool, cond_both, eqb-true, eq-eqb, not-true, not-false, not_from_true}
+use Rattle.storage_lines.specs.declared.lines.LineWrite.{LineWrite}
+use Rattle.storage_lines.specs.Lines.{after}
+use Rattle.storage_lines.proofs.LineLemmas.{after-append}
+use Rattle.param_records.specs.Changes.{IsFull}
+use Rattle.param_records.specs.Steps.{records_in_storage}
+use Rattle.mission_commands.specs.declared.commands.Command.{Command}
+use Rattle.mission_records.specs.declared.reading.TheConstants.{CAPACITY}
+use Rattle.mission_records.specs.Mission.{total_row, mission_of, put_writes}
+use Rattle.mission_records.specs.Steps.{IsFormatted, IsTotalInOneLine, HasVersion, StaysFormatted}
+use Rattle.mission_service.specs.declared.requests.MissionType.{MissionType}
+use Rattle.mission_service.specs.declared.requests.MissionType.TheVariants.{Mission}
+use Rattle.mission_service.specs.Uploads.{Upload, Uploads, Open}
+use Rattle.mission_service.specs.Requests.{Request, Begin}
+use Rattle.vehicle_core.specs.Vehicle.{Asked, Missions}
+use Rattle.vehicle_core.specs.Acts.{Act, Said, Beat, Stream}
+use Rattle.vehicle_node.specs.Runs.{Run, did_in, act_done, all_acts, start}
+use Rattle.vehicle_laws.specs.Uploads.{run_over, says, Opens, OpensNone, GoesOn, IsUpload, given_from, commands_from, command_in}
+use Rattle.vehicle_laws.specs.Fitting.{ActFits, AllFit}
+use Rattle.vehicle_laws.specs.Laws.{IsPrefixOf, LawOfMissions, StaysInOneLine}
+use Rattle.mission_records.proofs.Totals.{all_writes}
+use Rattle.vehicle_node.proofs.RunLaws.{all_acts-append}
+use Rattle.vehicle_laws.proofs.Keeping.{formatted_then}
+use Rattle.vehicle_laws.proofs.Effects.{Off, Stays, Put}
+use Rattle.vehicle_laws.proofs.ActEffects.{missions_at, ActBegun, act_effect}
+use Rattle.vehicle_laws.proofs.Held.{Held, Ongoing, Step, IsClosed, given_in, more_from, begun, step_stays, step_put, from_cons, goes_on}
+
+pub run_snoc : (b : List ℕ) (ps : List Act) (p : Act) → run_over b (ps ++ p ∷ []) ≡ act_done b (run_over b ps) p
+run_snoc b ps p = all_acts-append b (start b) ps (p ∷ [])
+
+-- what comes up to an act, and that of the act
+pub from_snoc : {X : Type 0} (f : ℕ → Request → Option X) (station seq : ℕ) (ps : List Act) (p : Act) → given_from f station seq (ps ++ p ∷ []) ≡ given_from f station seq ps ++ given_in f station (seq + length (given_from f station seq ps)) p
+from_snoc f station seq [] p = from_cons f station seq p [] ∙ append-nil (given_in f station seq p) ∙ ap (λ (n : ℕ). given_in f station n p) (let same : seq ≡ seq + 0 = omega arith in same)
+from_snoc {X} f station seq (q ∷ ps) p =
+    let m = given_in f station seq q in
+    let n = seq + length m in
+    let xs = given_from f station n ps in
+    let long : n + length xs ≡ seq + length (m ++ xs) = omega (arith, length-append m xs) in
+    from_cons f station seq q (ps ++ p ∷ [])
+    ∙ ap (λ (l : List X). m ++ l) (from_snoc f station n ps p)
+    ∙ sym (append_assoc m xs (given_in f station (n + length xs) p))
+    ∙ ap (λ (k : ℕ). (m ++ xs) ++ given_in f station k p) long
+    ∙ ap (λ (l : List X). l ++ given_in f station (seq + length l) p) (sym (from_cons f station seq q ps))
+
+pub goes_snoc : (t : MissionType) (b : List ℕ) (r : Run) (ps : List Act) (p : Act) → GoesOn t b r ps → GoesOn t b (all_acts b r ps) (p ∷ []) → GoesOn t b r (ps ++ p ∷ [])
+goes_snoc t b r [] p g h = h
+goes_snoc t b r (q ∷ ps) p g h = (g.0, g.1, goes_snoc t b (act_done b r q) ps p g.2 h)
+
+-- one upload has been opened behind some first acts, and these are its acts
+pub record OpenSince (b : List ℕ) (done : List Act) : Type 0 where
+  pub before : List Act
+  pub opening : Act
+  pub since : List Act
+  pub station : ℕ
+  pub count : ℕ
+  pub split : done ≡ before ++ opening ∷ since
+  pub opens : Opens Mission b (run_over b before) opening station count
+  pub goes : GoesOn Mission b (run_over b (before ++ opening ∷ [])) since
+  pub one_line : IsTotalInOneLine (after b (start b).issued) → IsTotalInOneLine (after b (run_over b before).issued)
+  pub ongoing : Ongoing b (run_over b before) (run_over b done) station count (commands_from station 0 since)
+
+pub record Status (b : List ℕ) (done : List Act) : Type 0 where
+  pub formatted : IsFormatted (after b (run_over b done).issued)
+  pub one_line : IsTotalInOneLine (after b (start b).issued) → IsTotalInOneLine (after b (run_over b done).issued)
+  pub then : IsClosed (run_over b done) ⊎ OpenSince b done
+
+-- the run is behind the opening and the acts since
+pub run_since : (b : List ℕ) (done before since : List Act) (opening : Act) → done ≡ before ++ opening ∷ since → all_acts b (run_over b (before ++ opening ∷ [])) since ≡ run_over b done
+run_since b done before since opening e =
+    sym (all_acts-append b (start b) (before ++ opening ∷ []) since)
+    ∙ ap (λ (l : List Act). run_over b l) (append_assoc before (opening ∷ []) since ∙ sym e)
+
+-- one act more of an open upload
+longer : (b : List ℕ) (done : List Act) (p : Act) (x : OpenSince b done) → ActFits p → OpensNone Mission b (run_over b done) p
+    → Step b (run_over b x.before) (run_over b done) x.station x.count (commands_from x.station 0 x.since) p → Status b (done ++ p ∷ [])
+longer b done p x fits alone y =
+    let s = run_over b done in
+    let t = act_done b s p in
+    let e : run_over b (done ++ p ∷ []) ≡ t = run_snoc b done p in
+    let cs = commands_from x.station 0 x.since in
+    let zero_more : 0 + length cs ≡ length cs = omega arith in
+    let more : cs ++ more_from x.station (length cs) p ≡ commands_from x.station 0 (x.since ++ p ∷ []) = sym (from_snoc command_in x.station 0 x.since p ∙ ap (λ (n : ℕ). cs ++ more_from x.station n p) zero_more) in
+    let is_open : (u : Upload) × (missions_at s ≡ Open u) = (x.ongoing.upload, x.ongoing.is) in
+    let goes : GoesOn Mission b (run_over b (x.before ++ x.opening ∷ [])) (x.since ++ p ∷ []) =
+    goes_snoc Mission b (run_over b (x.before ++ x.opening ∷ [])) x.since p x.goes (subst (λ (r : Run). GoesOn Mission b r (p ∷ [])) (sym (run_since b done x.before x.since x.opening x.split)) (is_open, alone, tt)) in
+    record {
+      formatted = subst (λ (r : Run). IsFormatted (after b r.issued)) (sym e) y.held.formatted;
+      one_line = λ o. subst (λ (r : Run). IsTotalInOneLine (after b r.issued)) (sym e) (y.held.one_line (x.one_line o));
+      then = elim y.then [
+        | inl closed ↦ inl (subst IsClosed (sym e) closed)
+        | inr on ↦ inr (record {
+          before = x.before;
+          opening = x.opening;
+          since = x.since ++ p ∷ [];
+          station = x.station;
+          count = x.count;
+          split = ap (λ (l : List Act). l ++ p ∷ []) x.split ∙ append_assoc x.before (x.opening ∷ x.since) (p ∷ []);
+          opens = x.opens;
+          goes = goes;
+          one_line = x.one_line;
+          ongoing = subst (λ (r : Run). Ongoing b (run_over b x.before) r x.station x.count (commands_from x.station 0 (x.since ++ p ∷ []))) (sym e)
+              (subst (Ongoing b (run_over b x.before) t x.station x.count) more on);
+        })
+      ];
+    }
+
+-- where no upload is open there is none to go on
+pub the_open : (b : List ℕ) (done : List Act) (u : Upload) → Status b done → missions_at (run_over b done) ≡ Open u → OpenSince b done
+the_open b done u st e = elim st.then [ inl closed ↦ absurd (closed u e) | inr x ↦ x ]
+
+-- one act more
+pub status_step : (b : List ℕ) (done : List Act) (p : Act) → ActFits p → Status b done → Status b (done ++ p ∷ [])
+status_step b done p fits st =
+    let s = run_over b done in
+    let t = act_done b s p in
+    let bytes = after b s.issued in
+    let e : run_over b (done ++ p ∷ []) ≡ t = run_snoc b done p in
+    elim (act_effect b s p st.formatted fits) [
+      | inl x ↦
+          let new = begun b s p st.formatted x in
+          record {
+            formatted = subst (λ (r : Run). IsFormatted (after b r.issued)) (sym e) new.held.formatted;
+            one_line = λ o. subst (λ (r : Run). IsTotalInOneLine (after b r.issued)) (sym e) (new.held.one_line (st.one_line o));
+            then = inr (record {
+              before = done;
+              opening = p;
+              since = [];
+              station = x.station;
+              count = x.count;
+              split = refl;
+              opens = x.opens;
+              goes = tt;
+              one_line = st.one_line;
+              ongoing = subst (λ (r : Run). Ongoing b s r x.station x.count []) (sym e) new;
+            });
+          }
+      | inr y ↦ elim y.1 [
+        | inl x ↦ record {
+          formatted = subst (λ (r : Run). IsFormatted (after b r.issued)) (sym e)
+              (subst IsFormatted (sym (after-append b s.issued (did_in b s p).writes)) (formatted_then bytes (did_in b s p).writes x.empties.stays));
+          one_line = λ o. subst (λ (r : Run). IsTotalInOneLine (after b r.issued)) (sym e)
+              (subst IsTotalInOneLine (sym (after-append b s.issued (did_in b s p).writes)) ((all_writes (StaysFormatted bytes) bytes (did_in b s p).writes x.empties.stays).one_line (st.one_line o)));
+          then = inl (subst IsClosed (sym e) x.closed);
+        }
+        | inr z ↦
+            let x = the_open b done z.0 st z.1 in
+            let cs = commands_from x.station 0 x.since in
+            elim z.2 [
+              | inl w ↦ longer b done p x fits y.0 (step_stays b (run_over b x.before) s x.station x.count cs p z.0 x.ongoing z.1 w)
+              | inr w ↦ longer b done p x fits y.0 (step_put b (run_over b x.before) s x.station x.count cs p z.0 x.ongoing z.1 w)
+            ]
+      ]
+    ]
+
+-- all acts
+pub status_all : (b : List ℕ) (ps done : List Act) → AllFit ps → Status b done → Status b (done ++ ps)
+status_all b [] done fit st = subst (Status b) (sym (append-nil done)) st
+status_all b (p ∷ ps) done fit st = subst (Status b) (append_assoc done (p ∷ []) ps) (status_all b ps (done ++ p ∷ []) fit.1 (status_step b done p fit.0 st))
+
+quiet_at_first : (b : List ℕ) → IsClosed (start b)
+quiet_at_first b u e = cc
+
+pub status : (b : List ℕ) (ps : List Act) → IsFormatted (after b (start b).issued) → AllFit ps → Status b ps
+status b ps f fit = status_all b ps [] fit (record { formatted = f; one_line = λ o. o; then = inl (quiet_at_first b) })
+
+pub fit_before : (xs ys : List Act) → AllFit (xs ++ ys) → AllFit xs
+fit_before [] ys h = tt
+fit_before (x ∷ xs) ys h = (h.0, fit_before xs ys h.1)
+
+pub fit_since : (xs ys : List Act) → AllFit (xs ++ ys) → AllFit ys
+fit_since [] ys h = h
+fit_since (x ∷ xs) ys h = fit_since xs ys h.1
+
+abbrev who_says : Act → ℕ
+who_says (Said s heard) = s
+who_says (Beat s) = s
+who_says (Stream s) = s
+
+abbrev count_in : Request → ℕ
+count_in (Begin t count) = count
+count_in _ = 0
+
+abbrev count_asked : Option Asked → ℕ
+count_asked (Some (Missions sender asking)) = count_in asking.request
+count_asked _ = 0
+
+abbrev count_said : Act → ℕ
+count_said (Said s heard) = count_asked heard.asked
+count_said _ = 0
+
+-- The opening of an upload begins it.
+pub opened_here : (b : List ℕ) (r : Run) (p : Act) (station count : ℕ) → IsFormatted (after b r.issued) → ActFits p → Opens Mission b r p station count → Ongoing b r (act_done b r p) station count []
+opened_here b r p station count f fits o = elim (act_effect b r p f fits) [
+  | inl x ↦
+      let both : says x.station x.opens.v2 x.opens.sender x.opens.number (Begin Mission x.count) ≡ says station o.v2 o.sender o.number (Begin Mission count) = sym x.opens.is ∙ o.is in
+      let one : x.station ≡ station = ap who_says both in
+      let two : x.count ≡ count = ap count_said both in
+      subst (λ (n : ℕ). Ongoing b r (act_done b r p) n count []) one (subst (λ (n : ℕ). Ongoing b r (act_done b r p) x.station n []) two (begun b r p f x))
+  | inr y ↦ absurd (y.0 station count o)
+]
+
+pub law_of_missions : LawOfMissions
+law_of_missions b before since opening station count k f up one from upto =
+    let r = run_over b before in
+    let e = run_over b (before ++ opening ∷ since) in
+    let st = status b before f (fit_before before (opening ∷ since) up.fit) in
+    let back = fit_since before (opening ∷ since) up.fit in
+    let first = opened_here b r opening station count st.formatted back.0 up.opens in
+    let g : GoesOn Mission b (act_done b r opening) since = subst (λ (x : Run). GoesOn Mission b x since) (run_snoc b before opening) up.goes_on in
+    let end : all_acts b (act_done b r opening) since ≡ e = ap (λ (x : Run). all_acts b x since) (sym (run_snoc b before opening)) ∙ run_since b (before ++ opening ∷ since) before since opening refl in
+    let held : Held b r e (commands_from station 0 since) = subst (λ (x : Run). Held b r x (commands_from station 0 since)) end (goes_on b r (act_done b r opening) station count [] since first g back.1) in
+    held.each one k from upto
+
+pub stays_in_one_line : StaysInOneLine
+stays_in_one_line b acts f fit one = (status b acts f fit).one_line one

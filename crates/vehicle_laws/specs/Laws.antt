@@ -1,0 +1,117 @@
+-- The laws over runs: of missions, of uploads, of fences, and of what the start leaves.
+use Rattle.std.specs.Prelude.{◌≡◌, ◌≢◌, ◌⊎◌, ◌≤◌, ℕ, List, [], ◌∷◌, ◌++◌, length, take}
+use Rattle.std.specs.List.{flat_map}
+use Rattle.flash_traits.specs.Losses.{Received}
+use Rattle.storage_lines.specs.declared.lines.TheConstants.{STORAGE_BYTES}
+use Rattle.storage_lines.specs.declared.areas.Area.TheVariants.{Param}
+use Rattle.storage_lines.specs.Areas.{logical_of}
+use Rattle.storage_lines.specs.Bytes.{IsBytes}
+use Rattle.storage_lines.specs.Lines.{after}
+use Rattle.param_records.specs.Steps.{HasMagic}
+use Rattle.mission_commands.specs.declared.commands.Command.{Command}
+use Rattle.mission_records.specs.Mission.{mission_of}
+use Rattle.mission_records.specs.Steps.{IsFormatted, IsTotalInOneLine}
+use Rattle.fence_records.specs.Lists.{fence_of}
+use Rattle.mission_service.specs.declared.requests.MissionType.{MissionType}
+use Rattle.mission_service.specs.declared.requests.MissionType.TheVariants.{Mission, Fence}
+use Rattle.mission_service.specs.Uploads.{Upload}
+use Rattle.vehicle_core.specs.Acts.{Act}
+use Rattle.vehicle_node.specs.Reading.{Reads, no_rests}
+use Rattle.vehicle_node.specs.Runs.{Run, did_in, act_done, start, run_of}
+use Rattle.vehicle_laws.specs.Fitting.{AllFit}
+use Rattle.vehicle_laws.specs.Uploads.{run_over, IsUpload, Ends, commands_from, fence_items_from}
+
+-- the acts of events, one after another
+abbrev pub acts_of : List (List Act) → List Act
+acts_of events = flat_map (λ acts. acts) events
+
+-- what two runs have done is the same; how many lines were flushed may differ
+pub record HasDoneSame (r s : Run) : Type 0 where
+  pub machine : r.machine ≡ s.machine
+  pub issued : r.issued ≡ s.issued
+  pub answers : r.answers ≡ s.answers
+
+-- What a run of events has done is what the run over all their acts has: where one event ends and
+-- the next begins counts for what is flushed alone.
+abbrev pub RunsByActs : Type 0
+RunsByActs = (b : List ℕ) (events : List (List Act))
+    → HasDoneSame (run_of b events) (run_over b (acts_of events))
+
+-- The acts that are read of events fit.
+abbrev pub ReadActsFit : Type 0
+ReadActsFit = (events : List Received) (acts : List (List Act)) (rests : List (List ℕ))
+    → Reads no_rests events acts rests → AllFit (acts_of acts)
+
+-- the current bytes of a run
+abbrev pub current : List ℕ → Run → List ℕ
+current b r = after b r.issued
+
+-- the list begins with this one
+abbrev pub IsPrefixOf : List Command → List Command → Type 0
+IsPrefixOf prefix whole = (rest : List Command) × (prefix ++ rest ≡ whole)
+
+-- the bytes are formatted where the lines of boot are issued
+abbrev pub StartsFormatted : List ℕ → Type 0
+StartsFormatted b = IsFormatted (current b (start b))
+
+-- Of an upload of the mission that opened where MIS_TOTAL lay in one line: after each number of
+-- issued lines from its opening on, the mission is the one from before it, or a prefix of the
+-- commands that came in it.
+abbrev pub LawOfMissions : Type 0
+LawOfMissions = (b : List ℕ) (before since : List Act) (opening : Act) (station count k : ℕ)
+    → StartsFormatted b → IsUpload Mission b before opening since station count
+    → IsTotalInOneLine (current b (run_over b before))
+    → length (run_over b before).issued ≤ k
+    → k ≤ length (run_over b (before ++ opening ∷ since)).issued
+    → let now = mission_of (after b (take k (run_over b (before ++ opening ∷ since)).issued)) in
+    (now ≡ mission_of (current b (run_over b before)))
+    ⊎ IsPrefixOf now (commands_from station 0 since)
+
+-- What an upload has stored that ended with the answer 0: `stored` reads the list in storage bytes,
+-- and `from` is what a station gives from a number on. The acts since its opening, up to the last
+-- one, have given the whole list, as many as its COUNT said.
+pub record Stores {X : Type 0} (t : MissionType) (stored : List ℕ → List X)
+    (from : ℕ → ℕ → List Act → List X) (b : List ℕ) (acts : List Act) (last : Act) (u : Upload)
+    : Type 0 where
+  pub before : List Act
+  pub opening : Act
+  pub since : List Act
+  pub split : acts ≡ before ++ opening ∷ since
+  pub upload : IsUpload t b before opening (since ++ last ∷ []) u.owner u.count
+  pub list : stored (current b (run_over b (acts ++ last ∷ [])))
+      ≡ from u.owner 0 (since ++ last ∷ [])
+  pub all : length (from u.owner 0 (since ++ last ∷ [])) ≡ u.count
+
+-- Where an upload of the mission ends with the answer 0, the mission is then the list of the
+-- commands that its own station gave in it from number 0 on, as many as its COUNT said.
+abbrev pub LawOfUploads : Type 0
+LawOfUploads = (b : List ℕ) (acts : List Act) (last : Act) (u : Upload)
+    → StartsFormatted b → AllFit (acts ++ last ∷ []) → Ends Mission b (run_over b acts) last u
+    → Stores Mission mission_of commands_from b acts last u
+
+-- The same of a fence.
+abbrev pub LawOfFenceUploads : Type 0
+LawOfFenceUploads = (b : List ℕ) (acts : List Act) (last : Act) (u : Upload)
+    → length b ≡ STORAGE_BYTES → AllFit (acts ++ last ∷ []) → Ends Fence b (run_over b acts) last u
+    → Stores Fence fence_of fence_items_from b acts last u
+
+-- After each number of the lines of an act the fence is the one from before it, none, or the one
+-- after it.
+abbrev pub LawOfFences : Type 0
+LawOfFences = (b : List ℕ) (acts : List Act) (act : Act) (j : ℕ)
+    → StartsFormatted b → AllFit (acts ++ act ∷ [])
+    → let r = run_over b acts in
+    let now = fence_of (after b (r.issued ++ take j (did_in b r act).writes)) in
+    (now ≡ fence_of (current b r)) ⊎ ((now ≡ []) ⊎ (now ≡ fence_of (current b (act_done b r act))))
+
+-- Boot leaves formatted bytes, and where it formats them itself, MIS_TOTAL lies in one line.
+pub record BootFormats : Type 0 where
+  pub formatted : (b : List ℕ) → length b ≡ STORAGE_BYTES → IsBytes (logical_of Param b)
+      → StartsFormatted b
+  pub in_one_line : (b : List ℕ) → length b ≡ STORAGE_BYTES → ¬ HasMagic b
+      → IsTotalInOneLine (current b (start b))
+
+-- Where MIS_TOTAL lies in one line at the start, it does after any acts.
+abbrev pub StaysInOneLine : Type 0
+StaysInOneLine = (b : List ℕ) (acts : List Act) → StartsFormatted b → AllFit acts
+    → IsTotalInOneLine (current b (start b)) → IsTotalInOneLine (current b (run_over b acts))

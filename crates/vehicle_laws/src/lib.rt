@@ -1,0 +1,7 @@
+//! The laws over runs of the vehicle machine: what the mission, the fence and the parameters are
+//! after any number of issued lines, whatever the stations say.
+#![tactic(auto)]
+
+mod laws;
+
+pub use laws::{law_of_missions, runs_by_acts, stays_in_one_line};
