@@ -5,3 +5,6 @@ pub mod Fences
 pub mod ActEffects
 pub mod Held
 pub mod Status
+pub mod Ends
+pub mod Boot
+pub mod Reading

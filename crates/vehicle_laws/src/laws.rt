@@ -1,6 +1,6 @@
 //! The laws, on functions that do nothing.
 
-ghost use Rattle.vehicle_laws.specs.Laws.{RunsByActs, LawOfMissions, StaysInOneLine};
+ghost use Rattle.vehicle_laws.specs.Laws.{RunsByActs, LawOfMissions, LawOfUploads, StaysInOneLine, BootFormats};
 
 /// What events do is what their acts do, one after another.
 pub fn runs_by_acts()
@@ -11,6 +11,17 @@ pub fn runs_by_acts()
 /// the new one.
 pub fn law_of_missions()
     ensures { LawOfMissions }
+{}
+
+/// An upload that ends with the answer 0 has stored the commands of its station, all of them in
+/// order.
+pub fn law_of_uploads()
+    ensures { LawOfUploads }
+{}
+
+/// Boot leaves formatted bytes.
+pub fn boot_formats()
+    ensures { BootFormats }
 {}
 
 /// MIS_TOTAL stays in one line.

@@ -4,4 +4,4 @@
 
 mod laws;
 
-pub use laws::{law_of_missions, runs_by_acts, stays_in_one_line};
+pub use laws::{boot_formats, law_of_missions, law_of_uploads, runs_by_acts, stays_in_one_line};

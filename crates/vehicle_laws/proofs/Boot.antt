@@ -1,0 +1,80 @@
+-- What boot leaves.
+use Rattle.std.proofs.Common.{◌≡◌, inl, inr, ℕ, zero, suc, ◌+◌, ◌<◌, ◌≤◌, Bool, true, false, cond, List, [], ◌∷◌, ◌++◌, length, take, refl, sym, ◌∙◌, ap, subst, arith, append-nil}
+use Rattle.std.specs.Prelude.{nat_lt, ◌&&◌, All}
+use Rattle.std.specs.Str.{bytes_eq}
+use Rattle.std.proofs.lemmas.Bool.{cases_Bool, and_parts, ltb-true}
+use Rattle.std.proofs.lemmas.Slice.Eq.{bytes_eq-Decides}
+use Rattle.storage_lines.specs.declared.lines.LineWrite.{LineWrite}
+use Rattle.storage_lines.specs.declared.lines.TheConstants.{STORAGE_BYTES}
+use Rattle.storage_lines.specs.declared.areas.Area.TheVariants.{Param}
+use Rattle.storage_lines.specs.Areas.{logical_of}
+use Rattle.storage_lines.specs.Bytes.{IsBytes}
+use Rattle.storage_lines.specs.Lines.{after}
+use Rattle.storage_lines.specs.Pieces.{Piece, writes_of}
+use Rattle.storage_lines.proofs.LineLemmas.{length-after}
+use Rattle.param_records.specs.Records.{Record, magic, HasRecords}
+use Rattle.param_records.specs.Changes.{piece, formatting, total_zero}
+use Rattle.param_records.specs.Steps.{HasMagic}
+use Rattle.std.proofs.lemmas.List.Elements.{All-nil, All-cons}
+use Rattle.param_records.proofs.FormatLemmas.{formats}
+use Rattle.param_records.proofs.OtherAreas.{IsParamPiece, two_fit}
+use Rattle.param_records.proofs.StepLemmas.{front_is}
+use Rattle.mission_records.proofs.Totals.{all_writes}
+use Rattle.mission_records.proofs.Pieces.{all_low}
+use Rattle.mission_records.specs.Steps.{IsFormatted, IsTotalInOneLine}
+use Rattle.mission_records.proofs.Puts.{in_one_line}
+use Rattle.vehicle_node.specs.Runs.{boot, start}
+use Rattle.vehicle_laws.specs.Laws.{StartsFormatted, BootFormats}
+
+nil_bytes : IsBytes []
+nil_bytes i = omega arith
+
+cons_bytes : (x : ℕ) (xs : List ℕ) → x < 256 → IsBytes xs → IsBytes (x ∷ xs)
+cons_bytes x xs h rest zero = h
+cons_bytes x xs h rest (suc i) = rest i
+
+abbrev all_small : List ℕ → Bool
+all_small [] = true
+all_small (x ∷ xs) = nat_lt x 256 && all_small xs
+
+small : (xs : List ℕ) → all_small xs ≡ true → IsBytes xs
+small [] h = nil_bytes
+small (x ∷ xs) h = let parts = and_parts (nat_lt x 256) (all_small xs) h in cons_bytes x xs (ltb-true x 256 parts.0) (small xs parts.1)
+
+-- the bytes of a piece are bytes
+abbrev OfBytes : Piece → Type 0
+OfBytes q = IsBytes q.bytes
+
+formatted_now : (b : List ℕ) → length b ≡ STORAGE_BYTES → IsBytes (logical_of Param b) → IsFormatted (after b (writes_of b formatting))
+formatted_now b size low =
+    let all = formats in
+    let ws = writes_of b formatting in
+    let one : List ℕ = 0 ∷ 0 ∷ 0xFF ∷ 0xFF ∷ 0x3F ∷ 0 ∷ 0 ∷ 0 ∷ [] in
+    let zero : List ℕ = 0x50 ∷ 0x41 ∷ 0x06 ∷ 0 ∷ 0x14 ∷ 0x42 ∷ 0 ∷ 0 ∷ [] in
+    let fit : All IsParamPiece formatting = two_fit 8 0 one zero (omega arith) (omega arith) in
+    let of_bytes : All OfBytes formatting = All-cons OfBytes (piece 8 one) (piece 0 zero ∷ []) (small one refl) (All-cons OfBytes (piece 0 zero) [] (small zero refl) (All-nil OfBytes)) in
+    let params = all_writes (λ (now : List ℕ). IsBytes (logical_of Param now)) b ws (all_low b formatting size fit of_bytes low) in
+    record { size = length-after b ws ∙ size; params = params; magic = front_is (logical_of Param (after b ws)) (total_zero ∷ []) 10 (all b size).whole }
+
+boot_none : (b : List ℕ) → bytes_eq (take 4 (logical_of Param b)) magic ≡ true → boot b ≡ []
+unfolding boot
+boot_none b h = ap (λ (t : Bool). cond t [] (writes_of b formatting) ++ []) h
+
+boot_all : (b : List ℕ) → bytes_eq (take 4 (logical_of Param b)) magic ≡ false → boot b ≡ writes_of b formatting
+unfolding boot
+boot_all b h = ap (λ (t : Bool). cond t [] (writes_of b formatting) ++ []) h ∙ append-nil (writes_of b formatting)
+
+boot_formatted : (b : List ℕ) → length b ≡ STORAGE_BYTES → IsBytes (logical_of Param b) → StartsFormatted b
+boot_formatted b size low = elim (cases_Bool (bytes_eq (take 4 (logical_of Param b)) magic)) [
+  | inl same ↦ subst (λ (ws : List LineWrite). IsFormatted (after b ws)) (sym (boot_none b same)) (record { size = size; params = low; magic = (bytes_eq-Decides (take 4 (logical_of Param b)) magic).0 same })
+  | inr other ↦ subst (λ (ws : List LineWrite). IsFormatted (after b ws)) (sym (boot_all b other)) (formatted_now b size low)
+]
+
+boot_in_one_line : (b : List ℕ) → length b ≡ STORAGE_BYTES → ¬ HasMagic b → IsTotalInOneLine (after b (start b).issued)
+boot_in_one_line b size other = elim (cases_Bool (bytes_eq (take 4 (logical_of Param b)) magic)) [
+  | inl same ↦ absurd (other ((bytes_eq-Decides (take 4 (logical_of Param b)) magic).0 same))
+  | inr differ ↦ subst (λ (ws : List LineWrite). IsTotalInOneLine (after b ws)) (sym (boot_all b differ)) (in_one_line b size)
+]
+
+pub boot_formats : BootFormats
+boot_formats = record { formatted = boot_formatted; in_one_line = boot_in_one_line }

@@ -1,0 +1,54 @@
+-- What is read of frames fits.
+use Rattle.std.proofs.Common.{◌≡◌, ◌⊎◌, inl, inr, ℕ, Bool, true, false, cond, List, [], ◌∷◌, ◌++◌, refl, sym, ◌∙◌, ap, subst, Option, Some, None}
+use Rattle.std.specs.Prelude.{IfSome, slice_get, map, option_map, if◌then◌else◌}
+use Rattle.std.specs.List.{range_with_len}
+use Rattle.std.proofs.lemmas.Bool.{cond_both}
+use Rattle.flash_traits.specs.Losses.{Received, Datagram, Idle, End}
+use Rattle.param_tree.specs.declared.Var.{Var}
+use Rattle.param_tree.specs.Rules.{has_name}
+use Rattle.param_tree.specs.Rows.{vehicle_rows}
+use Rattle.param_records.specs.Steps.{IsKept}
+use Rattle.param_records.proofs.SetLemmas.{kept_number}
+use Rattle.param_service.specs.Requests as parameters
+use Rattle.param_service.specs.Requests.{Show, ShowAll, Set, IsNumberFor, IsSetting, is_for, row_of, row_named}
+use Rattle.mav_messages.specs.declared.messages.Message.{Message}
+use Rattle.mav_messages.specs.declared.messages.Message.TheVariants as message
+use Rattle.mission_service.specs.declared.uploads.Target.{Target}
+use Rattle.mission_service.specs.Requests as missions
+use Rattle.mission_service.specs.Asked.{AsksWhatFits}
+use Rattle.vehicle_core.specs.Vehicle.{Asked, Parameters, Missions, Asks, one_of}
+use Rattle.vehicle_core.specs.Acts.{Act, Said, Beat, Stream, heard_as}
+use Rattle.vehicle_node.specs.Reading.{Says, IsSilent, AreSaid, IsEvent, Reads, no_rests, streams, beats}
+use Rattle.vehicle_laws.specs.Fitting.{SettingFits, AskedFits, ActFits, AllFit}
+use Rattle.vehicle_laws.specs.Laws.{acts_of, ReadActsFit}
+
+-- what is asked of the parameters, if anything
+abbrev pub AskedSettingFits : Option parameters.Request → Type 0
+AskedSettingFits None = Unit {0}
+AskedSettingFits (Some request) = SettingFits request
+
+number_fits : (o : Option Var) (bits : ℕ) (number : Option ℕ) → IfSome o (λ row. IsNumberFor row bits number) → (n : ℕ) → number ≡ Some n → IfSome o (λ row. IsKept row.kind n)
+number_fits None bits number h n e = h
+number_fits (Some row) bits None h n e = absurd (let clash : let none : Option ℕ = None in none ≡ Some n = e in cc)
+number_fits (Some row) bits (Some m) h n e = let same : m ≡ n = cc in subst (λ (k : ℕ). IsKept row.kind k) same (kept_number row.kind bits m h)
+
+setting_fits : (index bits : ℕ) (number : Option ℕ) → IfSome (slice_get vehicle_rows index) (λ row. IsNumberFor row bits number) → SettingFits (Set index number)
+setting_fits index bits None h = tt
+setting_fits index bits (Some n) h = number_fits (slice_get vehicle_rows index) bits (Some n) h n refl
+
+set_fits : (row : Option ℕ) (bits : ℕ) (asked : Option parameters.Request) → IsSetting row bits asked → AskedSettingFits asked
+set_fits None bits asked e = subst AskedSettingFits (sym e) tt
+set_fits (Some index) bits asked h = subst AskedSettingFits (sym h.2) (setting_fits index bits h.0 h.1)
+
+shown_fits : (o : Option ℕ) → AskedSettingFits (option_map Show o)
+shown_fits None = tt
+shown_fits (Some index) = tt
+
+-- what a message asks of the parameters fits
+parameters_fit : (m : Message) (asked : Option parameters.Request) → parameters.Asks m asked → AskedSettingFits asked
+parameters_fit (message.ParamRequestRead index system component name) asked h = subst AskedSettingFits (sym h)
+    (cond_both (is_for system component) (option_map Show (row_of index name)) None AskedSettingFits (λ t. shown_fits (row_of index name)) (λ t. tt))
+parameters_fit (message.ParamRequestList system component) asked h = subst AskedSettingFits (sym h)
+    (cond_both (is_for system component) (Some ShowAll) None AskedSettingFits (λ t. tt) (λ t. tt))
+parameters_fit (message.ParamSet bits system component name kind) asked h = set_fits (cond (is_for system component) (row_named name) None) bits asked h
+parameters_fit _ asked h = subst AskedSettingFits (sym h) tt
