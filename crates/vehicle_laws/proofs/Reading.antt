@@ -15,10 +15,12 @@ use Rattle.mav_messages.specs.declared.messages.Message.{Message}
 use Rattle.mav_messages.specs.declared.messages.Message.TheVariants as message
 use Rattle.mission_service.specs.declared.uploads.Target.{Target}
 use Rattle.mission_service.specs.Requests as missions
-use Rattle.mission_service.specs.Asked.{AsksWhatFits}
+use Rattle.mission_service.specs.Asked.{RequestFits, AsksWhatFits}
 use Rattle.vehicle_core.specs.Vehicle.{Asked, Parameters, Missions, Asks, one_of}
 use Rattle.vehicle_core.specs.Acts.{Act, Said, Beat, Stream, heard_as}
-use Rattle.vehicle_node.specs.Reading.{Says, IsSilent, AreSaid, IsEvent, Reads, no_rests, streams, beats}
+use Rattle.vehicle_node.specs.Reading.{Says, sender_in, AreSaid, IsEvent, Reads, no_rests, streams, beats}
+use Rattle.vehicle_node.specs.Frames.{stations}
+use Rattle.mav_frames.specs.Cut.{frames_in}
 use Rattle.vehicle_laws.specs.Fitting.{SettingFits, AskedFits, ActFits, AllFit}
 use Rattle.vehicle_laws.specs.Laws.{acts_of, ReadActsFit}
 
@@ -52,3 +54,41 @@ parameters_fit (message.ParamRequestList system component) asked h = subst Asked
     (cond_both (is_for system component) (Some ShowAll) None AskedSettingFits (λ t. tt) (λ t. tt))
 parameters_fit (message.ParamSet bits system component name kind) asked h = set_fits (cond (is_for system component) (row_named name) None) bits asked h
 parameters_fit _ asked h = subst AskedSettingFits (sym h) tt
+
+one_fits : (sender : Target) (request : Option parameters.Request) (asking : Option missions.Asking) → AskedSettingFits request → ((a : missions.Asking) → asking ≡ Some a → RequestFits a.request) → AskedFits (one_of (option_map Parameters request) (option_map (Missions sender) asking))
+one_fits sender (Some request) asking f g = f
+one_fits sender None (Some asking) f g = g asking refl
+one_fits sender None None f g = tt
+
+-- what a message asks fits
+asked_fits : AsksWhatFits → (sender : Target) (m : Message) (asked : Option Asked) → Asks sender m asked → AskedFits asked
+asked_fits q sender m asked h = subst AskedFits (sym h.4) (one_fits sender h.0 h.2 (parameters_fit m h.0 h.1) (λ a e. q m a (subst (λ (x : Option missions.Asking). missions.Asks m x) e h.3)))
+
+said_fit : AsksWhatFits → (station : ℕ) (frames : List (List ℕ)) (acts : List Act) → AreSaid station frames acts → AllFit acts
+said_fit q station [] acts h = subst AllFit (sym h) tt
+said_fit q station (bytes ∷ frames) acts (inl h) = said_fit q station frames acts h.1
+said_fit q station (bytes ∷ frames) acts (inr h) = subst AllFit (sym h.4) (asked_fits q (sender_in bytes) h.2.message h.0 h.2.asks, said_fit q station frames h.1 h.3)
+
+fit_append : (xs ys : List Act) → AllFit xs → AllFit ys → AllFit (xs ++ ys)
+fit_append [] ys a b = b
+fit_append (x ∷ xs) ys a b = (a.0, fit_append xs ys a.1 b)
+
+streams_fit : (ss : List ℕ) → AllFit (map Stream ss)
+streams_fit [] = tt
+streams_fit (s ∷ ss) = (tt, streams_fit ss)
+
+beats_fit : (ss : List ℕ) → AllFit (map Beat ss)
+beats_fit [] = tt
+beats_fit (s ∷ ss) = (tt, beats_fit ss)
+
+event_fits : AsksWhatFits → (old : List (List ℕ)) (e : Received) (acts : List Act) (new : List (List ℕ)) → IsEvent old e acts new → AllFit acts
+event_fits q old (Datagram station bytes) acts new h = subst AllFit (sym h.acts_are) (fit_append h.said streams (said_fit q station (frames_in h.pieces) h.said h.are_said) (streams_fit stations))
+event_fits q old Idle acts new h = subst AllFit (sym h.0) (fit_append beats streams (beats_fit stations) (streams_fit stations))
+event_fits q old End acts new h = subst AllFit (sym h.0) tt
+
+reads_fit : AsksWhatFits → (old : List (List ℕ)) (events : List Received) (acts : List (List Act)) (new : List (List ℕ)) → Reads old events acts new → AllFit (acts_of acts)
+reads_fit q old [] acts new h = subst (λ (l : List (List Act)). AllFit (acts_of l)) (sym h.0) tt
+reads_fit q old (e ∷ es) acts new h = subst (λ (l : List (List Act)). AllFit (acts_of l)) (sym h.5) (fit_append h.0 (acts_of h.2) (event_fits q old e h.0 h.1 h.3) (reads_fit q h.1 es h.2 new h.4))
+
+pub read_acts_fit : AsksWhatFits → ReadActsFit
+read_acts_fit q events acts rests h = reads_fit q no_rests events acts rests h

@@ -4,4 +4,6 @@
 
 mod laws;
 
-pub use laws::{boot_formats, law_of_missions, law_of_uploads, runs_by_acts, stays_in_one_line};
+pub use laws::{
+    boot_formats, law_of_missions, law_of_uploads, read_acts_fit, runs_by_acts, stays_in_one_line,
+};
