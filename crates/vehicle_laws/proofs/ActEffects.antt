@@ -35,7 +35,7 @@ use Rattle.vehicle_node.specs.Runs.{Run, did_in, take_act, act_done}
 use Rattle.vehicle_laws.specs.Uploads.{uploads_at, says, Opens, OpensNone, command_in, said_in}
 use Rattle.vehicle_laws.specs.Fitting.{SettingFits, AskedFits, ActFits}
 use Rattle.vehicle_laws.proofs.Keeping.{keeps_none, keeps_empties}
-use Rattle.vehicle_laws.proofs.Effects.{Begun, NotBegun, is_next, first_next, Off, Stays, Put, Effect, unchanged, effect}
+use Rattle.vehicle_laws.proofs.Effects.{Begun, NotBegun, is_next, first_next, Off, Stays, Put, Effect, cond_none, unchanged, effect}
 
 -- a row that is set keeps the mission
 row_keeps : (bytes : List ℕ) (index number : ℕ) (row : Var) → IsFormatted bytes → slice_get vehicle_rows index ≡ Some row → IsKept row.kind number → Keeps bytes (writes_for bytes row number)
@@ -89,10 +89,6 @@ effect_map : (B C N M : Type 0) (bytes : List ℕ) (before : Uploads) (given : U
 effect_map B C N M bytes before given ws now f g (inl x) = inl (f x)
 effect_map B C N M bytes before given ws now f g (inr x) = inr (g x.0, x.1)
 
-cond_none : (t : Bool) → let n : Option Command = None in cond t n n ≡ n
-cond_none true = refl
-cond_none false = refl
-
 -- an idle turn
 beat_effect : (B N : Type 0) (bytes : List ℕ) (before : Uploads) (station : ℕ) → IsFormatted bytes → N → Effect B N bytes before (λ u. None) [] (idled station Mission before).0
 beat_effect B N bytes Quiet station f alone = unchanged B N bytes Quiet (λ u. None) [] Quiet refl (keeps_none bytes f) (λ u. refl) alone
@@ -137,15 +133,15 @@ same_next : (s : ℕ) (told : List Told) → told_next (map (tells_of_missions s
 same_next s [] = refl
 same_next s (x ∷ xs) = refl
 
-abbrev from_station : ℕ → Target → Asking → service.From
+abbrev pub from_station : ℕ → Target → Asking → service.From
 from_station s sender asking = record { station = s; target = sender; number = asking.number }
 
 -- a request that isn't begun opens no upload
-not_opened : (s : ℕ) (v : Bool) (sender : Target) (asking : Asking) (told : List Told) (n m : ℕ) (w : Bool) (to : Target) (number : ℕ) → NotBegun (from_station s sender asking) asking.request told
-    → Said s (heard_as v (Some (Missions sender asking))) ≡ says n w to number (Begin Mission m) → map (tells_of_missions s) told ≡ tells_of_missions n (record { target = to; number = number; content = Next 0 }) ∷ [] → ⊥
-not_opened s v sender asking told n m w to number alone is t =
-    let same : asking.request ≡ Begin Mission m = let both : Some (Missions sender asking) ≡ Some (Missions to (record { number = number; request = Begin Mission m })) = ap asked_of is in cc in
-    alone m same (sym (same_next s told) ∙ ap told_next t)
+pub not_opened : (t : MissionType) (s : ℕ) (v : Bool) (sender : Target) (asking : Asking) (told : List Told) (n m : ℕ) (w : Bool) (to : Target) (number : ℕ) → ((count : ℕ) → asking.request ≡ Begin t count → first_next told ≡ true → ⊥)
+    → Said s (heard_as v (Some (Missions sender asking))) ≡ says n w to number (Begin t m) → map (tells_of_missions s) told ≡ tells_of_missions n (record { target = to; number = number; content = Next 0 }) ∷ [] → ⊥
+not_opened t s v sender asking told n m w to number alone is h =
+    let same : asking.request ≡ Begin t m = let both : Some (Missions sender asking) ≡ Some (Missions to (record { number = number; request = Begin t m })) = ap asked_of is in cc in
+    alone m same (sym (same_next s told) ∙ ap told_next h)
 
 -- what is done for a station that was heard
 said_effect : (b : List ℕ) (r : Run) (s : ℕ) (v : Bool) (asked : Option Asked) → IsFormatted (after b r.issued) → AskedFits asked → ActEffect b r (Said s (heard_as v asked)) (did_in b r (Said s (heard_as v asked)))
@@ -179,7 +175,7 @@ said_effect b r s v (Some (Missions sender asking)) f fits =
       some = x.some;
       few = x.few;
     })
-    (λ alone n m o. not_opened s v sender asking d.told n m o.v2 o.sender o.number alone o.is o.told)
+    (λ alone n m o. not_opened Mission s v sender asking d.told n m o.v2 o.sender o.number alone o.is o.told)
     (effect bytes None m.mission m.fence from asking.request f fits)
 
 -- what an act does

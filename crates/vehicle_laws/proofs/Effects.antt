@@ -115,7 +115,7 @@ abbrev E : List ℕ → Uploads → From → Request → service.Did → Type 0
 E bytes before from request d = Effect (Begun bytes from request d.told d.writes d.missions.mission) (NotBegun from request d.told) bytes before (given_by from.station request) d.writes d.missions.mission
 
 -- a request that gives no command
-cond_none : (t : Bool) → let n : Option Command = None in cond t n n ≡ n
+pub cond_none : {X : Type 0} (t : Bool) → let n : Option X = None in cond t n n ≡ n
 cond_none true = refl
 cond_none false = refl
 

@@ -8,3 +8,7 @@ pub mod Status
 pub mod Ends
 pub mod Boot
 pub mod Reading
+pub mod FenceEffects
+pub mod FenceStatus
+pub mod FenceEnds
+pub mod FenceSteps

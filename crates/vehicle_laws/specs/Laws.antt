@@ -6,11 +6,12 @@ use Rattle.storage_lines.specs.declared.lines.TheConstants.{STORAGE_BYTES}
 use Rattle.storage_lines.specs.declared.areas.Area.TheVariants.{Param}
 use Rattle.storage_lines.specs.Areas.{logical_of}
 use Rattle.storage_lines.specs.Bytes.{IsBytes}
-use Rattle.storage_lines.specs.Lines.{after}
+use Rattle.storage_lines.specs.Lines.{after, EachPrefix}
 use Rattle.param_records.specs.Steps.{HasMagic}
 use Rattle.mission_commands.specs.declared.commands.Command.{Command}
 use Rattle.mission_records.specs.Mission.{mission_of}
 use Rattle.mission_records.specs.Steps.{IsFormatted, IsTotalInOneLine}
+use Rattle.fence_records.specs.declared.items.FenceItem.{FenceItem}
 use Rattle.fence_records.specs.Lists.{fence_of}
 use Rattle.mission_service.specs.declared.requests.MissionType.{MissionType}
 use Rattle.mission_service.specs.declared.requests.MissionType.TheVariants.{Mission, Fence}
@@ -95,14 +96,17 @@ LawOfFenceUploads = (b : List ℕ) (acts : List Act) (last : Act) (u : Upload)
     → length b ≡ STORAGE_BYTES → AllFit (acts ++ last ∷ []) → Ends Fence b (run_over b acts) last u
     → Stores Fence fence_of fence_items_from b acts last u
 
--- After each number of the lines of an act the fence is the one from before it, none, or the one
+-- the fence is this one, none, or the other
+abbrev pub IsFenceOneOf : List FenceItem → List FenceItem → List ℕ → Type 0
+IsFenceOneOf old new bytes = (fence_of bytes ≡ old) ⊎ ((fence_of bytes ≡ []) ⊎ (fence_of bytes ≡ new))
+
+-- After each prefix of the lines of an act the fence is the one from before it, none, or the one
 -- after it.
 abbrev pub LawOfFences : Type 0
-LawOfFences = (b : List ℕ) (acts : List Act) (act : Act) (j : ℕ)
-    → StartsFormatted b → AllFit (acts ++ act ∷ [])
-    → let r = run_over b acts in
-    let now = fence_of (after b (r.issued ++ take j (did_in b r act).writes)) in
-    (now ≡ fence_of (current b r)) ⊎ ((now ≡ []) ⊎ (now ≡ fence_of (current b (act_done b r act))))
+LawOfFences = (b : List ℕ) (acts : List Act) (act : Act)
+    → StartsFormatted b → AllFit (acts ++ act ∷ []) → let r = run_over b acts in
+    EachPrefix (IsFenceOneOf (fence_of (current b r)) (fence_of (current b (act_done b r act))))
+    (current b r) (did_in b r act).writes
 
 -- Boot leaves formatted bytes, and where it formats them itself, MIS_TOTAL lies in one line.
 pub record BootFormats : Type 0 where

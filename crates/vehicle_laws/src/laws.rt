@@ -1,6 +1,6 @@
 //! The laws, on functions that do nothing.
 
-ghost use Rattle.vehicle_laws.specs.Laws.{RunsByActs, LawOfMissions, LawOfUploads, StaysInOneLine, BootFormats, ReadActsFit};
+ghost use Rattle.vehicle_laws.specs.Laws.{RunsByActs, ReadActsFit, LawOfMissions, LawOfUploads, LawOfFenceUploads, LawOfFences, BootFormats, StaysInOneLine};
 
 /// What events do is what their acts do, one after another.
 pub fn runs_by_acts()
@@ -24,6 +24,16 @@ pub fn law_of_missions()
 /// order.
 pub fn law_of_uploads()
     ensures { LawOfUploads }
+{}
+
+/// The same of an upload of a fence.
+pub fn law_of_fence_uploads()
+    ensures { LawOfFenceUploads }
+{}
+
+/// After each number of issued lines a fence is the old one, none, or the new one.
+pub fn law_of_fences()
+    ensures { LawOfFences }
 {}
 
 /// Boot leaves formatted bytes.

@@ -1,0 +1,275 @@
+-- The fence after each number of the lines of an act.
+use Rattle.std.proofs.Common.{◌≡◌, ◌≢◌, ◌⊎◌, inl, inr, ℕ, ◌+◌, ◌-◌, ◌*◌, ◌<◌, ◌≤◌, Bool, true, false, cond, not, List, [], ◌∷◌, ◌++◌, length, take, drop, refl, sym, ◌∙◌, ap, subst, arith, Option, Some, None, append-nil}
+use Rattle.std.specs.Prelude.{Result, Ok, Err, nat_lt, ◌==◌, ◌&&◌, ◌||◌, IfSome, slice_get}
+use Rattle.std.specs.Option.{option_map_or}
+use Rattle.std.proofs.lemmas.List.{take_all}
+use Rattle.std.proofs.lemmas.Bool.{cases_Bool, cases_lt, cond_both, or_right}
+use Rattle.param_tree.specs.declared.Var.{Var}
+use Rattle.param_tree.specs.Rows.{vehicle_rows}
+use Rattle.storage_lines.specs.declared.lines.LineWrite.{LineWrite}
+use Rattle.storage_lines.specs.declared.lines.TheConstants.{STORAGE_BYTES}
+use Rattle.storage_lines.specs.declared.areas.Area.TheVariants as area
+use Rattle.storage_lines.specs.Areas.{logical_of, size_of_area}
+use Rattle.storage_lines.specs.Bytes.{IsBytes}
+use Rattle.storage_lines.specs.Lines.{after, EachPrefix}
+use Rattle.storage_lines.specs.Pieces.{writes_of, writes_of_piece}
+use Rattle.storage_lines.proofs.LineLemmas.{after-append, length-after}
+use Rattle.storage_lines.proofs.PieceLemmas.{pieces_in_steps}
+use Rattle.storage_lines.proofs.PrefixLemmas.{prefix_append, prefix_nil}
+use Rattle.param_records.specs.Changes.{IsFull, set_pieces, is_full}
+use Rattle.param_records.specs.Steps.{records_in_storage, IsKept}
+use Rattle.param_service.specs.Requests as parameters
+use Rattle.param_service.specs.Requests.{Show, ShowAll, Set}
+use Rattle.param_service.specs.Service as parameter_service
+use Rattle.param_service.specs.Service.{is_total, writes_for, set_writes, streamed}
+use Rattle.mission_commands.specs.declared.commands.Command.{Command}
+use Rattle.mission_records.specs.declared.reading.TheConstants.{CAPACITY, TOTAL_INDEX}
+use Rattle.mission_records.specs.Mission.{total_row, version, place_of_command, command_bytes, total_writes, version_writes, command_writes, begin_writes, put_writes}
+use Rattle.mission_records.specs.Steps.{IsFormatted, StaysFormatted}
+use Rattle.mission_commands.specs.Storable.{IsStorable}
+use Rattle.mission_records.proofs.Commands.{length-command}
+use Rattle.mission_records.proofs.Totals.{all_writes, Setting, sets, total_setting, zero_fits, clears}
+use Rattle.fence_records.specs.declared.items.FenceItem.{FenceItem}
+use Rattle.fence_records.specs.Write.{fence_area}
+use Rattle.fence_records.specs.Fence.{items_of, version as version_of_fence}
+use Rattle.std.specs.Str.{bytes_eq}
+use Rattle.std.specs.List.{flat_map}
+use Rattle.param_records.specs.Records.{Record, records_of}
+use Rattle.fence_records.specs.Lists as fences
+use Rattle.fence_records.specs.Lists.{fence_of, FencesInSteps}
+use Rattle.fence_records.proofs.Replaces.{fences_in_steps}
+use Rattle.mission_service.specs.declared.requests.MissionType.{MissionType}
+use Rattle.mission_service.specs.declared.requests.MissionType.TheVariants.{Mission, Fence}
+use Rattle.mission_service.specs.declared.uploads.Target.{Target}
+use Rattle.mission_service.specs.Uploads.{Upload, Uploads, Quiet, Open, Finished, Missions, with_uploads, uploads_of}
+use Rattle.mission_service.specs.Requests.{Given, ForMission, ForFence, Request, Begin, Give, Clear, Count, Show as ShowItem, Cancel, Unsupported}
+use Rattle.mission_service.specs.Service as service
+use Rattle.mission_service.specs.declared.replies.Content.{Content}
+use Rattle.mission_service.specs.declared.replies.Content.TheVariants.{Answer, Next}
+use Rattle.mission_service.specs.Service.{From, Taken, exceeds, only, does, is_anothers, opened, clear_writes, any_anothers, all_quiet, cleared, begun, is_last, if_allowed, command_lines, taken, took, given_to, answered}
+use Rattle.vehicle_core.specs.Vehicle.{Vehicle, Asked, Parameters, Missions as AskedMissions, is_heard, hears}
+use Rattle.vehicle_core.specs.Acts.{Act, Said, Beat, Stream, Did, did, nothing, by_parameters, asked_of, beaten}
+use Rattle.vehicle_node.specs.Runs.{Run, did_in, act_done, start}
+use Rattle.vehicle_laws.specs.Uploads.{run_over}
+use Rattle.mission_service.specs.Asked.{RequestFits}
+use Rattle.vehicle_laws.specs.Fitting.{SettingFits, AskedFits, ActFits, AllFit}
+use Rattle.vehicle_laws.specs.Laws.{IsFenceOneOf, LawOfFences}
+use Rattle.vehicle_laws.proofs.Keeping.{formatted_then}
+use Rattle.vehicle_laws.proofs.ActEffects.{missions_at, from_station}
+use Rattle.vehicle_laws.proofs.Fences.{clear_keeps}
+use Rattle.vehicle_laws.proofs.Status.{status, the_open, fit_before, fit_since}
+
+-- the old fence, none, or the new one
+abbrev pub FenceStep : List ℕ → List LineWrite → Type 0
+FenceStep bytes ws = EachPrefix (IsFenceOneOf (fence_of bytes) (fence_of (after bytes ws))) bytes ws
+
+-- the area is as before
+abbrev HasFence : List ℕ → List ℕ → Type 0
+HasFence bytes now = fence_area now ≡ fence_area bytes
+
+abbrev Left : List ℕ → List LineWrite → Type 0
+Left bytes ws = EachPrefix (HasFence bytes) bytes ws
+
+same_fence : (a b : List ℕ) → fence_area a ≡ fence_area b → fence_of a ≡ fence_of b
+same_fence a b e = ap (λ (l : List ℕ). cond (bytes_eq (take 4 l) version_of_fence) (flat_map items_of (fences.figures_in 416 (drop 4 l))) []) e
+
+left_step : (bytes : List ℕ) (ws : List LineWrite) → Left bytes ws → FenceStep bytes ws
+left_step bytes ws h j l = inl (same_fence (after bytes (take j ws)) bytes (h j l))
+
+left_none : (bytes : List ℕ) → Left bytes []
+left_none bytes = prefix_nil (HasFence bytes) bytes refl
+
+none_step : (bytes : List ℕ) → FenceStep bytes []
+none_step bytes = left_step bytes [] (left_none bytes)
+
+param_not_fence : area.Param ≢ area.Fence
+param_not_fence e = cc
+
+mission_not_param : area.Mission ≢ area.Param
+mission_not_param e = cc
+
+mission_not_fence : area.Mission ≢ area.Fence
+mission_not_fence e = cc
+
+left_row : (bytes : List ℕ) (i : ℕ) (row : Var) (number : ℕ) → Setting bytes i row number → Left bytes (writes_of bytes (set_pieces vehicle_rows (records_in_storage bytes) row number))
+left_row bytes i row number s j h = (sets bytes i row number s).areas j h area.Fence (λ e. param_not_fence (sym e))
+
+left_piece : (at : ℕ) (new bytes : List ℕ) → length bytes ≡ STORAGE_BYTES → at + length new ≤ size_of_area area.Mission → Left bytes (writes_of_piece area.Mission at new bytes)
+left_piece at new bytes size fits j h = let steps = pieces_in_steps in steps.others area.Mission area.Fence at new bytes j mission_not_fence size fits h
+
+all_left : (bytes : List ℕ) (ws : List LineWrite) → Left bytes ws → fence_area (after bytes ws) ≡ fence_area bytes
+all_left bytes ws h = all_writes (HasFence bytes) bytes ws h
+
+left_then : (bytes : List ℕ) (xs ys : List LineWrite) → Left bytes xs → Left (after bytes xs) ys → Left bytes (xs ++ ys)
+left_then bytes xs ys x y = prefix_append (HasFence bytes) bytes xs ys x (λ j h. y j h ∙ all_left bytes xs x)
+
+left_begin : (bytes : List ℕ) → IsFormatted bytes → Left bytes (begin_writes bytes)
+left_begin bytes f =
+    let w1 = total_writes bytes 0 in
+    left_then bytes w1 (version_writes (after bytes w1)) (left_row bytes TOTAL_INDEX total_row 0 (total_setting bytes 0 f (omega arith) (zero_fits (records_in_storage bytes))))
+    (left_piece 0 version (after bytes w1) (length-after bytes w1 ∙ f.size) (omega arith))
+
+left_put : (bytes : List ℕ) (n : ℕ) (c : Command) → IsFormatted bytes → IsStorable c → n < CAPACITY → ¬ IsFull (records_in_storage bytes) total_row (n + 1) → Left bytes (put_writes bytes n c)
+left_put bytes n c f storable few room =
+    let at = place_of_command n in
+    let new = command_bytes c in
+    let long : length new ≡ 15 = length-command c storable in
+    let fits : at + length new ≤ size_of_area area.Mission = omega arith in
+    let w1 = command_writes bytes n c in
+    let mid = after bytes w1 in
+    let in_param : logical_of area.Param mid ≡ logical_of area.Param bytes = all_writes (λ (now : List ℕ). logical_of area.Param now ≡ logical_of area.Param bytes) bytes w1 (λ j h. let steps = pieces_in_steps in steps.others area.Mission area.Param at new bytes j mission_not_param f.size fits h) in
+    let formatted : IsFormatted mid = record { size = length-after bytes w1 ∙ f.size; params = subst IsBytes (sym in_param) f.params; magic = ap (λ (l : List ℕ). take 4 l) in_param ∙ f.magic } in
+    let records : records_in_storage mid ≡ records_in_storage bytes = ap (λ (l : List ℕ). records_of l) in_param in
+    left_then bytes w1 (total_writes mid (n + 1)) (left_piece at new bytes f.size fits)
+    (left_row mid TOTAL_INDEX total_row (n + 1) (total_setting mid (n + 1) formatted (omega arith) (λ g. room (subst (λ (rs : List Record). IsFull rs total_row (n + 1)) records g))))
+
+-- clearing types leaves the old fence or none
+abbrev IsOldOrNone : List ℕ → List ℕ → Type 0
+IsOldOrNone bytes now = (fence_of now ≡ fence_of bytes) ⊎ (fence_of now ≡ [])
+
+abbrev OldOrNone : List ℕ → List LineWrite → Type 0
+OldOrNone bytes ws = EachPrefix (IsOldOrNone bytes) bytes ws
+
+old_or_none_then : (bytes : List ℕ) (xs ys : List LineWrite) → OldOrNone bytes xs → OldOrNone (after bytes xs) ys → OldOrNone bytes (xs ++ ys)
+old_or_none_then bytes xs ys x y = prefix_append (IsOldOrNone bytes) bytes xs ys x (λ j h. elim (y j h) [
+  | inl same ↦ elim (all_writes (IsOldOrNone bytes) bytes xs x) [ inl old ↦ inl (same ∙ old) | inr none ↦ inr (same ∙ none) ]
+  | inr none ↦ inr none
+])
+
+left_old : (bytes : List ℕ) (ws : List LineWrite) → Left bytes ws → OldOrNone bytes ws
+left_old bytes ws h j l = inl (same_fence (after bytes (take j ws)) bytes (h j l))
+
+clears_types : FencesInSteps → (types : List MissionType) (bytes : List ℕ) → IsFormatted bytes → OldOrNone bytes (clear_writes bytes types)
+unfolding clear_writes
+clears_types q [] bytes f = left_old bytes [] (left_none bytes)
+clears_types q (Mission ∷ ts) bytes f =
+    let w1 = total_writes bytes 0 in
+    old_or_none_then bytes w1 (clear_writes (after bytes w1) ts) (left_old bytes w1 (left_row bytes TOTAL_INDEX total_row 0 (total_setting bytes 0 f (omega arith) (zero_fits (records_in_storage bytes)))))
+    (clears_types q ts (after bytes w1) (formatted_then bytes w1 (clears bytes f).stays))
+clears_types q (Fence ∷ ts) bytes f =
+    let w1 = fences.clear_writes bytes in
+    old_or_none_then bytes w1 (clear_writes (after bytes w1) ts) (λ j h. q.clears bytes j f.size)
+    (clears_types q ts (after bytes w1) (formatted_then bytes w1 (clear_keeps bytes f).stays))
+
+cleared_step : FencesInSteps → (bytes : List ℕ) (limit : Option ℕ) (m : Missions) (from : From) (types : List MissionType) → IsFormatted bytes → FenceStep bytes (cleared bytes limit m from types).writes
+cleared_step q bytes limit m from types f =
+    let ws = clear_writes bytes types in
+    let P : service.Did → Type 0 = λ d. FenceStep bytes d.writes in
+    cond_both (any_anothers from.station m types) (only from m (Answer 14)) (cond (exceeds limit ws) (only from m (Answer 4)) (does from (all_quiet m types) ws (Answer 0))) P
+    (λ t. none_step bytes)
+    (λ t. cond_both (exceeds limit ws) (only from m (Answer 4)) (does from (all_quiet m types) ws (Answer 0)) P
+    (λ t. none_step bytes)
+    (λ t j h. elim (clears_types q types bytes f j h) [ inl old ↦ inl old | inr none ↦ inr (inl none) ]))
+
+begun_step : FencesInSteps → (bytes : List ℕ) (limit : Option ℕ) (m : Missions) (from : From) (t : MissionType) (count : ℕ) → IsFormatted bytes → FenceStep bytes (service.first_writes t bytes) → FenceStep bytes (begun bytes limit m from t count).writes
+begun_step q bytes limit m from t count f first =
+    let ws = service.first_writes t bytes in
+    let P : service.Did → Type 0 = λ d. FenceStep bytes d.writes in
+    let d4 = does from (with_uploads t m (opened from count)) ws (Next 0) in
+    let d3 = cond (exceeds limit ws) (only from m (Answer 4)) d4 in
+    let d2 = cond (count == 0) (cleared bytes limit m from (t ∷ [])) d3 in
+    let d1 = cond (nat_lt (service.most_of t) count) (only from m (Answer 4)) d2 in
+    cond_both (is_anothers from.station (uploads_of t m)) (only from m (Answer 14)) d1 P
+    (λ x. none_step bytes)
+    (λ x. cond_both (nat_lt (service.most_of t) count) (only from m (Answer 4)) d2 P
+    (λ x. none_step bytes)
+    (λ x. cond_both (count == 0) (cleared bytes limit m from (t ∷ [])) d3 P
+    (λ x. cleared_step q bytes limit m from (t ∷ []) f)
+    (λ x. cond_both (exceeds limit ws) (only from m (Answer 4)) d4 P (λ x. none_step bytes) (λ x. first))))
+
+-- the next item of an upload, whatever it is
+given_step : (bytes : List ℕ) (limit : Option ℕ) (m : Missions) (from : From) (t : MissionType) (seq : ℕ) (given : Given) (before : Uploads)
+    → ((u : Upload) → before ≡ Open u → FenceStep bytes (took m from t u (taken bytes limit u given)).writes) → FenceStep bytes (given_to bytes limit m from t seq given before).writes
+given_step bytes limit m from t seq given Quiet h = none_step bytes
+given_step bytes limit m from t seq given (Finished s l) h = none_step bytes
+given_step bytes limit m from t seq given (Open u) h =
+    let P : service.Did → Type 0 = λ d. FenceStep bytes d.writes in
+    let d3 = took m from t u (taken bytes limit u given) in
+    let d2 = cond (not (seq == u.expected)) (only from m (Answer 13)) d3 in
+    let d1 = cond (seq + 1 == u.expected) (only from m (Next u.expected)) d2 in
+    cond_both (not (u.owner == from.station)) (only from m (Answer 14)) d1 P
+    (λ x. none_step bytes)
+    (λ x. cond_both (seq + 1 == u.expected) (only from m (Next u.expected)) d2 P
+    (λ x. none_step bytes)
+    (λ x. cond_both (not (seq == u.expected)) (only from m (Answer 13)) d3 P (λ x. none_step bytes) (λ x. h u refl)))
+
+-- lines that may be issued
+allowed_step : (bytes : List ℕ) (limit : Option ℕ) (m : Missions) (from : From) (t : MissionType) (u : Upload) (kept : List FenceItem) (r : Result (List LineWrite) ℕ) → ((ws : List LineWrite) → r ≡ Ok ws → FenceStep bytes ws) → FenceStep bytes (took m from t u (if_allowed limit kept r)).writes
+allowed_step bytes limit m from t u kept (Err e) h = none_step bytes
+allowed_step bytes limit m from t u kept (Ok ws) h =
+    cond_both (exceeds limit ws) (Err 4) (Ok (record { writes = ws; kept = kept })) (λ (r : Result Taken ℕ). FenceStep bytes (took m from t u r).writes) (λ x. none_step bytes) (λ x. h ws refl)
+
+mission_step : (bytes : List ℕ) (limit : Option ℕ) (m : Missions) (from : From) (u : Upload) (stored : Result Command ℕ) → IsFormatted bytes → RequestFits (Give 0 (ForMission stored)) → u.expected < CAPACITY → FenceStep bytes (took m from Mission u (taken bytes limit u (ForMission stored))).writes
+mission_step bytes limit m from u (Err e) f fits few = none_step bytes
+mission_step bytes limit m from u (Ok c) f fits few =
+    let ws = put_writes bytes u.expected c in
+    let full = is_full (records_in_storage bytes) total_row (u.expected + 1) in
+    cond_both full (Err 4) (Ok ws) (λ (r : Result (List LineWrite) ℕ). FenceStep bytes (took m from Mission u (if_allowed limit [] r)).writes)
+    (λ x. none_step bytes)
+    (λ room. allowed_step bytes limit m from Mission u [] (Ok ws) (λ vs e. let same : ws ≡ vs = cc in subst (FenceStep bytes) same (left_step bytes ws (left_put bytes u.expected c f fits few
+    (λ g. let clash : true ≡ false = sym (g) ∙ room in cc)))))
+
+fence_step : FencesInSteps → (bytes : List ℕ) (limit : Option ℕ) (m : Missions) (from : From) (u : Upload) (stored : Result FenceItem ℕ) → IsFormatted bytes → FenceStep bytes (took m from Fence u (taken bytes limit u (ForFence stored))).writes
+fence_step q bytes limit m from u (Err e) f = none_step bytes
+fence_step q bytes limit m from u (Ok i) f =
+    let items = u.kept ++ i ∷ [] in
+    cond_both (is_last u) (if_allowed limit [] (fences.replace_writes bytes items)) (Ok (record { writes = []; kept = items })) (λ (r : Result Taken ℕ). FenceStep bytes (took m from Fence u r).writes)
+    (λ x. allowed_step bytes limit m from Fence u [] (fences.replace_writes bytes items) (λ ws e j h. q.replaces bytes items ws j f.size e))
+    (λ x. none_step bytes)
+
+request_step : FencesInSteps → (bytes : List ℕ) (limit : Option ℕ) (m : Missions) (from : From) (request : Request) → IsFormatted bytes → RequestFits request → ((u : Upload) → m.mission ≡ Open u → u.expected < CAPACITY) → FenceStep bytes (answered bytes limit m from request).writes
+request_step q bytes limit m from (Begin Mission count) f fits few = begun_step q bytes limit m from Mission count f (left_step bytes (begin_writes bytes) (left_begin bytes f))
+request_step q bytes limit m from (Begin Fence count) f fits few = begun_step q bytes limit m from Fence count f (none_step bytes)
+request_step q bytes limit m from (Give seq (ForMission stored)) f fits few = given_step bytes limit m from Mission seq (ForMission stored) m.mission (λ u e. mission_step bytes limit m from u stored f fits (few u e))
+request_step q bytes limit m from (Give seq (ForFence stored)) f fits few = given_step bytes limit m from Fence seq (ForFence stored) m.fence (λ u e. fence_step q bytes limit m from u stored f)
+request_step q bytes limit m from (Clear types) f fits few = cleared_step q bytes limit m from types f
+request_step q bytes limit m from (Count t) f fits few = none_step bytes
+request_step q bytes limit m from (ShowItem t seq) f fits few = none_step bytes
+request_step q bytes limit m from (Cancel t) f fits few = none_step bytes
+request_step q bytes limit m from Unsupported f fits few = none_step bytes
+
+-- setting a row
+row_step : (bytes : List ℕ) (index number : ℕ) (o : Option Var) → IsFormatted bytes → slice_get vehicle_rows index ≡ o → IfSome o (λ row. IsKept row.kind number) → FenceStep bytes (option_map_or (λ row. writes_for bytes row number) o [])
+row_step bytes index number None f is kept = none_step bytes
+row_step bytes index number (Some row) f is kept =
+    let full = is_full (records_in_storage bytes) row number in
+    let ws = writes_of bytes (set_pieces vehicle_rows (records_in_storage bytes) row number) in
+    cond_both (is_total row || full) [] ws (FenceStep bytes)
+    (λ t. none_step bytes)
+    (λ t. left_step bytes ws (left_row bytes index row number (record { formatted = f; is = is; kept = kept; room = λ g. let clash : true ≡ false = sym (or_right (is_total row) full (g)) ∙ t in cc })))
+
+parameters_step : (bytes next_rows : List ℕ) (station : ℕ) (request : parameters.Request) → IsFormatted bytes → SettingFits request → FenceStep bytes (parameter_service.answered bytes next_rows station request).writes
+parameters_step bytes next_rows station (Show index) f fits = none_step bytes
+parameters_step bytes next_rows station ShowAll f fits = none_step bytes
+parameters_step bytes next_rows station (Set index None) f fits = none_step bytes
+parameters_step bytes next_rows station (Set index (Some number)) f fits = row_step bytes index number (slice_get vehicle_rows index) f refl fits
+
+-- the next item of an open upload of a mission has a place
+abbrev HasPlace : Missions → Type 0
+HasPlace m = (u : Upload) → m.mission ≡ Open u → u.expected < CAPACITY
+
+said_step : FencesInSteps → (bytes : List ℕ) (vehicle : Vehicle) (s : ℕ) (asked : Option Asked) → IsFormatted bytes → AskedFits asked → HasPlace vehicle.missions → FenceStep bytes (asked_of bytes vehicle s asked).writes
+said_step q bytes vehicle s None f fits few = none_step bytes
+said_step q bytes vehicle s (Some (Parameters request)) f fits few = parameters_step bytes vehicle.next_rows s request f fits
+said_step q bytes vehicle s (Some (AskedMissions sender asking)) f fits few = request_step q bytes None vehicle.missions (from_station s sender asking) asking.request f fits few
+
+act_step : FencesInSteps → (bytes : List ℕ) (vehicle : Vehicle) (act : Act) → IsFormatted bytes → ActFits act → HasPlace vehicle.missions → FenceStep bytes (did bytes vehicle act).writes
+unfolding did
+act_step q bytes vehicle (Said s heard) f fits few = said_step q bytes (hears vehicle s heard.v2) s heard.asked f fits few
+act_step q bytes vehicle (Beat s) f fits few = cond_both (is_heard vehicle s) (beaten vehicle s (service.idle vehicle.missions s)) (nothing vehicle) (λ (d : Did). FenceStep bytes d.writes) (λ t. none_step bytes) (λ t. none_step bytes)
+act_step q bytes vehicle (Stream s) f fits few = cond_both (is_heard vehicle s) (by_parameters vehicle (streamed bytes vehicle.next_rows s)) (nothing vehicle) (λ (d : Did). FenceStep bytes d.writes) (λ t. none_step bytes) (λ t. none_step bytes)
+
+pub law_of_fences : LawOfFences
+law_of_fences b acts act f fit =
+    let r = run_over b acts in
+    let bytes = after b r.issued in
+    let ws = (did_in b r act).writes in
+    let st = status b acts f (fit_before acts (act ∷ []) fit) in
+    let few : HasPlace r.machine.vehicle.missions = λ u e.
+    let o = (the_open b acts u st e).ongoing in
+    let same : u ≡ o.upload = let two : Open u ≡ Open o.upload = sym e ∙ o.is in cc in
+    omega (arith, ap (λ (w : Upload). w.expected) same, o.expected, o.below, o.few) in
+    let q = fences_in_steps in
+    let x = act_step q bytes r.machine.vehicle act st.formatted (fit_since acts (act ∷ []) fit).0 few in
+    let end : after b (act_done b r act).issued ≡ after bytes ws = after-append b r.issued ws in
+    subst (λ (new : List FenceItem). EachPrefix (IsFenceOneOf (fence_of bytes) new) bytes ws) (sym (ap fence_of end)) x
