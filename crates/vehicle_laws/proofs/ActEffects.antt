@@ -176,7 +176,7 @@ said_effect b r s v (Some (Missions sender asking)) f fits =
       few = x.few;
     })
     (λ alone n m o. not_opened Mission s v sender asking d.told n m o.v2 o.sender o.number alone o.is o.told)
-    (effect bytes None m.mission m.fence from asking.request f fits)
+    (effect bytes None m.mission m.fence from asking.request f fits.0)
 
 -- what an act does
 done_effect : (b : List ℕ) (r : Run) (act : Act) → IsFormatted (after b r.issued) → ActFits act → ActEffect b r act (did_in b r act)

@@ -169,11 +169,11 @@ law_of_uploads b acts last u f fit ends =
     let is : last ≡ said = ends.is ∙ ap (λ (g : Given). says u.owner ends.v2 ends.sender ends.number (Give ends.seq g)) chosen.1 in
     let fits : ActFits said = subst ActFits is (fit_since acts (last ∷ []) fit).0 in
     let zero : told_zero (did_in b s said).told ≡ true = ap (λ (p : Act). told_zero (did_in b s p).told) (sym is) ∙ ap told_zero ends.told in
-    let lp = last_act b s u ends.v2 ends.sender ends.number ends.seq stored ends.was_open fits zero in
+    let lp = last_act b s u ends.v2 ends.sender ends.number ends.seq stored ends.was_open fits.0 zero in
     let c = lp.command in
     let seq_is : (ends.seq == length cs) ≡ true = ap (λ (n : ℕ). ends.seq == n) (sym expected) ∙ lp.next in
     let own : (x.station == u.owner) ≡ true = eq-eqb x.station u.owner (sym owner) in
-    let storable : IsStorable c = subst (λ (r : Result Command ℕ). GivenFits (ForMission r)) lp.stored_is fits in
+    let storable : IsStorable c = subst (λ (r : Result Command ℕ). GivenFits (ForMission r)) lp.stored_is fits.0 in
     let gives : command_given x.station (length cs) last ≡ Some c =
     ap (λ (p : Act). command_given x.station (length cs) p) is
     ∙ ap (λ (r : Result Command ℕ). command_given x.station (length cs) (says u.owner ends.v2 ends.sender ends.number (Give ends.seq (ForMission r)))) lp.stored_is

@@ -136,9 +136,9 @@ law_of_fence_uploads b acts last u size fit ends =
     let is : last ≡ said = ends.is ∙ ap (λ (g : Given). says u.owner ends.v2 ends.sender ends.number (Give ends.seq g)) chosen.1 in
     let fits : ActFits said = subst ActFits is (fit_since acts (last ∷ []) fit).0 in
     let zero : told_zero (did_in b s said).told ≡ true = ap (λ (p : Act). told_zero (did_in b s p).told) (sym is) ∙ ap told_zero ends.told in
-    let lp = last_act b s u ends.v2 ends.sender ends.number ends.seq stored ends.was_open fits zero in
+    let lp = last_act b s u ends.v2 ends.sender ends.number ends.seq stored ends.was_open fits.0 zero in
     let i = lp.item in
-    let good : IsFenceItem i = subst (λ (r : Result FenceItem ℕ). GivenFits (ForFence r)) lp.stored_is fits in
+    let good : IsFenceItem i = subst (λ (r : Result FenceItem ℕ). GivenFits (ForFence r)) lp.stored_is fits.0 in
     let seq_is : (ends.seq == length items) ≡ true = ap (λ (n : ℕ). ends.seq == n) (sym expected) ∙ lp.next in
     let own : (x.station == u.owner) ≡ true = eq-eqb x.station u.owner (sym owner) in
     let gives : item_given x.station (length items) last ≡ Some i =

@@ -96,7 +96,7 @@ said_effect b r s v (Some (Missions sender asking)) fits =
       some = x.some;
     })
     (λ alone n m o. not_opened Fence s v sender asking d.told n m o.v2 o.sender o.number alone o.is o.told)
-    (fence_effect bytes None m.mission m.fence from asking.request fits)
+    (fence_effect bytes None m.mission m.fence from asking.request fits.0)
 
 -- what an act does
 done_effect : (b : List ℕ) (r : Run) (act : Act) → ActFits act → ActEffect b r act (did_in b r act)

@@ -251,7 +251,7 @@ HasPlace m = (u : Upload) → m.mission ≡ Open u → u.expected < CAPACITY
 said_step : FencesInSteps → (bytes : List ℕ) (vehicle : Vehicle) (s : ℕ) (asked : Option Asked) → IsFormatted bytes → AskedFits asked → HasPlace vehicle.missions → FenceStep bytes (asked_of bytes vehicle s asked).writes
 said_step q bytes vehicle s None f fits few = none_step bytes
 said_step q bytes vehicle s (Some (Parameters request)) f fits few = parameters_step bytes vehicle.next_rows s request f fits
-said_step q bytes vehicle s (Some (AskedMissions sender asking)) f fits few = request_step q bytes None vehicle.missions (from_station s sender asking) asking.request f fits few
+said_step q bytes vehicle s (Some (AskedMissions sender asking)) f fits few = request_step q bytes None vehicle.missions (from_station s sender asking) asking.request f fits.0 few
 
 act_step : FencesInSteps → (bytes : List ℕ) (vehicle : Vehicle) (act : Act) → IsFormatted bytes → ActFits act → HasPlace vehicle.missions → FenceStep bytes (did bytes vehicle act).writes
 unfolding did

@@ -1,5 +1,5 @@
 -- The laws over runs: of missions, of uploads, of fences, and of what the start leaves.
-use Rattle.std.specs.Prelude.{◌≡◌, ◌≢◌, ◌⊎◌, ◌≤◌, ℕ, List, [], ◌∷◌, ◌++◌, length, take}
+use Rattle.std.specs.Prelude.{◌≡◌, ◌≢◌, ◌⊎◌, ◌≤◌, ℕ, List, [], ◌∷◌, ◌++◌, length, take, Some, slice_get}
 use Rattle.std.specs.List.{flat_map}
 use Rattle.flash_traits.specs.Losses.{Received}
 use Rattle.storage_lines.specs.declared.lines.TheConstants.{STORAGE_BYTES}
@@ -7,6 +7,9 @@ use Rattle.storage_lines.specs.declared.areas.Area.TheVariants.{Param}
 use Rattle.storage_lines.specs.Areas.{logical_of}
 use Rattle.storage_lines.specs.Bytes.{IsBytes}
 use Rattle.storage_lines.specs.Lines.{after, EachPrefix}
+use Rattle.param_tree.specs.declared.Var.{Var}
+use Rattle.param_tree.specs.Rows.{vehicle_rows}
+use Rattle.param_records.specs.Values.{params_of, value_of_number}
 use Rattle.param_records.specs.Steps.{HasMagic}
 use Rattle.mission_commands.specs.declared.commands.Command.{Command}
 use Rattle.mission_records.specs.Mission.{mission_of}
@@ -20,6 +23,7 @@ use Rattle.vehicle_core.specs.Acts.{Act}
 use Rattle.vehicle_node.specs.Reading.{Reads, no_rests}
 use Rattle.vehicle_node.specs.Runs.{Run, did_in, act_done, start, run_of}
 use Rattle.vehicle_laws.specs.Fitting.{AllFit}
+use Rattle.vehicle_laws.specs.Rows.{SetsOnly, row_of_act, AllLeave, IsSetting}
 use Rattle.vehicle_laws.specs.Uploads.{run_over, IsUpload, Ends, commands_from, fence_items_from}
 
 -- the acts of events, one after another
@@ -107,6 +111,28 @@ LawOfFences = (b : List ℕ) (acts : List Act) (act : Act)
     → StartsFormatted b → AllFit (acts ++ act ∷ []) → let r = run_over b acts in
     EachPrefix (IsFenceOneOf (fence_of (current b r)) (fence_of (current b (act_done b r act))))
     (current b r) (did_in b r act).writes
+
+-- The lines of an act leave the parameters, or they set the one row that it may set: after each
+-- prefix of them its new record is absent or whole, and every other row has its old value.
+abbrev pub LawOfRecords : Type 0
+LawOfRecords = (b : List ℕ) (acts : List Act) (act : Act)
+    → StartsFormatted b → AllFit (acts ++ act ∷ [])
+    → SetsOnly (row_of_act act) (current b (run_over b acts)) (did_in b (run_over b acts) act).writes
+
+-- After each number of issued lines a row reads as after the last act that may have set it; and
+-- where that was a PARAM_SET that set it, with the number that was sent.
+pub record LawOfLastValues : Type 0 where
+  pub kept : (b : List ℕ) (before since : List Act) (index k : ℕ) (row : Var)
+      → StartsFormatted b → AllFit (before ++ since)
+      → slice_get vehicle_rows index ≡ Some row → AllLeave index since
+      → length (run_over b before).issued ≤ k → k ≤ length (run_over b (before ++ since)).issued
+      → params_of (after b (take k (run_over b (before ++ since)).issued)) row
+      ≡ params_of (current b (run_over b before)) row
+  pub set : (b : List ℕ) (before : List Act) (act : Act) (index : ℕ) (row : Var) (number : ℕ)
+      → StartsFormatted b → AllFit (before ++ act ∷ [])
+      → IsSetting (current b (run_over b before)) act index row number
+      → params_of (current b (run_over b (before ++ act ∷ []))) row
+      ≡ value_of_number row.kind number
 
 -- Boot leaves formatted bytes, and where it formats them itself, MIS_TOTAL lies in one line.
 pub record BootFormats : Type 0 where
