@@ -56,8 +56,9 @@ use Rattle.vehicle_laws.specs.Fitting.{SettingFits, AskedFits, ActFits, AllFit}
 use Rattle.vehicle_laws.specs.Laws.{IsFenceOneOf, LawOfFences}
 use Rattle.vehicle_laws.proofs.Keeping.{formatted_then}
 use Rattle.vehicle_laws.proofs.ActEffects.{missions_at, from_station}
+use Rattle.vehicle_laws.proofs.ActLines.{OfRow, OfMissions, act_lines}
 use Rattle.vehicle_laws.proofs.Fences.{clear_keeps}
-use Rattle.vehicle_laws.proofs.Status.{status, the_open, fit_before, fit_since}
+use Rattle.vehicle_laws.proofs.Status.{Status, status, the_open, fit_before, fit_since}
 
 -- the old fence, none, or the new one
 abbrev pub FenceStep : List ℕ → List LineWrite → Type 0
@@ -151,125 +152,43 @@ clears_types q (Fence ∷ ts) bytes f =
     old_or_none_then bytes w1 (clear_writes (after bytes w1) ts) (λ j h. q.clears bytes j f.size)
     (clears_types q ts (after bytes w1) (formatted_then bytes w1 (clear_keeps bytes f).stays))
 
-cleared_step : FencesInSteps → (bytes : List ℕ) (limit : Option ℕ) (m : Missions) (from : From) (types : List MissionType) → IsFormatted bytes → FenceStep bytes (cleared bytes limit m from types).writes
-cleared_step q bytes limit m from types f =
-    let ws = clear_writes bytes types in
-    let P : service.Did → Type 0 = λ d. FenceStep bytes d.writes in
-    cond_both (any_anothers from.station m types) (only from m (Answer 14)) (cond (exceeds limit ws) (only from m (Answer 4)) (does from (all_quiet m types) ws (Answer 0))) P
-    (λ t. none_step bytes)
-    (λ t. cond_both (exceeds limit ws) (only from m (Answer 4)) (does from (all_quiet m types) ws (Answer 0)) P
-    (λ t. none_step bytes)
-    (λ t j h. elim (clears_types q types bytes f j h) [ inl old ↦ inl old | inr none ↦ inr (inl none) ]))
-
-begun_step : FencesInSteps → (bytes : List ℕ) (limit : Option ℕ) (m : Missions) (from : From) (t : MissionType) (count : ℕ) → IsFormatted bytes → FenceStep bytes (service.first_writes t bytes) → FenceStep bytes (begun bytes limit m from t count).writes
-begun_step q bytes limit m from t count f first =
-    let ws = service.first_writes t bytes in
-    let P : service.Did → Type 0 = λ d. FenceStep bytes d.writes in
-    let d4 = does from (with_uploads t m (opened from count)) ws (Next 0) in
-    let d3 = cond (exceeds limit ws) (only from m (Answer 4)) d4 in
-    let d2 = cond (count == 0) (cleared bytes limit m from (t ∷ [])) d3 in
-    let d1 = cond (nat_lt (service.most_of t) count) (only from m (Answer 4)) d2 in
-    cond_both (is_anothers from.station (uploads_of t m)) (only from m (Answer 14)) d1 P
-    (λ x. none_step bytes)
-    (λ x. cond_both (nat_lt (service.most_of t) count) (only from m (Answer 4)) d2 P
-    (λ x. none_step bytes)
-    (λ x. cond_both (count == 0) (cleared bytes limit m from (t ∷ [])) d3 P
-    (λ x. cleared_step q bytes limit m from (t ∷ []) f)
-    (λ x. cond_both (exceeds limit ws) (only from m (Answer 4)) d4 P (λ x. none_step bytes) (λ x. first))))
-
--- the next item of an upload, whatever it is
-given_step : (bytes : List ℕ) (limit : Option ℕ) (m : Missions) (from : From) (t : MissionType) (seq : ℕ) (given : Given) (before : Uploads)
-    → ((u : Upload) → before ≡ Open u → FenceStep bytes (took m from t u (taken bytes limit u given)).writes) → FenceStep bytes (given_to bytes limit m from t seq given before).writes
-given_step bytes limit m from t seq given Quiet h = none_step bytes
-given_step bytes limit m from t seq given (Finished s l) h = none_step bytes
-given_step bytes limit m from t seq given (Open u) h =
-    let P : service.Did → Type 0 = λ d. FenceStep bytes d.writes in
-    let d3 = took m from t u (taken bytes limit u given) in
-    let d2 = cond (not (seq == u.expected)) (only from m (Answer 13)) d3 in
-    let d1 = cond (seq + 1 == u.expected) (only from m (Next u.expected)) d2 in
-    cond_both (not (u.owner == from.station)) (only from m (Answer 14)) d1 P
-    (λ x. none_step bytes)
-    (λ x. cond_both (seq + 1 == u.expected) (only from m (Next u.expected)) d2 P
-    (λ x. none_step bytes)
-    (λ x. cond_both (not (seq == u.expected)) (only from m (Answer 13)) d3 P (λ x. none_step bytes) (λ x. h u refl)))
-
--- lines that may be issued
-allowed_step : (bytes : List ℕ) (limit : Option ℕ) (m : Missions) (from : From) (t : MissionType) (u : Upload) (kept : List FenceItem) (r : Result (List LineWrite) ℕ) → ((ws : List LineWrite) → r ≡ Ok ws → FenceStep bytes ws) → FenceStep bytes (took m from t u (if_allowed limit kept r)).writes
-allowed_step bytes limit m from t u kept (Err e) h = none_step bytes
-allowed_step bytes limit m from t u kept (Ok ws) h =
-    cond_both (exceeds limit ws) (Err 4) (Ok (record { writes = ws; kept = kept })) (λ (r : Result Taken ℕ). FenceStep bytes (took m from t u r).writes) (λ x. none_step bytes) (λ x. h ws refl)
-
-mission_step : (bytes : List ℕ) (limit : Option ℕ) (m : Missions) (from : From) (u : Upload) (stored : Result Command ℕ) → IsFormatted bytes → RequestFits (Give 0 (ForMission stored)) → u.expected < CAPACITY → FenceStep bytes (took m from Mission u (taken bytes limit u (ForMission stored))).writes
-mission_step bytes limit m from u (Err e) f fits few = none_step bytes
-mission_step bytes limit m from u (Ok c) f fits few =
-    let ws = put_writes bytes u.expected c in
-    let full = is_full (records_in_storage bytes) total_row (u.expected + 1) in
-    cond_both full (Err 4) (Ok ws) (λ (r : Result (List LineWrite) ℕ). FenceStep bytes (took m from Mission u (if_allowed limit [] r)).writes)
-    (λ x. none_step bytes)
-    (λ room. allowed_step bytes limit m from Mission u [] (Ok ws) (λ vs e. let same : ws ≡ vs = cc in subst (FenceStep bytes) same (left_step bytes ws (left_put bytes u.expected c f fits few
-    (λ g. let clash : true ≡ false = sym (g) ∙ room in cc)))))
-
-fence_step : FencesInSteps → (bytes : List ℕ) (limit : Option ℕ) (m : Missions) (from : From) (u : Upload) (stored : Result FenceItem ℕ) → IsFormatted bytes → FenceStep bytes (took m from Fence u (taken bytes limit u (ForFence stored))).writes
-fence_step q bytes limit m from u (Err e) f = none_step bytes
-fence_step q bytes limit m from u (Ok i) f =
-    let items = u.kept ++ i ∷ [] in
-    cond_both (is_last u) (if_allowed limit [] (fences.replace_writes bytes items)) (Ok (record { writes = []; kept = items })) (λ (r : Result Taken ℕ). FenceStep bytes (took m from Fence u r).writes)
-    (λ x. allowed_step bytes limit m from Fence u [] (fences.replace_writes bytes items) (λ ws e j h. q.replaces bytes items ws j f.size e))
-    (λ x. none_step bytes)
-
-request_step : FencesInSteps → (bytes : List ℕ) (limit : Option ℕ) (m : Missions) (from : From) (request : Request) → IsFormatted bytes → RequestFits request → ((u : Upload) → m.mission ≡ Open u → u.expected < CAPACITY) → FenceStep bytes (answered bytes limit m from request).writes
-request_step q bytes limit m from (Begin Mission count) f fits few = begun_step q bytes limit m from Mission count f (left_step bytes (begin_writes bytes) (left_begin bytes f))
-request_step q bytes limit m from (Begin Fence count) f fits few = begun_step q bytes limit m from Fence count f (none_step bytes)
-request_step q bytes limit m from (Give seq (ForMission stored)) f fits few = given_step bytes limit m from Mission seq (ForMission stored) m.mission (λ u e. mission_step bytes limit m from u stored f fits (few u e))
-request_step q bytes limit m from (Give seq (ForFence stored)) f fits few = given_step bytes limit m from Fence seq (ForFence stored) m.fence (λ u e. fence_step q bytes limit m from u stored f)
-request_step q bytes limit m from (Clear types) f fits few = cleared_step q bytes limit m from types f
-request_step q bytes limit m from (Count t) f fits few = none_step bytes
-request_step q bytes limit m from (ShowItem t seq) f fits few = none_step bytes
-request_step q bytes limit m from (Cancel t) f fits few = none_step bytes
-request_step q bytes limit m from Unsupported f fits few = none_step bytes
-
--- setting a row
-row_step : (bytes : List ℕ) (index number : ℕ) (o : Option Var) → IsFormatted bytes → slice_get vehicle_rows index ≡ o → IfSome o (λ row. IsKept row.kind number) → FenceStep bytes (option_map_or (λ row. writes_for bytes row number) o [])
-row_step bytes index number None f is kept = none_step bytes
-row_step bytes index number (Some row) f is kept =
-    let full = is_full (records_in_storage bytes) row number in
-    let ws = writes_of bytes (set_pieces vehicle_rows (records_in_storage bytes) row number) in
-    cond_both (is_total row || full) [] ws (FenceStep bytes)
-    (λ t. none_step bytes)
-    (λ t. left_step bytes ws (left_row bytes index row number (record { formatted = f; is = is; kept = kept; room = λ g. let clash : true ≡ false = sym (or_right (is_total row) full (g)) ∙ t in cc })))
-
-parameters_step : (bytes next_rows : List ℕ) (station : ℕ) (request : parameters.Request) → IsFormatted bytes → SettingFits request → FenceStep bytes (parameter_service.answered bytes next_rows station request).writes
-parameters_step bytes next_rows station (Show index) f fits = none_step bytes
-parameters_step bytes next_rows station ShowAll f fits = none_step bytes
-parameters_step bytes next_rows station (Set index None) f fits = none_step bytes
-parameters_step bytes next_rows station (Set index (Some number)) f fits = row_step bytes index number (slice_get vehicle_rows index) f refl fits
-
 -- the next item of an open upload of a mission has a place
-abbrev HasPlace : Missions → Type 0
+abbrev pub HasPlace : Missions → Type 0
 HasPlace m = (u : Upload) → m.mission ≡ Open u → u.expected < CAPACITY
 
-said_step : FencesInSteps → (bytes : List ℕ) (vehicle : Vehicle) (s : ℕ) (asked : Option Asked) → IsFormatted bytes → AskedFits asked → HasPlace vehicle.missions → FenceStep bytes (asked_of bytes vehicle s asked).writes
-said_step q bytes vehicle s None f fits few = none_step bytes
-said_step q bytes vehicle s (Some (Parameters request)) f fits few = parameters_step bytes vehicle.next_rows s request f fits
-said_step q bytes vehicle s (Some (AskedMissions sender asking)) f fits few = request_step q bytes None vehicle.missions (from_station s sender asking) asking.request f fits.0 few
+fence_row : (bytes : List ℕ) (index : ℕ) → IsFormatted bytes → OfRow (FenceStep bytes) bytes index
+fence_row bytes index f = record {
+  none = none_step bytes;
+  sets = λ row number is kept room other. left_step bytes (writes_of bytes (set_pieces vehicle_rows (records_in_storage bytes) row number))
+      (left_row bytes index row number (record { formatted = f; is = is; kept = kept; room = room }));
+}
 
-act_step : FencesInSteps → (bytes : List ℕ) (vehicle : Vehicle) (act : Act) → IsFormatted bytes → ActFits act → HasPlace vehicle.missions → FenceStep bytes (did bytes vehicle act).writes
-unfolding did
-act_step q bytes vehicle (Said s heard) f fits few = said_step q bytes (hears vehicle s heard.v2) s heard.asked f fits few
-act_step q bytes vehicle (Beat s) f fits few = cond_both (is_heard vehicle s) (beaten vehicle s (service.idle vehicle.missions s)) (nothing vehicle) (λ (d : Did). FenceStep bytes d.writes) (λ t. none_step bytes) (λ t. none_step bytes)
-act_step q bytes vehicle (Stream s) f fits few = cond_both (is_heard vehicle s) (by_parameters vehicle (streamed bytes vehicle.next_rows s)) (nothing vehicle) (λ (d : Did). FenceStep bytes d.writes) (λ t. none_step bytes) (λ t. none_step bytes)
+fence_missions : FencesInSteps → (bytes : List ℕ) (m : Missions) → IsFormatted bytes → HasPlace m → OfMissions (FenceStep bytes) bytes m
+fence_missions q bytes m f few = record {
+  none = none_step bytes;
+  begins = left_step bytes (begin_writes bytes) (left_begin bytes f);
+  clears = λ types one j h. elim (clears_types q types bytes f j h) [ inl old ↦ inl old | inr none ↦ inr (inl none) ];
+  puts = λ u c is storable room. left_step bytes (put_writes bytes u.expected c) (left_put bytes u.expected c f storable (few u is) room);
+  replaces = λ items ws e j h. q.replaces bytes items ws j f.size e;
+}
+
+-- at each act of a run
+pub has_place : (b : List ℕ) (acts : List Act) → Status b acts → HasPlace (run_over b acts).machine.vehicle.missions
+has_place b acts st u e =
+    let o = (the_open b acts u st e).ongoing in
+    let same : u ≡ o.upload = let two : Open u ≡ Open o.upload = sym e ∙ o.is in cc in
+    omega (arith, ap (λ (w : Upload). w.expected) same, o.expected, o.below, o.few)
 
 pub law_of_fences : LawOfFences
 law_of_fences b acts act f fit =
+    let q = fences_in_steps in
     let r = run_over b acts in
     let bytes = after b r.issued in
     let ws = (did_in b r act).writes in
     let st = status b acts f (fit_before acts (act ∷ []) fit) in
-    let few : HasPlace r.machine.vehicle.missions = λ u e.
-    let o = (the_open b acts u st e).ongoing in
-    let same : u ≡ o.upload = let two : Open u ≡ Open o.upload = sym e ∙ o.is in cc in
-    omega (arith, ap (λ (w : Upload). w.expected) same, o.expected, o.below, o.few) in
-    let q = fences_in_steps in
-    let x = act_step q bytes r.machine.vehicle act st.formatted (fit_since acts (act ∷ []) fit).0 few in
+    let few = has_place b acts st in
+    let x = act_lines (λ a ws. FenceStep bytes ws) bytes r.machine.vehicle act
+    (record { none = λ a. none_step bytes; of_row = λ s v2 index number. fence_row bytes index st.formatted; of_missions = λ s v2 sender asking. fence_missions q bytes r.machine.vehicle.missions st.formatted few })
+    (fit_since acts (act ∷ []) fit).0 in
     let end : after b (act_done b r act).issued ≡ after bytes ws = after-append b r.issued ws in
     subst (λ (new : List FenceItem). EachPrefix (IsFenceOneOf (fence_of bytes) new) bytes ws) (sym (ap fence_of end)) x

@@ -12,3 +12,6 @@ pub mod FenceEffects
 pub mod FenceStatus
 pub mod FenceEnds
 pub mod FenceSteps
+pub mod ActLines
+pub mod RowSteps
+pub mod LastValues

@@ -48,14 +48,15 @@ KeepsParams old now = logical_of Param now ≡ logical_of Param old
 -- two lines, the new bytes of one and the old bytes of the other. After all it has the new one.
 pub record SetsTo (index : ℕ) (row : Var) (number : ℕ) (old : List ℕ) (writes : List LineWrite)
     : Type 0 where
+  pub row_is : slice_get vehicle_rows index ≡ Some row
   pub each : EachPrefix (ReadsBetween vehicle_rows index row number old) old writes
   pub whole : params_of (after old writes) row ≡ value_of_number row.kind number
 
--- the writes leave the parameters, or they set the row at this index, if there is one
+-- the writes leave the parameters, or they set the row at this index, if one is given
 abbrev pub SetsOnly : Option ℕ → List ℕ → List LineWrite → Type 0
 SetsOnly None old writes = EachPrefix (KeepsParams old) old writes
 SetsOnly (Some index) old writes = EachPrefix (KeepsParams old) old writes
-    ⊎ IfSome (slice_get vehicle_rows index) (λ row. (number : ℕ) × SetsTo index row number old writes)
+    ⊎ ((row : Var) × (number : ℕ) × SetsTo index row number old writes)
 
 -- The act is a PARAM_SET that sets the row at an index to a number over these bytes: it isn't a
 -- count of commands or rally points, and where a record has to be appended there is room.

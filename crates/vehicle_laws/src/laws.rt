@@ -1,6 +1,6 @@
 //! The laws, on functions that do nothing.
 
-ghost use Rattle.vehicle_laws.specs.Laws.{RunsByActs, ReadActsFit, LawOfMissions, LawOfUploads, LawOfFenceUploads, LawOfFences, BootFormats, StaysInOneLine};
+ghost use Rattle.vehicle_laws.specs.Laws.{RunsByActs, ReadActsFit, LawOfMissions, LawOfUploads, LawOfFenceUploads, LawOfFences, LawOfRecords, LawOfLastValues, BootFormats, StaysInOneLine};
 
 /// What events do is what their acts do, one after another.
 pub fn runs_by_acts()
@@ -34,6 +34,17 @@ pub fn law_of_fence_uploads()
 /// After each number of issued lines a fence is the old one, none, or the new one.
 pub fn law_of_fences()
     ensures { LawOfFences }
+{}
+
+/// The lines of an act leave the parameters, or set one row: after each of them a new record is
+/// absent or whole.
+pub fn law_of_records()
+    ensures { LawOfRecords }
+{}
+
+/// After each number of issued lines a row reads as after the last act that may have set it.
+pub fn law_of_last_values()
+    ensures { LawOfLastValues }
 {}
 
 /// Boot leaves formatted bytes.

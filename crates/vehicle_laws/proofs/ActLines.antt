@@ -1,0 +1,176 @@
+-- Which lines an act issues: what holds of each kind of them holds of those of any act.
+use Rattle.std.proofs.Common.{◌≡◌, ◌≢◌, ◌⊎◌, inl, inr, ℕ, ◌+◌, ◌-◌, ◌*◌, ◌<◌, ◌≤◌, Bool, true, false, cond, not, List, [], ◌∷◌, ◌++◌, length, take, drop, refl, sym, ◌∙◌, ap, subst, arith, Option, Some, None, append-nil}
+use Rattle.std.specs.Prelude.{IsTrue, Result, Ok, Err, nat_lt, ◌==◌, ◌&&◌, ◌||◌, IfSome, slice_get}
+use Rattle.std.specs.Option.{option_map_or}
+use Rattle.std.proofs.lemmas.List.{take_all}
+use Rattle.std.proofs.lemmas.Bool.{cases_Bool, cases_lt, cond_both, or_left, or_right}
+use Rattle.param_tree.specs.declared.Var.{Var}
+use Rattle.param_tree.specs.Rows.{vehicle_rows}
+use Rattle.storage_lines.specs.declared.lines.LineWrite.{LineWrite}
+use Rattle.storage_lines.specs.declared.lines.TheConstants.{STORAGE_BYTES}
+use Rattle.storage_lines.specs.declared.areas.Area.TheVariants as area
+use Rattle.storage_lines.specs.Areas.{logical_of, size_of_area}
+use Rattle.storage_lines.specs.Bytes.{IsBytes}
+use Rattle.storage_lines.specs.Lines.{after, EachPrefix}
+use Rattle.storage_lines.specs.Pieces.{writes_of, writes_of_piece}
+use Rattle.param_records.specs.Changes.{IsFull, set_pieces, is_full}
+use Rattle.param_records.specs.Steps.{records_in_storage, IsKept}
+use Rattle.param_service.specs.Requests as parameters
+use Rattle.param_service.specs.Requests.{Show, ShowAll, Set}
+use Rattle.param_service.specs.Service as parameter_service
+use Rattle.param_service.specs.Service.{is_total, writes_for, set_writes, streamed}
+use Rattle.mission_commands.specs.declared.commands.Command.{Command}
+use Rattle.mission_records.specs.declared.reading.TheConstants.{CAPACITY, TOTAL_INDEX}
+use Rattle.mission_records.specs.Mission.{total_row, version, place_of_command, command_bytes, total_writes, version_writes, command_writes, begin_writes, put_writes}
+use Rattle.mission_records.specs.Steps.{IsFormatted, StaysFormatted}
+use Rattle.mission_commands.specs.Storable.{IsStorable}
+use Rattle.fence_records.specs.declared.items.FenceItem.{FenceItem}
+use Rattle.fence_records.specs.Write.{fence_area}
+use Rattle.fence_records.specs.Fence.{items_of, version as version_of_fence}
+use Rattle.std.specs.Str.{bytes_eq}
+use Rattle.std.specs.List.{flat_map}
+use Rattle.param_records.specs.Records.{Record, records_of}
+use Rattle.fence_records.specs.Lists as fences
+use Rattle.fence_records.specs.Lists.{fence_of, FencesInSteps}
+use Rattle.mission_service.specs.declared.requests.MissionType.{MissionType}
+use Rattle.mission_service.specs.declared.requests.MissionType.TheVariants.{Mission, Fence}
+use Rattle.mission_service.specs.declared.uploads.Target.{Target}
+use Rattle.mission_service.specs.Uploads.{Upload, Uploads, Quiet, Open, Finished, Missions, with_uploads, uploads_of}
+use Rattle.mission_service.specs.Requests.{Given, ForMission, ForFence, Request, Begin, Give, Clear, Count, Show as ShowItem, Cancel, Unsupported, Asking}
+use Rattle.mission_service.specs.Service as service
+use Rattle.mission_service.specs.declared.replies.Content.{Content}
+use Rattle.mission_service.specs.declared.replies.Content.TheVariants.{Answer, Next}
+use Rattle.mission_service.specs.Service.{accepted, denied, no_space, invalid_sequence, From, Taken, exceeds, only, does, is_anothers, opened, clear_writes, any_anothers, all_quiet, cleared, begun, is_last, if_allowed, command_lines, taken, took, given_to, answered}
+use Rattle.vehicle_core.specs.Vehicle.{Vehicle, Asked, Parameters, Missions as AskedMissions, is_heard, hears}
+use Rattle.vehicle_core.specs.Acts.{Act, Said, Beat, Stream, Did, did, heard_as, nothing, by_parameters, asked_of, beaten}
+use Rattle.vehicle_node.specs.Runs.{Run, did_in, act_done, start}
+use Rattle.vehicle_laws.specs.Uploads.{run_over}
+use Rattle.mission_service.specs.Asked.{RequestFits}
+use Rattle.vehicle_laws.specs.Fitting.{SettingFits, ClearsOneOrAll, AskedFits, ActFits, AllFit}
+use Rattle.vehicle_laws.proofs.ActEffects.{missions_at, from_station}
+
+-- It holds of no lines, and of those that a request to the mission protocol may write.
+pub record OfMissions (P : List LineWrite → Type 0) (bytes : List ℕ) (m : Missions) : Type 0 where
+  pub none : P []
+  pub begins : P (begin_writes bytes)
+  pub clears : (types : List MissionType) → ClearsOneOrAll (Clear types) → P (clear_writes bytes types)
+  pub puts : (u : Upload) (c : Command) → m.mission ≡ Open u → IsStorable c → ¬ IsFull (records_in_storage bytes) total_row (u.expected + 1) → P (put_writes bytes u.expected c)
+  pub replaces : (items : List FenceItem) (ws : List LineWrite) → fences.replace_writes bytes items ≡ Ok ws → P ws
+
+-- It holds of no lines, and of those that set the row at an index.
+pub record OfRow (P : List LineWrite → Type 0) (bytes : List ℕ) (index : ℕ) : Type 0 where
+  pub none : P []
+  pub sets : (row : Var) (number : ℕ) → slice_get vehicle_rows index ≡ Some row → IsKept row.kind number → ¬ IsFull (records_in_storage bytes) row number → ¬ IsTrue (is_total row)
+      → P (writes_of bytes (set_pieces vehicle_rows (records_in_storage bytes) row number))
+
+cleared_lines : (P : List LineWrite → Type 0) (bytes : List ℕ) (limit : Option ℕ) (m : Missions) (from : From) (types : List MissionType) → P [] → P (clear_writes bytes types) → P (cleared bytes limit m from types).writes
+cleared_lines P bytes limit m from types none clears =
+    let ws = clear_writes bytes types in
+    let Q : service.Did → Type 0 = λ d. P d.writes in
+    cond_both (any_anothers from.station m types) (only from m (Answer denied)) (cond (exceeds limit ws) (only from m (Answer no_space)) (does from (all_quiet m types) ws (Answer accepted))) Q
+    (λ t. none)
+    (λ t. cond_both (exceeds limit ws) (only from m (Answer no_space)) (does from (all_quiet m types) ws (Answer accepted)) Q (λ t. none) (λ t. clears))
+
+begun_lines : (P : List LineWrite → Type 0) (bytes : List ℕ) (limit : Option ℕ) (m : Missions) (from : From) (t : MissionType) (count : ℕ) → P [] → P (clear_writes bytes (t ∷ [])) → P (service.first_writes t bytes) → P (begun bytes limit m from t count).writes
+begun_lines P bytes limit m from t count none clears first =
+    let ws = service.first_writes t bytes in
+    let Q : service.Did → Type 0 = λ d. P d.writes in
+    let d4 = does from (with_uploads t m (opened from count)) ws (Next 0) in
+    let d3 = cond (exceeds limit ws) (only from m (Answer no_space)) d4 in
+    let d2 = cond (count == 0) (cleared bytes limit m from (t ∷ [])) d3 in
+    let d1 = cond (nat_lt (service.most_of t) count) (only from m (Answer no_space)) d2 in
+    cond_both (is_anothers from.station (uploads_of t m)) (only from m (Answer denied)) d1 Q
+    (λ x. none)
+    (λ x. cond_both (nat_lt (service.most_of t) count) (only from m (Answer no_space)) d2 Q
+    (λ x. none)
+    (λ x. cond_both (count == 0) (cleared bytes limit m from (t ∷ [])) d3 Q
+    (λ x. cleared_lines P bytes limit m from (t ∷ []) none clears)
+    (λ x. cond_both (exceeds limit ws) (only from m (Answer no_space)) d4 Q (λ x. none) (λ x. first))))
+
+-- the next item of an upload, whatever it is
+given_lines : (P : List LineWrite → Type 0) (bytes : List ℕ) (limit : Option ℕ) (m : Missions) (from : From) (t : MissionType) (seq : ℕ) (given : Given) (before : Uploads) → P []
+    → ((u : Upload) → before ≡ Open u → P (took m from t u (taken bytes limit u given)).writes) → P (given_to bytes limit m from t seq given before).writes
+given_lines P bytes limit m from t seq given Quiet none h = none
+given_lines P bytes limit m from t seq given (Finished s l) none h = none
+given_lines P bytes limit m from t seq given (Open u) none h =
+    let Q : service.Did → Type 0 = λ d. P d.writes in
+    let d3 = took m from t u (taken bytes limit u given) in
+    let d2 = cond (not (seq == u.expected)) (only from m (Answer invalid_sequence)) d3 in
+    let d1 = cond (seq + 1 == u.expected) (only from m (Next u.expected)) d2 in
+    cond_both (not (u.owner == from.station)) (only from m (Answer denied)) d1 Q
+    (λ x. none)
+    (λ x. cond_both (seq + 1 == u.expected) (only from m (Next u.expected)) d2 Q
+    (λ x. none)
+    (λ x. cond_both (not (seq == u.expected)) (only from m (Answer invalid_sequence)) d3 Q (λ x. none) (λ x. h u refl)))
+
+-- lines that may be issued
+allowed_lines : (P : List LineWrite → Type 0) (limit : Option ℕ) (m : Missions) (from : From) (t : MissionType) (u : Upload) (kept : List FenceItem) (r : Result (List LineWrite) ℕ) → P [] → ((ws : List LineWrite) → r ≡ Ok ws → P ws) → P (took m from t u (if_allowed limit kept r)).writes
+allowed_lines P limit m from t u kept (Err e) none h = none
+allowed_lines P limit m from t u kept (Ok ws) none h =
+    cond_both (exceeds limit ws) (Err no_space) (Ok (record { writes = ws; kept = kept })) (λ (r : Result Taken ℕ). P (took m from t u r).writes) (λ x. none) (λ x. h ws refl)
+
+command_lines_of : (P : List LineWrite → Type 0) (bytes : List ℕ) (limit : Option ℕ) (m : Missions) (from : From) (u : Upload) (stored : Result Command ℕ) → OfMissions P bytes m → m.mission ≡ Open u → RequestFits (Give 0 (ForMission stored)) → P (took m from Mission u (taken bytes limit u (ForMission stored))).writes
+command_lines_of P bytes limit m from u (Err e) o is fits = o.none
+command_lines_of P bytes limit m from u (Ok c) o is fits =
+    let ws = put_writes bytes u.expected c in
+    let full = is_full (records_in_storage bytes) total_row (u.expected + 1) in
+    cond_both full (Err no_space) (Ok ws) (λ (r : Result (List LineWrite) ℕ). P (took m from Mission u (if_allowed limit [] r)).writes)
+    (λ x. o.none)
+    (λ room. allowed_lines P limit m from Mission u [] (Ok ws) o.none (λ vs e. let same : ws ≡ vs = cc in subst P same (o.puts u c is fits (λ g. let clash : true ≡ false = sym g ∙ room in cc))))
+
+fence_lines_of : (P : List LineWrite → Type 0) (bytes : List ℕ) (limit : Option ℕ) (m : Missions) (from : From) (u : Upload) (stored : Result FenceItem ℕ) → OfMissions P bytes m → P (took m from Fence u (taken bytes limit u (ForFence stored))).writes
+fence_lines_of P bytes limit m from u (Err e) o = o.none
+fence_lines_of P bytes limit m from u (Ok i) o =
+    let items = u.kept ++ i ∷ [] in
+    cond_both (is_last u) (if_allowed limit [] (fences.replace_writes bytes items)) (Ok (record { writes = []; kept = items })) (λ (r : Result Taken ℕ). P (took m from Fence u r).writes)
+    (λ x. allowed_lines P limit m from Fence u [] (fences.replace_writes bytes items) o.none (λ ws e. o.replaces items ws e))
+    (λ x. o.none)
+
+-- the lines of a request to the mission protocol
+pub request_lines : (P : List LineWrite → Type 0) (bytes : List ℕ) (limit : Option ℕ) (m : Missions) (from : From) (request : Request) → OfMissions P bytes m → RequestFits request → ClearsOneOrAll request → P (answered bytes limit m from request).writes
+request_lines P bytes limit m from (Begin Mission count) o fits one = begun_lines P bytes limit m from Mission count o.none (o.clears (Mission ∷ []) (inl (Mission, refl))) o.begins
+request_lines P bytes limit m from (Begin Fence count) o fits one = begun_lines P bytes limit m from Fence count o.none (o.clears (Fence ∷ []) (inl (Fence, refl))) o.none
+request_lines P bytes limit m from (Give seq (ForMission stored)) o fits one = given_lines P bytes limit m from Mission seq (ForMission stored) m.mission o.none (λ u e. command_lines_of P bytes limit m from u stored o e fits)
+request_lines P bytes limit m from (Give seq (ForFence stored)) o fits one = given_lines P bytes limit m from Fence seq (ForFence stored) m.fence o.none (λ u e. fence_lines_of P bytes limit m from u stored o)
+request_lines P bytes limit m from (Clear types) o fits one = cleared_lines P bytes limit m from types o.none (o.clears types one)
+request_lines P bytes limit m from (Count t) o fits one = o.none
+request_lines P bytes limit m from (ShowItem t seq) o fits one = o.none
+request_lines P bytes limit m from (Cancel t) o fits one = o.none
+request_lines P bytes limit m from Unsupported o fits one = o.none
+
+row_lines : (P : List LineWrite → Type 0) (bytes : List ℕ) (index number : ℕ) (found : Option Var) → OfRow P bytes index → slice_get vehicle_rows index ≡ found → IfSome found (λ row. IsKept row.kind number) → P (option_map_or (λ row. writes_for bytes row number) found [])
+row_lines P bytes index number None o is kept = o.none
+row_lines P bytes index number (Some row) o is kept =
+    let full = is_full (records_in_storage bytes) row number in
+    let ws = writes_of bytes (set_pieces vehicle_rows (records_in_storage bytes) row number) in
+    cond_both (is_total row || full) [] ws P
+    (λ t. o.none)
+    (λ t. o.sets row number is kept
+    (λ g. let clash : true ≡ false = sym (or_right (is_total row) full g) ∙ t in cc)
+    (λ g. let clash : true ≡ false = sym (or_left (is_total row) full g) ∙ t in cc))
+
+-- the lines of a PARAM_SET
+pub setting_lines : (P : List LineWrite → Type 0) (bytes : List ℕ) (index : ℕ) (number : Option ℕ) → OfRow P bytes index → SettingFits (Set index number) → P (set_writes bytes index number)
+setting_lines P bytes index None o fits = o.none
+setting_lines P bytes index (Some number) o fits = row_lines P bytes index number (slice_get vehicle_rows index) o refl fits
+
+-- A property of the lines of each kind of act, over these bytes in this state.
+pub record OfActs (P : Act → List LineWrite → Type 0) (bytes : List ℕ) (m : Missions) : Type 0 where
+  pub none : (act : Act) → P act []
+  pub of_row : (s : ℕ) (v2 : Bool) (index : ℕ) (number : Option ℕ) → OfRow (P (Said s (heard_as v2 (Some (Parameters (Set index number)))))) bytes index
+  pub of_missions : (s : ℕ) (v2 : Bool) (sender : Target) (asking : Asking) → OfMissions (P (Said s (heard_as v2 (Some (AskedMissions sender asking))))) bytes m
+
+said_lines : (P : Act → List LineWrite → Type 0) (bytes : List ℕ) (vehicle : Vehicle) (s : ℕ) (v2 : Bool) (asked : Option Asked) → OfActs P bytes vehicle.missions → AskedFits asked → P (Said s (heard_as v2 asked)) (asked_of bytes vehicle s asked).writes
+said_lines P bytes vehicle s v2 None o fits = o.none (Said s (heard_as v2 None))
+said_lines P bytes vehicle s v2 (Some (Parameters (Show index))) o fits = o.none (Said s (heard_as v2 (Some (Parameters (Show index)))))
+said_lines P bytes vehicle s v2 (Some (Parameters ShowAll)) o fits = o.none (Said s (heard_as v2 (Some (Parameters ShowAll))))
+said_lines P bytes vehicle s v2 (Some (Parameters (Set index number))) o fits = setting_lines (P (Said s (heard_as v2 (Some (Parameters (Set index number)))))) bytes index number (o.of_row s v2 index number) fits
+said_lines P bytes vehicle s v2 (Some (AskedMissions sender asking)) o fits =
+    request_lines (P (Said s (heard_as v2 (Some (AskedMissions sender asking))))) bytes None vehicle.missions (from_station s sender asking) asking.request (o.of_missions s v2 sender asking) fits.0 fits.1
+
+-- the lines of an act
+pub act_lines : (P : Act → List LineWrite → Type 0) (bytes : List ℕ) (vehicle : Vehicle) (act : Act) → OfActs P bytes vehicle.missions → ActFits act → P act (did bytes vehicle act).writes
+unfolding did
+act_lines P bytes vehicle (Said s heard) o fits = said_lines P bytes (hears vehicle s heard.v2) s heard.v2 heard.asked o fits
+act_lines P bytes vehicle (Beat s) o fits = cond_both (is_heard vehicle s) (beaten vehicle s (service.idle vehicle.missions s)) (nothing vehicle) (λ (d : Did). P (Beat s) d.writes) (λ t. o.none (Beat s)) (λ t. o.none (Beat s))
+act_lines P bytes vehicle (Stream s) o fits = cond_both (is_heard vehicle s) (by_parameters vehicle (streamed bytes vehicle.next_rows s)) (nothing vehicle) (λ (d : Did). P (Stream s) d.writes) (λ t. o.none (Stream s)) (λ t. o.none (Stream s))
