@@ -46,16 +46,18 @@ use Rattle.vehicle_core.specs.Acts.{Act, Said, Beat, Stream, Did, did, heard_as,
 use Rattle.vehicle_node.specs.Runs.{Run, did_in, act_done, start}
 use Rattle.vehicle_laws.specs.Uploads.{run_over}
 use Rattle.mission_service.specs.Asked.{RequestFits}
+use Rattle.vehicle_laws.specs.Rows.{total_to_set, row_asked, row_of_act}
 use Rattle.vehicle_laws.specs.Fitting.{SettingFits, ClearsOneOrAll, AskedFits, ActFits, AllFit}
 use Rattle.vehicle_laws.proofs.ActEffects.{missions_at, from_station}
 
 -- It holds of no lines, and of those that a request to the mission protocol may write.
-pub record OfMissions (P : List LineWrite → Type 0) (bytes : List ℕ) (m : Missions) : Type 0 where
-  pub none : P []
-  pub begins : P (begin_writes bytes)
-  pub clears : (types : List MissionType) → ClearsOneOrAll (Clear types) → P (clear_writes bytes types)
-  pub puts : (u : Upload) (c : Command) → m.mission ≡ Open u → IsStorable c → ¬ IsFull (records_in_storage bytes) total_row (u.expected + 1) → P (put_writes bytes u.expected c)
-  pub replaces : (items : List FenceItem) (ws : List LineWrite) → fences.replace_writes bytes items ≡ Ok ws → P ws
+pub record OfMissions (P : Request → List LineWrite → Type 0) (bytes : List ℕ) (m : Missions) : Type 0 where
+  pub none : (request : Request) → P request []
+  pub begins : (count : ℕ) → P (Begin Mission count) (begin_writes bytes)
+  pub empties : (t : MissionType) (count : ℕ) → P (Begin t count) (clear_writes bytes (t ∷ []))
+  pub clears : (types : List MissionType) → ClearsOneOrAll (Clear types) → P (Clear types) (clear_writes bytes types)
+  pub puts : (u : Upload) (seq : ℕ) (c : Command) → m.mission ≡ Open u → IsStorable c → ¬ IsFull (records_in_storage bytes) total_row (u.expected + 1) → P (Give seq (ForMission (Ok c))) (put_writes bytes u.expected c)
+  pub replaces : (seq : ℕ) (item : FenceItem) (items : List FenceItem) (ws : List LineWrite) → fences.replace_writes bytes items ≡ Ok ws → P (Give seq (ForFence (Ok item))) ws
 
 -- It holds of no lines, and of those that set the row at an index.
 pub record OfRow (P : List LineWrite → Type 0) (bytes : List ℕ) (index : ℕ) : Type 0 where
@@ -109,34 +111,42 @@ allowed_lines P limit m from t u kept (Err e) none h = none
 allowed_lines P limit m from t u kept (Ok ws) none h =
     cond_both (exceeds limit ws) (Err no_space) (Ok (record { writes = ws; kept = kept })) (λ (r : Result Taken ℕ). P (took m from t u r).writes) (λ x. none) (λ x. h ws refl)
 
-command_lines_of : (P : List LineWrite → Type 0) (bytes : List ℕ) (limit : Option ℕ) (m : Missions) (from : From) (u : Upload) (stored : Result Command ℕ) → OfMissions P bytes m → m.mission ≡ Open u → RequestFits (Give 0 (ForMission stored)) → P (took m from Mission u (taken bytes limit u (ForMission stored))).writes
-command_lines_of P bytes limit m from u (Err e) o is fits = o.none
-command_lines_of P bytes limit m from u (Ok c) o is fits =
+command_given : (P : Request → List LineWrite → Type 0) (bytes : List ℕ) (limit : Option ℕ) (m : Missions) (from : From) (u : Upload) (seq : ℕ) (stored : Result Command ℕ) → OfMissions P bytes m → m.mission ≡ Open u → RequestFits (Give seq (ForMission stored))
+    → P (Give seq (ForMission stored)) (took m from Mission u (taken bytes limit u (ForMission stored))).writes
+command_given P bytes limit m from u seq (Err e) o is fits = o.none (Give seq (ForMission (Err e)))
+command_given P bytes limit m from u seq (Ok c) o is fits =
+    let Q = P (Give seq (ForMission (Ok c))) in
+    let none = o.none (Give seq (ForMission (Ok c))) in
     let ws = put_writes bytes u.expected c in
     let full = is_full (records_in_storage bytes) total_row (u.expected + 1) in
-    cond_both full (Err no_space) (Ok ws) (λ (r : Result (List LineWrite) ℕ). P (took m from Mission u (if_allowed limit [] r)).writes)
-    (λ x. o.none)
-    (λ room. allowed_lines P limit m from Mission u [] (Ok ws) o.none (λ vs e. let same : ws ≡ vs = cc in subst P same (o.puts u c is fits (λ g. let clash : true ≡ false = sym g ∙ room in cc))))
+    cond_both full (Err no_space) (Ok ws) (λ (r : Result (List LineWrite) ℕ). Q (took m from Mission u (if_allowed limit [] r)).writes)
+    (λ x. none)
+    (λ room. allowed_lines Q limit m from Mission u [] (Ok ws) none (λ vs e. let same : ws ≡ vs = cc in subst Q same (o.puts u seq c is fits (λ g. let clash : true ≡ false = sym g ∙ room in cc))))
 
-fence_lines_of : (P : List LineWrite → Type 0) (bytes : List ℕ) (limit : Option ℕ) (m : Missions) (from : From) (u : Upload) (stored : Result FenceItem ℕ) → OfMissions P bytes m → P (took m from Fence u (taken bytes limit u (ForFence stored))).writes
-fence_lines_of P bytes limit m from u (Err e) o = o.none
-fence_lines_of P bytes limit m from u (Ok i) o =
+item_given : (P : Request → List LineWrite → Type 0) (bytes : List ℕ) (limit : Option ℕ) (m : Missions) (from : From) (u : Upload) (seq : ℕ) (stored : Result FenceItem ℕ) → OfMissions P bytes m
+    → P (Give seq (ForFence stored)) (took m from Fence u (taken bytes limit u (ForFence stored))).writes
+item_given P bytes limit m from u seq (Err e) o = o.none (Give seq (ForFence (Err e)))
+item_given P bytes limit m from u seq (Ok i) o =
+    let Q = P (Give seq (ForFence (Ok i))) in
+    let none = o.none (Give seq (ForFence (Ok i))) in
     let items = u.kept ++ i ∷ [] in
-    cond_both (is_last u) (if_allowed limit [] (fences.replace_writes bytes items)) (Ok (record { writes = []; kept = items })) (λ (r : Result Taken ℕ). P (took m from Fence u r).writes)
-    (λ x. allowed_lines P limit m from Fence u [] (fences.replace_writes bytes items) o.none (λ ws e. o.replaces items ws e))
-    (λ x. o.none)
+    cond_both (is_last u) (if_allowed limit [] (fences.replace_writes bytes items)) (Ok (record { writes = []; kept = items })) (λ (r : Result Taken ℕ). Q (took m from Fence u r).writes)
+    (λ x. allowed_lines Q limit m from Fence u [] (fences.replace_writes bytes items) none (λ ws e. o.replaces seq i items ws e))
+    (λ x. none)
 
 -- the lines of a request to the mission protocol
-pub request_lines : (P : List LineWrite → Type 0) (bytes : List ℕ) (limit : Option ℕ) (m : Missions) (from : From) (request : Request) → OfMissions P bytes m → RequestFits request → ClearsOneOrAll request → P (answered bytes limit m from request).writes
-request_lines P bytes limit m from (Begin Mission count) o fits one = begun_lines P bytes limit m from Mission count o.none (o.clears (Mission ∷ []) (inl (Mission, refl))) o.begins
-request_lines P bytes limit m from (Begin Fence count) o fits one = begun_lines P bytes limit m from Fence count o.none (o.clears (Fence ∷ []) (inl (Fence, refl))) o.none
-request_lines P bytes limit m from (Give seq (ForMission stored)) o fits one = given_lines P bytes limit m from Mission seq (ForMission stored) m.mission o.none (λ u e. command_lines_of P bytes limit m from u stored o e fits)
-request_lines P bytes limit m from (Give seq (ForFence stored)) o fits one = given_lines P bytes limit m from Fence seq (ForFence stored) m.fence o.none (λ u e. fence_lines_of P bytes limit m from u stored o)
-request_lines P bytes limit m from (Clear types) o fits one = cleared_lines P bytes limit m from types o.none (o.clears types one)
-request_lines P bytes limit m from (Count t) o fits one = o.none
-request_lines P bytes limit m from (ShowItem t seq) o fits one = o.none
-request_lines P bytes limit m from (Cancel t) o fits one = o.none
-request_lines P bytes limit m from Unsupported o fits one = o.none
+pub request_lines : (P : Request → List LineWrite → Type 0) (bytes : List ℕ) (limit : Option ℕ) (m : Missions) (from : From) (request : Request) → OfMissions P bytes m → RequestFits request → ClearsOneOrAll request → P request (answered bytes limit m from request).writes
+request_lines P bytes limit m from (Begin Mission count) o fits one = begun_lines (P (Begin Mission count)) bytes limit m from Mission count (o.none (Begin Mission count)) (o.empties Mission count) (o.begins count)
+request_lines P bytes limit m from (Begin Fence count) o fits one = begun_lines (P (Begin Fence count)) bytes limit m from Fence count (o.none (Begin Fence count)) (o.empties Fence count) (o.none (Begin Fence count))
+request_lines P bytes limit m from (Give seq (ForMission stored)) o fits one =
+    given_lines (P (Give seq (ForMission stored))) bytes limit m from Mission seq (ForMission stored) m.mission (o.none (Give seq (ForMission stored))) (λ u e. command_given P bytes limit m from u seq stored o e fits)
+request_lines P bytes limit m from (Give seq (ForFence stored)) o fits one =
+    given_lines (P (Give seq (ForFence stored))) bytes limit m from Fence seq (ForFence stored) m.fence (o.none (Give seq (ForFence stored))) (λ u e. item_given P bytes limit m from u seq stored o)
+request_lines P bytes limit m from (Clear types) o fits one = cleared_lines (P (Clear types)) bytes limit m from types (o.none (Clear types)) (o.clears types one)
+request_lines P bytes limit m from (Count t) o fits one = o.none (Count t)
+request_lines P bytes limit m from (ShowItem t seq) o fits one = o.none (ShowItem t seq)
+request_lines P bytes limit m from (Cancel t) o fits one = o.none (Cancel t)
+request_lines P bytes limit m from Unsupported o fits one = o.none Unsupported
 
 row_lines : (P : List LineWrite → Type 0) (bytes : List ℕ) (index number : ℕ) (found : Option Var) → OfRow P bytes index → slice_get vehicle_rows index ≡ found → IfSome found (λ row. IsKept row.kind number) → P (option_map_or (λ row. writes_for bytes row number) found [])
 row_lines P bytes index number None o is kept = o.none
@@ -154,23 +164,23 @@ pub setting_lines : (P : List LineWrite → Type 0) (bytes : List ℕ) (index : 
 setting_lines P bytes index None o fits = o.none
 setting_lines P bytes index (Some number) o fits = row_lines P bytes index number (slice_get vehicle_rows index) o refl fits
 
--- A property of the lines of each kind of act, over these bytes in this state.
-pub record OfActs (P : Act → List LineWrite → Type 0) (bytes : List ℕ) (m : Missions) : Type 0 where
-  pub none : (act : Act) → P act []
-  pub of_row : (s : ℕ) (v2 : Bool) (index : ℕ) (number : Option ℕ) → OfRow (P (Said s (heard_as v2 (Some (Parameters (Set index number)))))) bytes index
-  pub of_missions : (s : ℕ) (v2 : Bool) (sender : Target) (asking : Asking) → OfMissions (P (Said s (heard_as v2 (Some (AskedMissions sender asking))))) bytes m
+-- A property of the lines of acts, over these bytes in this state: `P row` where the act may set this row at most.
+pub record OfActs (P : Option ℕ → List LineWrite → Type 0) (bytes : List ℕ) (m : Missions) : Type 0 where
+  pub none : (row : Option ℕ) → P row []
+  pub of_row : (index : ℕ) → OfRow (P (Some index)) bytes index
+  pub of_missions : OfMissions (λ request. P (total_to_set request)) bytes m
 
-said_lines : (P : Act → List LineWrite → Type 0) (bytes : List ℕ) (vehicle : Vehicle) (s : ℕ) (v2 : Bool) (asked : Option Asked) → OfActs P bytes vehicle.missions → AskedFits asked → P (Said s (heard_as v2 asked)) (asked_of bytes vehicle s asked).writes
-said_lines P bytes vehicle s v2 None o fits = o.none (Said s (heard_as v2 None))
-said_lines P bytes vehicle s v2 (Some (Parameters (Show index))) o fits = o.none (Said s (heard_as v2 (Some (Parameters (Show index)))))
-said_lines P bytes vehicle s v2 (Some (Parameters ShowAll)) o fits = o.none (Said s (heard_as v2 (Some (Parameters ShowAll))))
-said_lines P bytes vehicle s v2 (Some (Parameters (Set index number))) o fits = setting_lines (P (Said s (heard_as v2 (Some (Parameters (Set index number)))))) bytes index number (o.of_row s v2 index number) fits
-said_lines P bytes vehicle s v2 (Some (AskedMissions sender asking)) o fits =
-    request_lines (P (Said s (heard_as v2 (Some (AskedMissions sender asking))))) bytes None vehicle.missions (from_station s sender asking) asking.request (o.of_missions s v2 sender asking) fits.0 fits.1
+said_lines : (P : Option ℕ → List LineWrite → Type 0) (bytes : List ℕ) (vehicle : Vehicle) (s : ℕ) (asked : Option Asked) → OfActs P bytes vehicle.missions → AskedFits asked → P (row_asked asked) (asked_of bytes vehicle s asked).writes
+said_lines P bytes vehicle s None o fits = o.none None
+said_lines P bytes vehicle s (Some (Parameters (Show index))) o fits = o.none None
+said_lines P bytes vehicle s (Some (Parameters ShowAll)) o fits = o.none None
+said_lines P bytes vehicle s (Some (Parameters (Set index number))) o fits = setting_lines (P (Some index)) bytes index number (o.of_row index) fits
+said_lines P bytes vehicle s (Some (AskedMissions sender asking)) o fits =
+    request_lines (λ request. P (total_to_set request)) bytes None vehicle.missions (from_station s sender asking) asking.request o.of_missions fits.0 fits.1
 
 -- the lines of an act
-pub act_lines : (P : Act → List LineWrite → Type 0) (bytes : List ℕ) (vehicle : Vehicle) (act : Act) → OfActs P bytes vehicle.missions → ActFits act → P act (did bytes vehicle act).writes
+pub act_lines : (P : Option ℕ → List LineWrite → Type 0) (bytes : List ℕ) (vehicle : Vehicle) (act : Act) → OfActs P bytes vehicle.missions → ActFits act → P (row_of_act act) (did bytes vehicle act).writes
 unfolding did
-act_lines P bytes vehicle (Said s heard) o fits = said_lines P bytes (hears vehicle s heard.v2) s heard.v2 heard.asked o fits
-act_lines P bytes vehicle (Beat s) o fits = cond_both (is_heard vehicle s) (beaten vehicle s (service.idle vehicle.missions s)) (nothing vehicle) (λ (d : Did). P (Beat s) d.writes) (λ t. o.none (Beat s)) (λ t. o.none (Beat s))
-act_lines P bytes vehicle (Stream s) o fits = cond_both (is_heard vehicle s) (by_parameters vehicle (streamed bytes vehicle.next_rows s)) (nothing vehicle) (λ (d : Did). P (Stream s) d.writes) (λ t. o.none (Stream s)) (λ t. o.none (Stream s))
+act_lines P bytes vehicle (Said s heard) o fits = said_lines P bytes (hears vehicle s heard.v2) s heard.asked o fits
+act_lines P bytes vehicle (Beat s) o fits = cond_both (is_heard vehicle s) (beaten vehicle s (service.idle vehicle.missions s)) (nothing vehicle) (λ (d : Did). P None d.writes) (λ t. o.none None) (λ t. o.none None)
+act_lines P bytes vehicle (Stream s) o fits = cond_both (is_heard vehicle s) (by_parameters vehicle (streamed bytes vehicle.next_rows s)) (nothing vehicle) (λ (d : Did). P None d.writes) (λ t. o.none None) (λ t. o.none None)

@@ -163,13 +163,14 @@ fence_row bytes index f = record {
       (left_row bytes index row number (record { formatted = f; is = is; kept = kept; room = room }));
 }
 
-fence_missions : FencesInSteps → (bytes : List ℕ) (m : Missions) → IsFormatted bytes → HasPlace m → OfMissions (FenceStep bytes) bytes m
+fence_missions : FencesInSteps → (bytes : List ℕ) (m : Missions) → IsFormatted bytes → HasPlace m → OfMissions (λ request. FenceStep bytes) bytes m
 fence_missions q bytes m f few = record {
-  none = none_step bytes;
-  begins = left_step bytes (begin_writes bytes) (left_begin bytes f);
+  none = λ request. none_step bytes;
+  empties = λ t count j h. elim (clears_types q (t ∷ []) bytes f j h) [ inl old ↦ inl old | inr none ↦ inr (inl none) ];
+  begins = λ count. left_step bytes (begin_writes bytes) (left_begin bytes f);
   clears = λ types one j h. elim (clears_types q types bytes f j h) [ inl old ↦ inl old | inr none ↦ inr (inl none) ];
-  puts = λ u c is storable room. left_step bytes (put_writes bytes u.expected c) (left_put bytes u.expected c f storable (few u is) room);
-  replaces = λ items ws e j h. q.replaces bytes items ws j f.size e;
+  puts = λ u seq c is storable room. left_step bytes (put_writes bytes u.expected c) (left_put bytes u.expected c f storable (few u is) room);
+  replaces = λ seq i items ws e j h. q.replaces bytes items ws j f.size e;
 }
 
 -- at each act of a run
@@ -187,8 +188,8 @@ law_of_fences b acts act f fit =
     let ws = (did_in b r act).writes in
     let st = status b acts f (fit_before acts (act ∷ []) fit) in
     let few = has_place b acts st in
-    let x = act_lines (λ a ws. FenceStep bytes ws) bytes r.machine.vehicle act
-    (record { none = λ a. none_step bytes; of_row = λ s v2 index number. fence_row bytes index st.formatted; of_missions = λ s v2 sender asking. fence_missions q bytes r.machine.vehicle.missions st.formatted few })
+    let x = act_lines (λ row ws. FenceStep bytes ws) bytes r.machine.vehicle act
+    (record { none = λ row. none_step bytes; of_row = λ index. fence_row bytes index st.formatted; of_missions = fence_missions q bytes r.machine.vehicle.missions st.formatted few })
     (fit_since acts (act ∷ []) fit).0 in
     let end : after b (act_done b r act).issued ≡ after bytes ws = after-append b r.issued ws in
     subst (λ (new : List FenceItem). EachPrefix (IsFenceOneOf (fence_of bytes) new) bytes ws) (sym (ap fence_of end)) x

@@ -29,13 +29,13 @@ use Rattle.fence_records.specs.Lists as fences
 use Rattle.mission_service.specs.declared.requests.MissionType.{MissionType}
 use Rattle.mission_service.specs.declared.requests.MissionType.TheVariants.{Mission, Fence}
 use Rattle.mission_service.specs.Uploads.{kinds, Missions}
-use Rattle.mission_service.specs.Requests.{Clear}
+use Rattle.mission_service.specs.Requests.{Begin, Clear}
 use Rattle.mission_service.specs.Service.{clear_writes}
 use Rattle.vehicle_core.specs.Acts.{Act}
 use Rattle.vehicle_node.specs.Runs.{did_in}
 use Rattle.vehicle_laws.specs.Fitting.{ClearsOneOrAll}
 use Rattle.vehicle_laws.specs.Uploads.{run_over}
-use Rattle.vehicle_laws.specs.Rows.{row_of_act, KeepsParams, SetsTo, SetsOnly}
+use Rattle.vehicle_laws.specs.Rows.{total_to_set, row_of_act, KeepsParams, SetsTo, SetsOnly}
 use Rattle.vehicle_laws.specs.Laws.{LawOfRecords}
 use Rattle.vehicle_laws.proofs.Keeping.{formatted_then}
 use Rattle.vehicle_laws.proofs.ActLines.{OfRow, OfMissions, act_lines}
@@ -151,10 +151,18 @@ OfTotal bytes ws = EachPrefix (KeepsParams bytes) bytes ws ⊎ ((number : ℕ) �
 fence_clears : (bytes : List ℕ) → length bytes ≡ STORAGE_BYTES → EachPrefix (KeepsParams bytes) bytes (fences.clear_writes bytes)
 fence_clears bytes size j h = (clear_beside bytes size j h).params
 
+fence_keeps : (bytes : List ℕ) → IsFormatted bytes → EachPrefix (KeepsParams bytes) bytes (clear_writes bytes (Fence ∷ []))
+unfolding clear_writes
+fence_keeps bytes f = subst (EachPrefix (KeepsParams bytes) bytes) (sym (append-nil (fences.clear_writes bytes))) (fence_clears bytes f.size)
+
+nothing_set : (bytes : List ℕ) (row : Option ℕ) → SetsOnly row bytes []
+nothing_set bytes None = keeps_none bytes
+nothing_set bytes (Some index) = inl (keeps_none bytes)
+
 one_clears : (bytes : List ℕ) (t : MissionType) → IsFormatted bytes → OfTotal bytes (clear_writes bytes (t ∷ []))
 unfolding clear_writes
 one_clears bytes Mission f = inr (0, subst (SetsTotal 0 bytes) (sym (append-nil (total_writes bytes 0))) (total_zero bytes f))
-one_clears bytes Fence f = inl (subst (EachPrefix (KeepsParams bytes) bytes) (sym (append-nil (fences.clear_writes bytes))) (fence_clears bytes f.size))
+one_clears bytes Fence f = inl (fence_keeps bytes f)
 
 all_clear : (bytes : List ℕ) → IsFormatted bytes → OfTotal bytes (clear_writes bytes kinds)
 unfolding clear_writes
@@ -178,18 +186,19 @@ of_row bytes index f = record {
   sets = λ row number is kept room other. inr (row, number, row_sets bytes index row number (record { formatted = f; is = is; kept = kept; room = room }));
 }
 
-of_missions : (bytes : List ℕ) (m : Missions) → IsFormatted bytes → HasPlace m → OfMissions (SetsOnly (Some TOTAL_INDEX) bytes) bytes m
-of_missions bytes m f few = record {
-  none = inl (keeps_none bytes);
-  begins = total_only bytes (begin_writes bytes) (inr (0, begin_sets bytes f));
-  clears = λ types one. total_only bytes (clear_writes bytes types) (clears_total bytes types f one);
-  puts = λ u c is storable room. total_only bytes (put_writes bytes u.expected c) (inr (u.expected + 1, put_sets bytes u.expected c f storable (few u is) room));
-  replaces = λ items ws e. inl (λ j h. (replace_beside bytes items f.size ws e j h).params);
-}
+one_sets : (bytes : List ℕ) (t : MissionType) (count : ℕ) → IsFormatted bytes → SetsOnly (total_to_set (Begin t count)) bytes (clear_writes bytes (t ∷ []))
+one_sets bytes Mission count f = total_only bytes (clear_writes bytes (Mission ∷ [])) (one_clears bytes Mission f)
+one_sets bytes Fence count f = fence_keeps bytes f
 
-nothing_set : (bytes : List ℕ) (row : Option ℕ) → SetsOnly row bytes []
-nothing_set bytes None = keeps_none bytes
-nothing_set bytes (Some index) = inl (keeps_none bytes)
+of_missions : (bytes : List ℕ) (m : Missions) → IsFormatted bytes → HasPlace m → OfMissions (λ request. SetsOnly (total_to_set request) bytes) bytes m
+of_missions bytes m f few = record {
+  none = λ request. nothing_set bytes (total_to_set request);
+  begins = λ count. total_only bytes (begin_writes bytes) (inr (0, begin_sets bytes f));
+  empties = λ t count. one_sets bytes t count f;
+  clears = λ types one. total_only bytes (clear_writes bytes types) (clears_total bytes types f one);
+  puts = λ u seq c is storable room. total_only bytes (put_writes bytes u.expected c) (inr (u.expected + 1, put_sets bytes u.expected c f storable (few u is) room));
+  replaces = λ seq i items ws e j h. (replace_beside bytes items f.size ws e j h).params;
+}
 
 pub law_of_records : LawOfRecords
 law_of_records b acts act f fit =
@@ -197,6 +206,6 @@ law_of_records b acts act f fit =
     let bytes = after b r.issued in
     let st = status b acts f (fit_before acts (act ∷ []) fit) in
     let few = has_place b acts st in
-    act_lines (λ a ws. SetsOnly (row_of_act a) bytes ws) bytes r.machine.vehicle act
-    (record { none = λ a. nothing_set bytes (row_of_act a); of_row = λ s v2 index number. of_row bytes index st.formatted; of_missions = λ s v2 sender asking. of_missions bytes r.machine.vehicle.missions st.formatted few })
+    act_lines (λ row ws. SetsOnly row bytes ws) bytes r.machine.vehicle act
+    (record { none = λ row. nothing_set bytes row; of_row = λ index. of_row bytes index st.formatted; of_missions = of_missions bytes r.machine.vehicle.missions st.formatted few })
     (fit_since acts (act ∷ []) fit).0

@@ -13,6 +13,9 @@ use Rattle.param_service.specs.Requests as parameters
 use Rattle.param_service.specs.Requests.{Show, ShowAll, Set}
 use Rattle.param_service.specs.Service.{is_total}
 use Rattle.mission_records.specs.declared.reading.TheConstants.{TOTAL_INDEX}
+use Rattle.mission_service.specs.declared.requests.MissionType.TheVariants.{Mission}
+use Rattle.mission_service.specs.Requests as missions
+use Rattle.mission_service.specs.Requests.{ForMission, Begin, Give, Clear}
 use Rattle.vehicle_core.specs.Vehicle.{Asked, Parameters, Missions}
 use Rattle.vehicle_core.specs.Acts.{Act, Said, Beat, Stream, heard_as}
 
@@ -22,10 +25,18 @@ row_to_set (Set index number) = Some index
 row_to_set (Show index) = None
 row_to_set ShowAll = None
 
--- the same of anything that is asked: the mission protocol may set MIS_TOTAL
+-- the row that one to the mission protocol may set: MIS_TOTAL, where a mission is uploaded or
+-- something is cleared
+abbrev pub total_to_set : missions.Request → Option ℕ
+total_to_set (Begin Mission count) = Some TOTAL_INDEX
+total_to_set (Give seq (ForMission stored)) = Some TOTAL_INDEX
+total_to_set (Clear types) = Some TOTAL_INDEX
+total_to_set _ = None
+
+-- the row that may be set by what is asked
 abbrev pub row_asked : Option Asked → Option ℕ
 row_asked (Some (Parameters request)) = row_to_set request
-row_asked (Some (Missions sender asking)) = Some TOTAL_INDEX
+row_asked (Some (Missions sender asking)) = total_to_set asking.request
 row_asked None = None
 
 -- the one row that an act may set, by its index
