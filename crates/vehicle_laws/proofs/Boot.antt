@@ -9,13 +9,14 @@ use Rattle.storage_lines.specs.declared.lines.TheConstants.{STORAGE_BYTES}
 use Rattle.storage_lines.specs.declared.areas.Area.TheVariants.{Param}
 use Rattle.storage_lines.specs.Areas.{logical_of}
 use Rattle.storage_lines.specs.Bytes.{IsBytes}
-use Rattle.storage_lines.specs.Lines.{after}
+use Rattle.storage_lines.specs.Lines.{after, EachPrefix}
 use Rattle.storage_lines.specs.Pieces.{Piece, writes_of}
 use Rattle.storage_lines.proofs.LineLemmas.{length-after}
 use Rattle.param_records.specs.Records.{Record, magic, HasRecords}
 use Rattle.param_records.specs.Changes.{piece, formatting, total_zero}
 use Rattle.param_records.specs.Steps.{HasMagic}
 use Rattle.std.proofs.lemmas.List.Elements.{All-nil, All-cons}
+use Rattle.storage_lines.proofs.PrefixLemmas.{prefix_nil}
 use Rattle.param_records.proofs.FormatLemmas.{formats}
 use Rattle.param_records.proofs.OtherAreas.{IsParamPiece, two_fit}
 use Rattle.param_records.proofs.StepLemmas.{front_is}
@@ -45,15 +46,19 @@ small (x ∷ xs) h = let parts = and_parts (nat_lt x 256) (all_small xs) h in co
 abbrev OfBytes : Piece → Type 0
 OfBytes q = IsBytes q.bytes
 
-formatted_now : (b : List ℕ) → length b ≡ STORAGE_BYTES → IsBytes (logical_of Param b) → IsFormatted (after b (writes_of b formatting))
-formatted_now b size low =
-    let all = formats in
-    let ws = writes_of b formatting in
+bytes_stay : (b : List ℕ) → length b ≡ STORAGE_BYTES → IsBytes (logical_of Param b) → EachPrefix (λ now. IsBytes (logical_of Param now)) b (writes_of b formatting)
+bytes_stay b size bytes =
     let one : List ℕ = 0 ∷ 0 ∷ 0xFF ∷ 0xFF ∷ 0x3F ∷ 0 ∷ 0 ∷ 0 ∷ [] in
     let zero : List ℕ = 0x50 ∷ 0x41 ∷ 0x06 ∷ 0 ∷ 0x14 ∷ 0x42 ∷ 0 ∷ 0 ∷ [] in
     let fit : All IsParamPiece formatting = two_fit 8 0 one zero (omega arith) (omega arith) in
     let of_bytes : All OfBytes formatting = All-cons OfBytes (piece 8 one) (piece 0 zero ∷ []) (small one refl) (All-cons OfBytes (piece 0 zero) [] (small zero refl) (All-nil OfBytes)) in
-    let params = all_writes (λ (now : List ℕ). IsBytes (logical_of Param now)) b ws (all_low b formatting size fit of_bytes low) in
+    all_low b formatting size fit of_bytes bytes
+
+formatted_now : (b : List ℕ) → length b ≡ STORAGE_BYTES → IsBytes (logical_of Param b) → IsFormatted (after b (writes_of b formatting))
+formatted_now b size bytes =
+    let all = formats in
+    let ws = writes_of b formatting in
+    let params = all_writes (λ (now : List ℕ). IsBytes (logical_of Param now)) b ws (bytes_stay b size bytes) in
     record { size = length-after b ws ∙ size; params = params; magic = front_is (logical_of Param (after b ws)) (total_zero ∷ []) 10 (all b size).whole }
 
 boot_none : (b : List ℕ) → bytes_eq (take 4 (logical_of Param b)) magic ≡ true → boot b ≡ []
@@ -76,5 +81,25 @@ boot_in_one_line b size other = elim (cases_Bool (bytes_eq (take 4 (logical_of P
   | inr differ ↦ subst (λ (ws : List LineWrite). IsTotalInOneLine (after b ws)) (sym (boot_all b differ)) (in_one_line b size)
 ]
 
+boot_bytes : (b : List ℕ) → length b ≡ STORAGE_BYTES → IsBytes (logical_of Param b) → EachPrefix (λ now. IsBytes (logical_of Param now)) b (boot b)
+boot_bytes b size bytes =
+    let P : List LineWrite → Type 0 = λ ws. EachPrefix (λ now. IsBytes (logical_of Param now)) b ws in
+    elim (cases_Bool (bytes_eq (take 4 (logical_of Param b)) magic)) [
+      | inl same ↦ subst P (sym (boot_none b same)) (prefix_nil (λ now. IsBytes (logical_of Param now)) b bytes)
+      | inr other ↦ subst P (sym (boot_all b other)) (bytes_stay b size bytes)
+    ]
+
+no_magic : (b : List ℕ) → bytes_eq (take 4 (logical_of Param b)) magic ≡ false → ¬ HasMagic b
+no_magic b h m = let clash : true ≡ false = sym ((bytes_eq-Decides (take 4 (logical_of Param b)) magic).1 m) ∙ h in cc
+
+boot_unformatted : (b : List ℕ) (j : ℕ) → length b ≡ STORAGE_BYTES → j < length (boot b) → ¬ HasMagic (after b (take j (boot b)))
+boot_unformatted b j size =
+    let all = formats in
+    let P : List LineWrite → Type 0 = λ ws. j < length ws → ¬ HasMagic (after b (take j ws)) in
+    elim (cases_Bool (bytes_eq (take 4 (logical_of Param b)) magic)) [
+      | inl same ↦ subst P (sym (boot_none b same)) (λ less. absurd (omega (arith, less)))
+      | inr other ↦ subst P (sym (boot_all b other)) (λ less. (all b size).unformatted (no_magic b other) j less)
+    ]
+
 pub boot_formats : BootFormats
-boot_formats = record { formatted = boot_formatted; in_one_line = boot_in_one_line }
+boot_formats = record { formatted = boot_formatted; in_one_line = boot_in_one_line; unformatted = boot_unformatted; bytes = boot_bytes }

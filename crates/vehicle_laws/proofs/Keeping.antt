@@ -30,7 +30,7 @@ clears_empties b ws c = record { stays = c.stays; each = c.each }
 pub formatted_then : (b : List ℕ) (ws : List LineWrite) → EachPrefix (StaysFormatted b) b ws → IsFormatted (after b ws)
 formatted_then b ws h = (all_writes (StaysFormatted b) b ws h).formatted
 
-then_stays : (a b c : List ℕ) → StaysFormatted a b → StaysFormatted b c → StaysFormatted a c
+pub then_stays : (a b c : List ℕ) → StaysFormatted a b → StaysFormatted b c → StaysFormatted a c
 then_stays a b c x y = record { formatted = y.formatted; one_line = λ t. y.one_line (x.one_line t) }
 
 pub empties_then : (b : List ℕ) (xs ys : List LineWrite) → Empties b xs → Empties (after b xs) ys → Empties b (xs ++ ys)

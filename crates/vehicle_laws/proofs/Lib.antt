@@ -15,3 +15,5 @@ pub mod FenceSteps
 pub mod ActLines
 pub mod RowSteps
 pub mod LastValues
+pub mod LinesByActs
+pub mod FormatSteps

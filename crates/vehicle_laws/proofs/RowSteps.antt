@@ -46,7 +46,7 @@ use Rattle.vehicle_laws.proofs.Status.{status, fit_before, fit_since}
 pub same_value : (a b : List ℕ) (row : Var) → KeepsParams b a → params_of a row ≡ params_of b row
 same_value a b row p = ap (λ (l : List ℕ). value_in_records (records_of l) row) p
 
-same_records : (a b : List ℕ) → KeepsParams b a → records_in_storage a ≡ records_in_storage b
+pub same_records : (a b : List ℕ) → KeepsParams b a → records_in_storage a ≡ records_in_storage b
 same_records a b p = ap (λ (l : List ℕ). records_of l) p
 
 same_place : (a b : List ℕ) (key element : ℕ) (kind : Kind) → KeepsParams b a → place_from 4 key element kind (records_in_storage a) ≡ place_from 4 key element kind (records_in_storage b)
@@ -116,7 +116,7 @@ keeps_none bytes = prefix_nil (KeepsParams bytes) bytes refl
 mission_not_param : area.Mission ≢ area.Param
 mission_not_param e = cc
 
-piece_keeps : (at : ℕ) (new bytes : List ℕ) → length bytes ≡ STORAGE_BYTES → at + length new ≤ size_of_area area.Mission → EachPrefix (KeepsParams bytes) bytes (writes_of_piece area.Mission at new bytes)
+pub piece_keeps : (at : ℕ) (new bytes : List ℕ) → length bytes ≡ STORAGE_BYTES → at + length new ≤ size_of_area area.Mission → EachPrefix (KeepsParams bytes) bytes (writes_of_piece area.Mission at new bytes)
 piece_keeps at new bytes size fits j h = let steps = pieces_in_steps in steps.others area.Mission area.Param at new bytes j mission_not_param size fits h
 
 abbrev SetsTotal : ℕ → List ℕ → List LineWrite → Type 0

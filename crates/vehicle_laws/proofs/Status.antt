@@ -22,7 +22,7 @@ use Rattle.vehicle_core.specs.Acts.{Act, Said, Beat, Stream}
 use Rattle.vehicle_node.specs.Runs.{Run, did_in, act_done, all_acts, start}
 use Rattle.vehicle_laws.specs.Uploads.{run_over, says, Opens, OpensNone, GoesOn, IsUpload, given_from, commands_from, command_in}
 use Rattle.vehicle_laws.specs.Fitting.{ActFits, AllFit}
-use Rattle.vehicle_laws.specs.Laws.{IsPrefixOf, LawOfMissions, StaysInOneLine}
+use Rattle.vehicle_laws.specs.Laws.{IsPrefixOf, LawOfMissions}
 use Rattle.mission_records.proofs.Totals.{all_writes}
 use Rattle.vehicle_node.proofs.RunLaws.{all_acts-append}
 use Rattle.vehicle_laws.proofs.Keeping.{formatted_then}
@@ -215,6 +215,3 @@ law_of_missions b before since opening station count k f up one from upto =
     let end : all_acts b (act_done b r opening) since ≡ e = ap (λ (x : Run). all_acts b x since) (sym (run_snoc b before opening)) ∙ run_since b (before ++ opening ∷ since) before since opening refl in
     let held : Held b r e (commands_from station 0 since) = subst (λ (x : Run). Held b r x (commands_from station 0 since)) end (goes_on b r (act_done b r opening) station count [] since first g back.1) in
     held.each one k from upto
-
-pub stays_in_one_line : StaysInOneLine
-stays_in_one_line b acts f fit one = (status b acts f fit).one_line one

@@ -1,5 +1,5 @@
 -- The laws over runs: of missions, of uploads, of fences, and of what the start leaves.
-use Rattle.std.specs.Prelude.{◌≡◌, ◌≢◌, ◌⊎◌, ◌≤◌, ℕ, List, [], ◌∷◌, ◌++◌, length, take, Some, slice_get}
+use Rattle.std.specs.Prelude.{◌≡◌, ◌≢◌, ◌⊎◌, ◌≤◌, ◌<◌, ℕ, List, [], ◌∷◌, ◌++◌, length, take, Some, slice_get}
 use Rattle.std.specs.List.{flat_map}
 use Rattle.flash_traits.specs.Losses.{Received}
 use Rattle.storage_lines.specs.declared.lines.TheConstants.{STORAGE_BYTES}
@@ -13,7 +13,7 @@ use Rattle.param_records.specs.Values.{params_of, value_of_number}
 use Rattle.param_records.specs.Steps.{HasMagic}
 use Rattle.mission_commands.specs.declared.commands.Command.{Command}
 use Rattle.mission_records.specs.Mission.{mission_of}
-use Rattle.mission_records.specs.Steps.{IsFormatted, IsTotalInOneLine}
+use Rattle.mission_records.specs.Steps.{IsFormatted, IsTotalInOneLine, StaysFormatted}
 use Rattle.fence_records.specs.declared.items.FenceItem.{FenceItem}
 use Rattle.fence_records.specs.Lists.{fence_of}
 use Rattle.mission_service.specs.declared.requests.MissionType.{MissionType}
@@ -21,7 +21,7 @@ use Rattle.mission_service.specs.declared.requests.MissionType.TheVariants.{Miss
 use Rattle.mission_service.specs.Uploads.{Upload}
 use Rattle.vehicle_core.specs.Acts.{Act}
 use Rattle.vehicle_node.specs.Reading.{Reads, no_rests}
-use Rattle.vehicle_node.specs.Runs.{Run, did_in, act_done, start, run_of}
+use Rattle.vehicle_node.specs.Runs.{Run, did_in, act_done, boot, start, run_of}
 use Rattle.vehicle_laws.specs.Fitting.{AllFit}
 use Rattle.vehicle_laws.specs.Rows.{SetsOnly, row_of_act, AllLeave, IsSetting}
 use Rattle.vehicle_laws.specs.Uploads.{run_over, IsUpload, Ends, commands_from, fence_items_from}
@@ -102,7 +102,8 @@ LawOfFenceUploads = (b : List ℕ) (acts : List Act) (last : Act) (u : Upload)
 
 -- the fence is this one, none, or the other
 abbrev pub IsFenceOneOf : List FenceItem → List FenceItem → List ℕ → Type 0
-IsFenceOneOf old new bytes = (fence_of bytes ≡ old) ⊎ ((fence_of bytes ≡ []) ⊎ (fence_of bytes ≡ new))
+IsFenceOneOf old new bytes =
+    (fence_of bytes ≡ old) ⊎ ((fence_of bytes ≡ []) ⊎ (fence_of bytes ≡ new))
 
 -- After each prefix of the lines of an act the fence is the one from before it, none, or the one
 -- after it.
@@ -117,7 +118,7 @@ LawOfFences = (b : List ℕ) (acts : List Act) (act : Act)
 abbrev pub LawOfRecords : Type 0
 LawOfRecords = (b : List ℕ) (acts : List Act) (act : Act)
     → StartsFormatted b → AllFit (acts ++ act ∷ [])
-    → SetsOnly (row_of_act act) (current b (run_over b acts)) (did_in b (run_over b acts) act).writes
+    → let r = run_over b acts in SetsOnly (row_of_act act) (current b r) (did_in b r act).writes
 
 -- After each number of issued lines a row reads as after the last act that may have set it; and
 -- where that was a PARAM_SET that set it, with the number that was sent.
@@ -134,14 +135,39 @@ pub record LawOfLastValues : Type 0 where
       → params_of (current b (run_over b (before ++ act ∷ []))) row
       ≡ value_of_number row.kind number
 
--- Boot leaves formatted bytes, and where it formats them itself, MIS_TOTAL lies in one line.
+-- Boot leaves formatted bytes, and where it formats them itself, MIS_TOTAL lies in one line. After
+-- fewer of its lines than all the next start formats them again.
 pub record BootFormats : Type 0 where
   pub formatted : (b : List ℕ) → length b ≡ STORAGE_BYTES → IsBytes (logical_of Param b)
       → StartsFormatted b
   pub in_one_line : (b : List ℕ) → length b ≡ STORAGE_BYTES → ¬ HasMagic b
       → IsTotalInOneLine (current b (start b))
+  pub unformatted : (b : List ℕ) (j : ℕ) → length b ≡ STORAGE_BYTES → j < length (boot b)
+      → ¬ HasMagic (after b (take j (boot b)))
+  pub bytes : (b : List ℕ) → length b ≡ STORAGE_BYTES → IsBytes (logical_of Param b)
+      → EachPrefix (λ now. IsBytes (logical_of Param now)) b (boot b)
 
--- Where MIS_TOTAL lies in one line at the start, it does after any acts.
+-- After each number of lines from the start on the bytes are formatted, and MIS_TOTAL lies in one
+-- line if it did at the start.
 abbrev pub StaysInOneLine : Type 0
-StaysInOneLine = (b : List ℕ) (acts : List Act) → StartsFormatted b → AllFit acts
-    → IsTotalInOneLine (current b (start b)) → IsTotalInOneLine (current b (run_over b acts))
+StaysInOneLine = (b : List ℕ) (acts : List Act) (k : ℕ) → StartsFormatted b → AllFit acts
+    → length (boot b) ≤ k
+    → StaysFormatted (current b (start b)) (after b (take k (run_over b acts).issued))
+
+-- The first k lines of a run end within those of one act: they are the lines of the acts before it
+-- and a prefix of its own.
+pub record EndsWithin (b : List ℕ) (acts : List Act) (k : ℕ) : Type 0 where
+  pub before : List Act
+  pub act : Act
+  pub since : List Act
+  pub split : acts ≡ before ++ act ∷ since
+  pub own : ℕ
+  pub few : own ≤ length (did_in b (run_over b before) act).writes
+  pub lines : take k (run_over b acts).issued
+      ≡ (run_over b before).issued ++ take own (did_in b (run_over b before) act).writes
+
+-- What holds after each prefix of the lines of every act holds after any number of the lines of a
+-- run: each ends within the lines of one act, or is that of all.
+abbrev pub LinesByActs : Type 0
+LinesByActs = (b : List ℕ) (acts : List Act) (k : ℕ)
+    → length (boot b) ≤ k → k < length (run_over b acts).issued → EndsWithin b acts k

@@ -1,4 +1,5 @@
--- Uploads in a run: where one opens, how long it goes on, where it ends, and what its station gives.
+-- Uploads in a run: where one opens, how long it goes on, where it ends, and what its station
+-- gives.
 use Rattle.std.specs.Prelude.{◌≡◌, ℕ, ◌+◌, Bool, ◌==◌, if◌then◌else◌, List, [], ◌∷◌, ◌++◌, Option, Some, None, Result, Ok, Err}
 use Rattle.std.specs.Option.{option_map_or}
 use Rattle.mission_commands.specs.declared.commands.Command.{Command}

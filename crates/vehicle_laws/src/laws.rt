@@ -1,6 +1,6 @@
 //! The laws, on functions that do nothing.
 
-ghost use Rattle.vehicle_laws.specs.Laws.{RunsByActs, ReadActsFit, LawOfMissions, LawOfUploads, LawOfFenceUploads, LawOfFences, LawOfRecords, LawOfLastValues, BootFormats, StaysInOneLine};
+ghost use Rattle.vehicle_laws.specs.Laws.{RunsByActs, ReadActsFit, LawOfMissions, LawOfUploads, LawOfFenceUploads, LawOfFences, LawOfRecords, LawOfLastValues, LinesByActs, BootFormats, StaysInOneLine};
 
 /// What events do is what their acts do, one after another.
 pub fn runs_by_acts()
@@ -47,12 +47,19 @@ pub fn law_of_last_values()
     ensures { LawOfLastValues }
 {}
 
+/// Each number of the lines of a run ends within the lines of one act, so that what is said of each
+/// prefix of an act's lines is said of each prefix of a run's.
+pub fn lines_by_acts()
+    ensures { LinesByActs }
+{}
+
 /// Boot leaves formatted bytes.
 pub fn boot_formats()
     ensures { BootFormats }
 {}
 
-/// MIS_TOTAL stays in one line.
+/// After each number of lines from the start on the bytes are formatted, and MIS_TOTAL stays in one
+/// line.
 pub fn stays_in_one_line()
     ensures { StaysInOneLine }
 {}

@@ -6,5 +6,5 @@ mod laws;
 
 pub use laws::{
     boot_formats, law_of_fence_uploads, law_of_fences, law_of_last_values, law_of_missions,
-    law_of_records, law_of_uploads, read_acts_fit, runs_by_acts, stays_in_one_line,
+    law_of_records, law_of_uploads, lines_by_acts, read_acts_fit, runs_by_acts, stays_in_one_line,
 };
