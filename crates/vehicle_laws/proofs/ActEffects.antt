@@ -1,41 +1,41 @@
 -- What an act does to the mission and its uploads.
-use Rattle.std.proofs.Common.{◌≡◌, ◌≢◌, ◌⊎◌, inl, inr, ℕ, ◌+◌, ◌-◌, ◌<◌, ◌≤◌, Bool, true, false, cond, not, List, [], ◌∷◌, ◌++◌, length, take, refl, sym, ◌∙◌, ap, subst, arith, Option, Some, None}
-use Rattle.std.specs.Prelude.{nat_lt, nat_le, ◌==◌, ◌||◌, map, IfSome, slice_get}
+use Rattle.std.proofs.Common.{◌≡◌, inl, inr, ℕ, ◌+◌, ◌<◌, ◌≤◌, Bool, true, false, cond, not, List, [], ◌∷◌, refl, sym, ◌∙◌, ap, subst, Option, Some, None}
+use Rattle.std.specs.Prelude.{nat_le, ◌==◌, ◌||◌, map, IfSome, slice_get}
 use Rattle.std.specs.Option.{option_map_or}
-use Rattle.std.proofs.lemmas.Bool.{cases_Bool, cond_both, or_left, or_right}
+use Rattle.std.proofs.lemmas.Bool.{cond_both, or_left, or_right}
 use Rattle.param_tree.specs.declared.Var.{Var}
 use Rattle.param_tree.specs.Rows.{vehicle_rows}
 use Rattle.storage_lines.specs.declared.lines.LineWrite.{LineWrite}
 use Rattle.storage_lines.specs.Lines.{after}
 use Rattle.storage_lines.specs.Pieces.{writes_of}
-use Rattle.param_records.specs.Changes.{IsFull, set_pieces, is_full}
+use Rattle.param_records.specs.Changes.{set_pieces, is_full}
 use Rattle.param_records.specs.Steps.{records_in_storage, IsKept}
 use Rattle.param_service.specs.Requests as parameters
 use Rattle.param_service.specs.Requests.{Show, ShowAll, Set}
 use Rattle.param_service.specs.Service as parameter_service
 use Rattle.param_service.specs.Service.{is_total, writes_for, set_writes, streamed}
 use Rattle.mission_commands.specs.declared.commands.Command.{Command}
-use Rattle.mission_records.specs.declared.reading.TheConstants.{CAPACITY, TOTAL_INDEX}
+use Rattle.mission_records.specs.declared.reading.TheConstants.{CAPACITY}
 use Rattle.mission_records.specs.Mission.{total_row, begin_writes}
 use Rattle.mission_records.specs.Steps.{IsFormatted, Keeps}
 use Rattle.mission_records.proofs.Totals.{total_there, sets_no_mission}
 use Rattle.mission_service.specs.declared.requests.MissionType.{MissionType}
-use Rattle.mission_service.specs.declared.requests.MissionType.TheVariants.{Mission, Fence}
+use Rattle.mission_service.specs.declared.requests.MissionType.TheVariants.{Mission}
 use Rattle.mission_service.specs.declared.uploads.Target.{Target}
-use Rattle.mission_service.specs.Uploads.{Upload, Uploads, Quiet, Open, Finished, Missions as MissionUploads}
+use Rattle.mission_service.specs.Uploads.{Upload, Uploads, Quiet, Open, Finished}
 use Rattle.mission_service.specs.Requests as missions
 use Rattle.mission_service.specs.Requests.{Begin, Asking, operation_cancelled}
 use Rattle.mission_service.specs.Service as service
 use Rattle.mission_service.specs.Service.{Told, idled, idle, idle_turns, answered}
 use Rattle.mission_service.specs.declared.replies.Content.TheVariants.{Next, Answer}
-use Rattle.vehicle_core.specs.Vehicle.{Vehicle, Asked, Parameters, Missions, Content, Parameter, Alive, OfMissions, Told as VehicleTold, is_heard, hears, tells_of_missions}
+use Rattle.vehicle_core.specs.Vehicle.{Vehicle, Asked, Parameters, Missions, Content, Parameter, Alive, OfMissions, Told as VehicleTold, is_heard, tells_of_missions}
 use Rattle.vehicle_core.specs.Acts.{Act, Said, Beat, Stream, Did, did, heard_as, nothing, by_parameters, beaten}
 use Rattle.vehicle_node.specs.Frames.{Machine, Delivery, deliveries, counted, counted_all}
 use Rattle.vehicle_node.specs.Runs.{Run, did_in, take_act, act_done}
 use Rattle.vehicle_laws.specs.Uploads.{uploads_at, says, Opens, OpensNone, command_in, said_in}
 use Rattle.vehicle_laws.specs.Fitting.{SettingFits, AskedFits, ActFits}
 use Rattle.vehicle_laws.proofs.Keeping.{keeps_none, keeps_empties}
-use Rattle.vehicle_laws.proofs.Effects.{Begun, NotBegun, is_next, first_next, Off, Stays, Put, Effect, cond_none, unchanged, effect}
+use Rattle.vehicle_laws.proofs.Effects.{Begun, NotBegun, is_next, first_next, Effect, cond_none, unchanged, effect}
 
 -- a row that is set keeps the mission
 row_keeps : (bytes : List ℕ) (index number : ℕ) (row : Var) → IsFormatted bytes → slice_get vehicle_rows index ≡ Some row → IsKept row.kind number → Keeps bytes (writes_for bytes row number)

@@ -1,54 +1,35 @@
 -- Which lines an act issues: what holds of each kind of them holds of those of any act.
-use Rattle.std.proofs.Common.{◌≡◌, ◌≢◌, ◌⊎◌, inl, inr, ℕ, ◌+◌, ◌-◌, ◌*◌, ◌<◌, ◌≤◌, Bool, true, false, cond, not, List, [], ◌∷◌, ◌++◌, length, take, drop, refl, sym, ◌∙◌, ap, subst, arith, Option, Some, None, append-nil}
-use Rattle.std.specs.Prelude.{IsTrue, Result, Ok, Err, nat_lt, ◌==◌, ◌&&◌, ◌||◌, IfSome, slice_get}
+use Rattle.std.proofs.Common.{◌≡◌, ℕ, ◌+◌, true, false, cond, not, List, [], ◌∷◌, ◌++◌, refl, sym, ◌∙◌, subst, Option, Some, None}
+use Rattle.std.specs.Prelude.{IsTrue, Result, Ok, Err, nat_lt, ◌==◌, ◌||◌, IfSome, slice_get}
 use Rattle.std.specs.Option.{option_map_or}
-use Rattle.std.proofs.lemmas.List.{take_all}
-use Rattle.std.proofs.lemmas.Bool.{cases_Bool, cases_lt, cond_both, or_left, or_right}
+use Rattle.std.proofs.lemmas.Bool.{cond_both, or_left, or_right}
 use Rattle.param_tree.specs.declared.Var.{Var}
 use Rattle.param_tree.specs.Rows.{vehicle_rows}
 use Rattle.storage_lines.specs.declared.lines.LineWrite.{LineWrite}
-use Rattle.storage_lines.specs.declared.lines.TheConstants.{STORAGE_BYTES}
-use Rattle.storage_lines.specs.declared.areas.Area.TheVariants as area
-use Rattle.storage_lines.specs.Areas.{logical_of, size_of_area}
-use Rattle.storage_lines.specs.Bytes.{IsBytes}
-use Rattle.storage_lines.specs.Lines.{after, EachPrefix}
-use Rattle.storage_lines.specs.Pieces.{writes_of, writes_of_piece}
+use Rattle.storage_lines.specs.Pieces.{writes_of}
 use Rattle.param_records.specs.Changes.{IsFull, set_pieces, is_full}
 use Rattle.param_records.specs.Steps.{records_in_storage, IsKept}
-use Rattle.param_service.specs.Requests as parameters
 use Rattle.param_service.specs.Requests.{Show, ShowAll, Set}
-use Rattle.param_service.specs.Service as parameter_service
 use Rattle.param_service.specs.Service.{is_total, writes_for, set_writes, streamed}
 use Rattle.mission_commands.specs.declared.commands.Command.{Command}
-use Rattle.mission_records.specs.declared.reading.TheConstants.{CAPACITY, TOTAL_INDEX}
-use Rattle.mission_records.specs.Mission.{total_row, version, place_of_command, command_bytes, total_writes, version_writes, command_writes, begin_writes, put_writes}
-use Rattle.mission_records.specs.Steps.{IsFormatted, StaysFormatted}
+use Rattle.mission_records.specs.Mission.{total_row, begin_writes, put_writes}
 use Rattle.mission_commands.specs.Storable.{IsStorable}
 use Rattle.fence_records.specs.declared.items.FenceItem.{FenceItem}
-use Rattle.fence_records.specs.Write.{fence_area}
-use Rattle.fence_records.specs.Fence.{items_of, version as version_of_fence}
-use Rattle.std.specs.Str.{bytes_eq}
-use Rattle.std.specs.List.{flat_map}
-use Rattle.param_records.specs.Records.{Record, records_of}
 use Rattle.fence_records.specs.Lists as fences
 use Rattle.fence_records.specs.Lists.{fence_of, FencesInSteps}
 use Rattle.mission_service.specs.declared.requests.MissionType.{MissionType}
 use Rattle.mission_service.specs.declared.requests.MissionType.TheVariants.{Mission, Fence}
-use Rattle.mission_service.specs.declared.uploads.Target.{Target}
 use Rattle.mission_service.specs.Uploads.{Upload, Uploads, Quiet, Open, Finished, Missions, with_uploads, uploads_of}
-use Rattle.mission_service.specs.Requests.{Given, ForMission, ForFence, Request, Begin, Give, Clear, Count, Show as ShowItem, Cancel, Unsupported, Asking}
+use Rattle.mission_service.specs.Requests.{Given, ForMission, ForFence, Request, Begin, Give, Clear, Count, Show as ShowItem, Cancel, Unsupported}
 use Rattle.mission_service.specs.Service as service
-use Rattle.mission_service.specs.declared.replies.Content.{Content}
 use Rattle.mission_service.specs.declared.replies.Content.TheVariants.{Answer, Next}
 use Rattle.mission_service.specs.Service.{accepted, denied, no_space, invalid_sequence, From, Taken, exceeds, only, does, is_anothers, opened, clear_writes, any_anothers, all_quiet, cleared, begun, is_last, if_allowed, command_lines, taken, took, given_to, answered}
 use Rattle.vehicle_core.specs.Vehicle.{Vehicle, Asked, Parameters, Missions as AskedMissions, is_heard, hears}
-use Rattle.vehicle_core.specs.Acts.{Act, Said, Beat, Stream, Did, did, heard_as, nothing, by_parameters, asked_of, beaten}
-use Rattle.vehicle_node.specs.Runs.{Run, did_in, act_done, start}
-use Rattle.vehicle_laws.specs.Uploads.{run_over}
+use Rattle.vehicle_core.specs.Acts.{Act, Said, Beat, Stream, Did, did, nothing, by_parameters, asked_of, beaten}
 use Rattle.mission_service.specs.Asked.{RequestFits}
 use Rattle.vehicle_laws.specs.Rows.{total_to_set, row_asked, row_of_act}
-use Rattle.vehicle_laws.specs.Fitting.{SettingFits, ClearsOneOrAll, AskedFits, ActFits, AllFit}
-use Rattle.vehicle_laws.proofs.ActEffects.{missions_at, from_station}
+use Rattle.vehicle_laws.specs.Fitting.{SettingFits, ClearsOneOrAll, AskedFits, ActFits}
+use Rattle.vehicle_laws.proofs.ActEffects.{from_station}
 
 -- It holds of no lines, and of those that a request to the mission protocol may write.
 pub record OfMissions (P : Request → List LineWrite → Type 0) (bytes : List ℕ) (m : Missions) : Type 0 where

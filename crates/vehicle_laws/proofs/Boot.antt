@@ -1,5 +1,5 @@
 -- What boot leaves.
-use Rattle.std.proofs.Common.{◌≡◌, inl, inr, ℕ, zero, suc, ◌+◌, ◌<◌, ◌≤◌, Bool, true, false, cond, List, [], ◌∷◌, ◌++◌, length, take, refl, sym, ◌∙◌, ap, subst, arith, append-nil}
+use Rattle.std.proofs.Common.{◌≡◌, inl, inr, ℕ, zero, suc, ◌<◌, Bool, true, false, cond, List, [], ◌∷◌, ◌++◌, length, take, refl, sym, ◌∙◌, ap, subst, arith, append-nil}
 use Rattle.std.specs.Prelude.{nat_lt, ◌&&◌, All}
 use Rattle.std.specs.Str.{bytes_eq}
 use Rattle.std.proofs.lemmas.Bool.{cases_Bool, and_parts, ltb-true}
@@ -12,7 +12,7 @@ use Rattle.storage_lines.specs.Bytes.{IsBytes}
 use Rattle.storage_lines.specs.Lines.{after, EachPrefix}
 use Rattle.storage_lines.specs.Pieces.{Piece, writes_of}
 use Rattle.storage_lines.proofs.LineLemmas.{length-after}
-use Rattle.param_records.specs.Records.{Record, magic, HasRecords}
+use Rattle.param_records.specs.Records.{magic}
 use Rattle.param_records.specs.Changes.{piece, formatting, total_zero}
 use Rattle.param_records.specs.Steps.{HasMagic}
 use Rattle.std.proofs.lemmas.List.Elements.{All-nil, All-cons}

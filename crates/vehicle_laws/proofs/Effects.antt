@@ -1,33 +1,28 @@
 -- What a request to the mission protocol does to the mission and its uploads.
-use Rattle.std.proofs.Common.{◌≡◌, ◌≢◌, ◌⊎◌, inl, inr, ℕ, ◌+◌, ◌-◌, ◌<◌, ◌≤◌, Bool, true, false, cond, not, List, [], ◌∷◌, ◌++◌, length, take, refl, sym, ◌∙◌, ap, subst, arith, Option, Some, None}
+use Rattle.std.proofs.Common.{◌≡◌, ◌≢◌, ◌⊎◌, inl, inr, ℕ, ◌+◌, ◌<◌, ◌≤◌, Bool, true, false, cond, not, List, [], ◌∷◌, ◌++◌, refl, sym, ◌∙◌, ap, subst, arith, Option, Some, None}
 use Rattle.std.specs.Prelude.{Result, Ok, Err, nat_lt, ◌==◌, ◌&&◌}
-use Rattle.std.specs.Option.{is_none}
-use Rattle.std.proofs.lemmas.List.{append-nil}
-use Rattle.std.proofs.lemmas.Bool.{cases_Bool, cond_both, not-true, not-false, eqb-true, eqb-false, ne_eqb, lt-ltb, and_from, not_from_false}
+use Rattle.std.proofs.lemmas.Bool.{cond_both, not-true, not-false, eqb-true, eqb-false, ne_eqb}
 use Rattle.std.proofs.lemmas.Bool.Decides.{nat_tests}
 use Rattle.storage_lines.specs.declared.lines.LineWrite.{LineWrite}
 use Rattle.storage_lines.specs.Lines.{after}
-use Rattle.param_tree.specs.declared.Var.{Var}
-use Rattle.param_records.specs.Records.{Record}
 use Rattle.param_records.specs.Changes.{IsFull, is_full}
 use Rattle.param_records.specs.Steps.{records_in_storage}
 use Rattle.mission_commands.specs.declared.commands.Command.{Command}
 use Rattle.mission_records.specs.declared.reading.TheConstants.{CAPACITY}
 use Rattle.mission_records.specs.Mission.{total_row, total_writes, begin_writes, put_writes}
-use Rattle.mission_records.specs.Steps.{IsFormatted, StaysFormatted, Keeps}
+use Rattle.mission_records.specs.Steps.{IsFormatted, Keeps}
 use Rattle.mission_commands.specs.Storable.{IsStorable}
 use Rattle.mission_records.proofs.Totals.{clears}
 use Rattle.fence_records.specs.declared.items.FenceItem.{FenceItem}
 use Rattle.fence_records.specs.Lists as fences
 use Rattle.mission_service.specs.declared.requests.MissionType.{MissionType}
 use Rattle.mission_service.specs.declared.requests.MissionType.TheVariants.{Mission, Fence}
-use Rattle.mission_service.specs.declared.uploads.Target.{Target}
-use Rattle.mission_service.specs.Uploads.{Upload, Uploads, Quiet, Open, Finished, Missions, uploads_of, with_uploads}
-use Rattle.mission_service.specs.Requests.{Given, ForMission, ForFence, Request, Begin, Give, Clear, Count, Show, Cancel, Unsupported, type_of_given}
+use Rattle.mission_service.specs.Uploads.{Upload, Uploads, Quiet, Open, Finished, Missions, with_uploads}
+use Rattle.mission_service.specs.Requests.{Given, ForMission, ForFence, Request, Begin, Give, Clear, Count, Show, Cancel, Unsupported}
 use Rattle.mission_service.specs.Service as service
 use Rattle.mission_service.specs.declared.replies.Content.{Content}
 use Rattle.mission_service.specs.declared.replies.Content.TheVariants.{Answer, Next, Total, MissionItem, FencePart}
-use Rattle.mission_service.specs.Service.{From, Taken, Told, exceeds, tells, only, does, is_anothers, opened, most_of, first_writes, type_writes, clear_writes, any_anothers, all_quiet, cleared, begun, is_last, if_allowed, command_lines, taken, after_item, told_after, took, given_to, total, shown, cancelled, answered}
+use Rattle.mission_service.specs.Service.{From, Taken, Told, exceeds, tells, only, does, is_anothers, opened, most_of, first_writes, type_writes, clear_writes, any_anothers, all_quiet, cleared, begun, is_last, if_allowed, command_lines, taken, after_item, told_after, took, given_to, total, shown, cancelled, answered, accepted, denied, error, fence_capacity, invalid_sequence, no_space, unsupported}
 use Rattle.vehicle_laws.specs.Uploads.{command_in}
 use Rattle.mission_service.specs.Asked.{RequestFits}
 use Rattle.vehicle_laws.proofs.Keeping.{Empties, keeps_none, keeps_empties, clears_empties, empties_then, keeps_then, formatted_then}
@@ -158,11 +153,11 @@ effect_of_clearing bytes allowed before fence from request types f n =
     let m = both before fence in
     let ws = clear_writes bytes types in
     let P : service.Did → Type 0 = E bytes before from request in
-    let done = does from (all_quiet m types) ws (Answer 0) in
-    cond_both (any_anothers from.station m types) (only from m (Answer 14)) (cond (exceeds allowed ws) (only from m (Answer 4)) done) P
-    (λ t. refused bytes before fence from request (Answer 14) f n refl)
-    (λ t. cond_both (exceeds allowed ws) (only from m (Answer 4)) done P
-    (λ t. refused bytes before fence from request (Answer 4) f n refl)
+    let done = does from (all_quiet m types) ws (Answer accepted) in
+    cond_both (any_anothers from.station m types) (only from m (Answer denied)) (cond (exceeds allowed ws) (only from m (Answer no_space)) done) P
+    (λ t. refused bytes before fence from request (Answer denied) f n refl)
+    (λ t. cond_both (exceeds allowed ws) (only from m (Answer no_space)) done P
+    (λ t. refused bytes before fence from request (Answer no_space) f n refl)
     (λ t. elim (clears_types types bytes m f) [
       | inl k ↦ unchanged _ _ bytes before (given_by from.station request) ws (all_quiet m types).mission k.1 k.0 (none_given from.station request n) (not_begun from request done.told refl)
       | inr e ↦ let gone = e.1 in inr (not_begun from request done.told refl, inl (record { empties = e.0; closed = λ u h. cc }))
@@ -175,17 +170,17 @@ effect_of_count bytes allowed before fence from count f =
     let n : GivesNone request = λ seq. refl in
     let P : service.Did → Type 0 = E bytes before from request in
     let d4 = does from (with_uploads Mission m (opened from count)) (begin_writes bytes) (Next 0) in
-    let d3 = cond (exceeds allowed (begin_writes bytes)) (only from m (Answer 4)) d4 in
+    let d3 = cond (exceeds allowed (begin_writes bytes)) (only from m (Answer no_space)) d4 in
     let d2 = cond (count == 0) (cleared bytes allowed m from (Mission ∷ [])) d3 in
-    let d1 = cond (nat_lt CAPACITY count) (only from m (Answer 4)) d2 in
-    cond_both (is_anothers from.station before) (only from m (Answer 14)) d1 P
-    (λ t. refused bytes before fence from request (Answer 14) f n refl)
-    (λ t. cond_both (nat_lt CAPACITY count) (only from m (Answer 4)) d2 P
-    (λ t. refused bytes before fence from request (Answer 4) f n refl)
+    let d1 = cond (nat_lt CAPACITY count) (only from m (Answer no_space)) d2 in
+    cond_both (is_anothers from.station before) (only from m (Answer denied)) d1 P
+    (λ t. refused bytes before fence from request (Answer denied) f n refl)
+    (λ t. cond_both (nat_lt CAPACITY count) (only from m (Answer no_space)) d2 P
+    (λ t. refused bytes before fence from request (Answer no_space) f n refl)
     (λ few. cond_both (count == 0) (cleared bytes allowed m from (Mission ∷ [])) d3 P
     (λ t. effect_of_clearing bytes allowed before fence from request (Mission ∷ []) f n)
-    (λ some. cond_both (exceeds allowed (begin_writes bytes)) (only from m (Answer 4)) d4 P
-    (λ t. refused bytes before fence from request (Answer 4) f n refl)
+    (λ some. cond_both (exceeds allowed (begin_writes bytes)) (only from m (Answer no_space)) d4 P
+    (λ t. refused bytes before fence from request (Answer no_space) f n refl)
     (λ t. let other = eqb-false count 0 some in inl (record { count = count; asked = refl; told_is = refl; writes_are = refl; now_is = refl; some = omega arith; few = grind (arith, nat_tests) })))))
 
 effect_of_fence_count : (bytes : List ℕ) (allowed : Option ℕ) (before fence : Uploads) (from : From) (count : ℕ) → IsFormatted bytes → E bytes before from (Begin Fence count) (begun bytes allowed (both before fence) from Fence count)
@@ -196,17 +191,17 @@ effect_of_fence_count bytes allowed before fence from count f =
     let P : service.Did → Type 0 = E bytes before from request in
     let none : List LineWrite = [] in
     let d4 = does from (with_uploads Fence m (opened from count)) none (Next 0) in
-    let d3 = cond (exceeds allowed none) (only from m (Answer 4)) d4 in
+    let d3 = cond (exceeds allowed none) (only from m (Answer no_space)) d4 in
     let d2 = cond (count == 0) (cleared bytes allowed m from (Fence ∷ [])) d3 in
-    let d1 = cond (nat_lt 51 count) (only from m (Answer 4)) d2 in
-    cond_both (is_anothers from.station fence) (only from m (Answer 14)) d1 P
-    (λ t. refused bytes before fence from request (Answer 14) f n refl)
-    (λ t. cond_both (nat_lt 51 count) (only from m (Answer 4)) d2 P
-    (λ t. refused bytes before fence from request (Answer 4) f n refl)
+    let d1 = cond (nat_lt fence_capacity count) (only from m (Answer no_space)) d2 in
+    cond_both (is_anothers from.station fence) (only from m (Answer denied)) d1 P
+    (λ t. refused bytes before fence from request (Answer denied) f n refl)
+    (λ t. cond_both (nat_lt fence_capacity count) (only from m (Answer no_space)) d2 P
+    (λ t. refused bytes before fence from request (Answer no_space) f n refl)
     (λ few. cond_both (count == 0) (cleared bytes allowed m from (Fence ∷ [])) d3 P
     (λ t. effect_of_clearing bytes allowed before fence from request (Fence ∷ []) f n)
-    (λ some. cond_both (exceeds allowed none) (only from m (Answer 4)) d4 P
-    (λ t. refused bytes before fence from request (Answer 4) f n refl)
+    (λ some. cond_both (exceeds allowed none) (only from m (Answer no_space)) d4 P
+    (λ t. refused bytes before fence from request (Answer no_space) f n refl)
     (λ t. unchanged _ _ bytes before (given_by from.station request) [] before refl (keeps_none bytes f) (none_given from.station request n) (λ c e x. cc)))))
 
 -- no upload is open
@@ -253,12 +248,12 @@ item_taken bytes allowed u fence from seq (Ok c) f fits own next =
     let request = Give seq (ForMission (Ok c)) in
     let ws = put_writes bytes u.expected c in
     let full = is_full (records_in_storage bytes) total_row (u.expected + 1) in
-    let four : (n : ℕ) → E bytes (Open u) from request (only from (both Quiet fence) (Answer n)) = λ n. off bytes (Open u) from request (only from (both Quiet fence) (Answer n)) f refl quiet_closed (no_count from seq (ForMission (Ok c)) (tells from (Answer n))) in
+    let refuses : (n : ℕ) → E bytes (Open u) from request (only from (both Quiet fence) (Answer n)) = λ n. off bytes (Open u) from request (only from (both Quiet fence) (Answer n)) f refl quiet_closed (no_count from seq (ForMission (Ok c)) (tells from (Answer n))) in
     let took_it : service.Did = took m from Mission u (Ok (record { writes = ws; kept = [] })) in
-    cond_both full (Err 4) (Ok ws) (λ (r : Result (List LineWrite) ℕ). E bytes (Open u) from request (took m from Mission u (if_allowed allowed [] r)))
-    (λ t. four 4)
-    (λ room. cond_both (exceeds allowed ws) (Err 4) (Ok (record { writes = ws; kept = [] })) (λ (r : Result Taken ℕ). E bytes (Open u) from request (took m from Mission u r))
-    (λ t. four 4)
+    cond_both full (Err no_space) (Ok ws) (λ (r : Result (List LineWrite) ℕ). E bytes (Open u) from request (took m from Mission u (if_allowed allowed [] r)))
+    (λ t. refuses no_space)
+    (λ room. cond_both (exceeds allowed ws) (Err no_space) (Ok (record { writes = ws; kept = [] })) (λ (r : Result Taken ℕ). E bytes (Open u) from request (took m from Mission u r))
+    (λ t. refuses no_space)
     (λ t. inr (
       no_count from seq (ForMission (Ok c)) took_it.told,
       inr (
@@ -277,23 +272,23 @@ item_taken bytes allowed u fence from seq (Ok c) f fits own next =
 
 effect_of_item : (bytes : List ℕ) (allowed : Option ℕ) (before fence : Uploads) (from : From) (seq : ℕ) (stored : Result Command ℕ) → IsFormatted bytes → RequestFits (Give seq (ForMission stored))
     → E bytes before from (Give seq (ForMission stored)) (given_to bytes allowed (both before fence) from Mission seq (ForMission stored) before)
-effect_of_item bytes allowed Quiet fence from seq stored f fits = off bytes Quiet from (Give seq (ForMission stored)) (only from (both Quiet fence) (Answer 1)) f refl quiet_closed (no_count from seq (ForMission stored) (tells from (Answer 1)))
+effect_of_item bytes allowed Quiet fence from seq stored f fits = off bytes Quiet from (Give seq (ForMission stored)) (only from (both Quiet fence) (Answer error)) f refl quiet_closed (no_count from seq (ForMission stored) (tells from (Answer error)))
 effect_of_item bytes allowed (Finished s l) fence from seq stored f fits =
-    off bytes (Finished s l) from (Give seq (ForMission stored)) (only from (both (Finished s l) fence) (Answer (cond ((s == from.station) && (seq == l)) 0 1))) f refl (finished_closed s l) (no_count from seq (ForMission stored) (tells from (Answer (cond ((s == from.station) && (seq == l)) 0 1))))
+    off bytes (Finished s l) from (Give seq (ForMission stored)) (only from (both (Finished s l) fence) (Answer (cond ((s == from.station) && (seq == l)) accepted error))) f refl (finished_closed s l) (no_count from seq (ForMission stored) (tells from (Answer (cond ((s == from.station) && (seq == l)) accepted error))))
 effect_of_item bytes allowed (Open u) fence from seq stored f fits =
     let m = both (Open u) fence in
     let request = Give seq (ForMission stored) in
     let P : service.Did → Type 0 = E bytes (Open u) from request in
     let d3 = took m from Mission u (taken bytes allowed u (ForMission stored)) in
-    let d2 = cond (not (seq == u.expected)) (only from m (Answer 13)) d3 in
+    let d2 = cond (not (seq == u.expected)) (only from m (Answer invalid_sequence)) d3 in
     let d1 = cond (seq + 1 == u.expected) (only from m (Next u.expected)) d2 in
-    cond_both (not (u.owner == from.station)) (only from m (Answer 14)) d1 P
-    (λ t. same_upload bytes u fence from request (Answer 14) f (ap (λ (b : Bool). cond b (command_in u.expected request) None) (not-true (u.owner == from.station) t)) (no_count from seq (ForMission stored) (tells from (Answer 14))))
+    cond_both (not (u.owner == from.station)) (only from m (Answer denied)) d1 P
+    (λ t. same_upload bytes u fence from request (Answer denied) f (ap (λ (b : Bool). cond b (command_in u.expected request) None) (not-true (u.owner == from.station) t)) (no_count from seq (ForMission stored) (tells from (Answer denied))))
     (λ own. cond_both (seq + 1 == u.expected) (only from m (Next u.expected)) d2 P
     (λ t. let one = eqb-true (seq + 1) u.expected t in let differ : (seq == u.expected) ≡ false = ne_eqb seq u.expected (λ e. absurd (omega arith)) in
     same_upload bytes u fence from request (Next u.expected) f (ap (λ (o : Option Command). cond (u.owner == from.station) o None) (other_number u.expected seq stored differ) ∙ cond_none (u.owner == from.station)) (no_count from seq (ForMission stored) (tells from (Next u.expected))))
-    (λ t. cond_both (not (seq == u.expected)) (only from m (Answer 13)) d3 P
-    (λ t. same_upload bytes u fence from request (Answer 13) f (ap (λ (o : Option Command). cond (u.owner == from.station) o None) (other_number u.expected seq stored (not-true (seq == u.expected) t)) ∙ cond_none (u.owner == from.station)) (no_count from seq (ForMission stored) (tells from (Answer 13))))
+    (λ t. cond_both (not (seq == u.expected)) (only from m (Answer invalid_sequence)) d3 P
+    (λ t. same_upload bytes u fence from request (Answer invalid_sequence) f (ap (λ (o : Option Command). cond (u.owner == from.station) o None) (other_number u.expected seq stored (not-true (seq == u.expected) t)) ∙ cond_none (u.owner == from.station)) (no_count from seq (ForMission stored) (tells from (Answer invalid_sequence))))
     (λ t. item_taken bytes allowed u fence from seq stored f fits (not-false (u.owner == from.station) own) (not-false (seq == u.expected) t))))
 
 -- an item of a fence
@@ -301,8 +296,8 @@ fence_taken : (bytes : List ℕ) (allowed : Option ℕ) (before : Uploads) (w : 
     → E bytes before from request (took (both before (Open w)) from Fence w (if_allowed allowed kept r))
 fence_taken bytes allowed before w from request kept (Err e) f n keeps alone = refused bytes before Quiet from request (Answer e) f n refl
 fence_taken bytes allowed before w from request kept (Ok ws) f n keeps alone =
-    cond_both (exceeds allowed ws) (Err 4) (Ok (record { writes = ws; kept = kept })) (λ (r : Result Taken ℕ). E bytes before from request (took (both before (Open w)) from Fence w r))
-    (λ t. refused bytes before Quiet from request (Answer 4) f n refl)
+    cond_both (exceeds allowed ws) (Err no_space) (Ok (record { writes = ws; kept = kept })) (λ (r : Result Taken ℕ). E bytes before from request (took (both before (Open w)) from Fence w r))
+    (λ t. refused bytes before Quiet from request (Answer no_space) f n refl)
     (λ t. unchanged _ _ bytes before (given_by from.station request) ws before refl (keeps ws refl) (none_given from.station request n) (alone (told_after w)))
 
 fence_stored : (bytes : List ℕ) (allowed : Option ℕ) (before : Uploads) (w : Upload) (from : From) (seq : ℕ) (stored : Result FenceItem ℕ) → IsFormatted bytes
@@ -318,22 +313,22 @@ fence_stored bytes allowed before w from seq (Ok item) f =
 
 effect_of_fence_item : (bytes : List ℕ) (allowed : Option ℕ) (before fence : Uploads) (from : From) (seq : ℕ) (stored : Result FenceItem ℕ) → IsFormatted bytes
     → E bytes before from (Give seq (ForFence stored)) (given_to bytes allowed (both before fence) from Fence seq (ForFence stored) fence)
-effect_of_fence_item bytes allowed before Quiet from seq stored f = refused bytes before Quiet from (Give seq (ForFence stored)) (Answer 1) f (λ n. refl) refl
-effect_of_fence_item bytes allowed before (Finished s l) from seq stored f = refused bytes before (Finished s l) from (Give seq (ForFence stored)) (Answer (cond ((s == from.station) && (seq == l)) 0 1)) f (λ n. refl) refl
+effect_of_fence_item bytes allowed before Quiet from seq stored f = refused bytes before Quiet from (Give seq (ForFence stored)) (Answer error) f (λ n. refl) refl
+effect_of_fence_item bytes allowed before (Finished s l) from seq stored f = refused bytes before (Finished s l) from (Give seq (ForFence stored)) (Answer (cond ((s == from.station) && (seq == l)) accepted error)) f (λ n. refl) refl
 effect_of_fence_item bytes allowed before (Open w) from seq stored f =
     let m = both before (Open w) in
     let request = Give seq (ForFence stored) in
     let n : GivesNone request = λ k. refl in
     let P : service.Did → Type 0 = E bytes before from request in
     let d3 = took m from Fence w (taken bytes allowed w (ForFence stored)) in
-    let d2 = cond (not (seq == w.expected)) (only from m (Answer 13)) d3 in
+    let d2 = cond (not (seq == w.expected)) (only from m (Answer invalid_sequence)) d3 in
     let d1 = cond (seq + 1 == w.expected) (only from m (Next w.expected)) d2 in
-    cond_both (not (w.owner == from.station)) (only from m (Answer 14)) d1 P
-    (λ t. refused bytes before (Open w) from request (Answer 14) f n refl)
+    cond_both (not (w.owner == from.station)) (only from m (Answer denied)) d1 P
+    (λ t. refused bytes before (Open w) from request (Answer denied) f n refl)
     (λ t. cond_both (seq + 1 == w.expected) (only from m (Next w.expected)) d2 P
     (λ t. unchanged _ _ bytes before (given_by from.station request) [] before refl (keeps_none bytes f) (none_given from.station request n) (no_count from seq (ForFence stored) (tells from (Next w.expected))))
-    (λ t. cond_both (not (seq == w.expected)) (only from m (Answer 13)) d3 P
-    (λ t. refused bytes before (Open w) from request (Answer 13) f n refl)
+    (λ t. cond_both (not (seq == w.expected)) (only from m (Answer invalid_sequence)) d3 P
+    (λ t. refused bytes before (Open w) from request (Answer invalid_sequence) f n refl)
     (λ t. fence_stored bytes allowed before w from seq stored f)))
 
 effect_of_cancel : (bytes : List ℕ) (before fence : Uploads) (from : From) → IsFormatted bytes → E bytes before from (Cancel Mission) (record { missions = both (cancelled from.station before) fence; writes = []; told = [] })
@@ -355,4 +350,4 @@ effect bytes allowed before fence from (Count t) f fits = refused bytes before f
 effect bytes allowed before fence from (Show t seq) f fits = unchanged _ _ bytes before (given_by from.station (Show t seq)) [] before refl (keeps_none bytes f) (none_given from.station (Show t seq) (λ n. refl)) (λ c e x. cc)
 effect bytes allowed before fence from (Cancel Mission) f fits = effect_of_cancel bytes before fence from f
 effect bytes allowed before fence from (Cancel Fence) f fits = unchanged _ _ bytes before (given_by from.station (Cancel Fence)) [] before refl (keeps_none bytes f) (none_given from.station (Cancel Fence) (λ n. refl)) (λ c e x. cc)
-effect bytes allowed before fence from Unsupported f fits = refused bytes before fence from Unsupported (Answer 3) f (λ n. refl) refl
+effect bytes allowed before fence from Unsupported f fits = refused bytes before fence from Unsupported (Answer unsupported) f (λ n. refl) refl

@@ -1,39 +1,38 @@
 -- An upload that ends with the answer 0.
-use Rattle.std.proofs.Common.{◌≡◌, ◌≢◌, ◌⊎◌, inl, inr, ℕ, ◌+◌, ◌-◌, ◌<◌, ◌≤◌, Bool, true, false, cond, not, List, [], ◌∷◌, ◌++◌, length, take, refl, sym, ◌∙◌, ap, subst, arith, Option, Some, None, append_assoc, append-nil, length-append}
-use Rattle.std.specs.Prelude.{Result, Ok, Err, ◌==◌, ◌&&◌, map}
+use Rattle.std.proofs.Common.{◌≡◌, ℕ, ◌+◌, Bool, true, false, cond, not, List, [], ◌∷◌, ◌++◌, length, refl, sym, ◌∙◌, ap, subst, arith, Option, Some, None, append_assoc}
+use Rattle.std.specs.Prelude.{Result, Ok, Err, ◌==◌, map}
 use Rattle.std.specs.Option.{option_map_or}
 use Rattle.std.proofs.lemmas.List.{length_push}
-use Rattle.std.proofs.lemmas.Bool.{cases_Bool, cond_both, eqb-true, eq-eqb, ne_eqb, not-true, not-false}
+use Rattle.std.proofs.lemmas.Bool.{cond_both, eqb-true, eq-eqb, ne_eqb, not-false}
 use Rattle.storage_lines.specs.declared.lines.LineWrite.{LineWrite}
 use Rattle.storage_lines.specs.Lines.{after}
 use Rattle.storage_lines.proofs.LineLemmas.{after-append}
 use Rattle.param_records.specs.Changes.{IsFull, is_full}
 use Rattle.param_records.specs.Steps.{records_in_storage}
 use Rattle.mission_commands.specs.declared.commands.Command.{Command}
-use Rattle.mission_records.specs.declared.reading.TheConstants.{CAPACITY}
 use Rattle.mission_records.specs.Mission.{total_row, mission_of, put_writes}
-use Rattle.mission_records.specs.Steps.{IsFormatted, Puts}
+use Rattle.mission_records.specs.Steps.{Puts}
 use Rattle.mission_commands.specs.Storable.{IsStorable}
 use Rattle.mission_records.proofs.Puts.{puts}
 use Rattle.mission_service.specs.declared.requests.MissionType.{MissionType}
 use Rattle.mission_service.specs.declared.requests.MissionType.TheVariants.{Mission, Fence}
 use Rattle.mission_service.specs.declared.uploads.Target.{Target}
-use Rattle.mission_service.specs.Uploads.{Upload, Uploads, Quiet, Open, Finished, Missions as MissionUploads, with_uploads}
+use Rattle.mission_service.specs.Uploads.{Upload, Uploads, Quiet, Open, Finished, Missions as MissionUploads}
 use Rattle.mission_service.specs.Requests.{Given, ForMission, ForFence, Request, Give, type_of_given}
 use Rattle.mission_service.specs.Service as service
 use Rattle.mission_service.specs.declared.replies.Content.{Content}
 use Rattle.mission_service.specs.declared.replies.Content.TheVariants.{Answer, Next, Total, MissionItem, FencePart}
-use Rattle.mission_service.specs.Service.{Told, From, Taken as TakenItem, tells, only, exceeds, is_last, if_allowed, command_lines, taken, took, told_after, given_to}
-use Rattle.vehicle_core.specs.Vehicle.{Vehicle, Asked, Missions, hears, tells_of_missions, Content as VehicleContent, Parameter, Alive, OfMissions, Told as VehicleTold}
+use Rattle.mission_service.specs.Service.{Told, From, Taken as TakenItem, tells, only, exceeds, is_last, if_allowed, command_lines, taken, took, told_after, given_to, accepted, denied, invalid_sequence, no_space}
+use Rattle.vehicle_core.specs.Vehicle.{Asked, Missions, tells_of_missions, Content as VehicleContent, Parameter, Alive, OfMissions, Told as VehicleTold}
 use Rattle.vehicle_core.specs.Acts.{Act, Said, did}
-use Rattle.vehicle_node.specs.Runs.{Run, did_in, act_done, all_acts, start}
-use Rattle.vehicle_laws.specs.Uploads.{run_over, says, Opens, OpensNone, GoesOn, IsUpload, Ends, commands_from, command_in}
+use Rattle.vehicle_node.specs.Runs.{Run, did_in}
+use Rattle.vehicle_laws.specs.Uploads.{run_over, says, Opens, OpensNone, GoesOn, commands_from, command_in}
 use Rattle.mission_service.specs.Asked.{RequestFits, GivenFits}
 use Rattle.vehicle_laws.specs.Fitting.{ActFits, AllFit}
-use Rattle.vehicle_laws.specs.Laws.{Stores, LawOfUploads}
+use Rattle.vehicle_laws.specs.Laws.{LawOfUploads}
 use Rattle.vehicle_laws.proofs.ActEffects.{missions_at, command_given}
 use Rattle.vehicle_laws.proofs.Held.{more_from}
-use Rattle.vehicle_laws.proofs.Status.{OpenSince, status, the_open, goes_snoc, run_since, run_snoc, from_snoc, fit_before, fit_since}
+use Rattle.vehicle_laws.proofs.Status.{status, the_open, goes_snoc, run_since, run_snoc, from_snoc, fit_before, fit_since}
 
 -- the last command of the upload is put
 pub record LastPut (bytes : List ℕ) (u : Upload) (seq : ℕ) (stored : Result Command ℕ) (writes : List LineWrite) : Type 0 where
@@ -73,18 +72,18 @@ last_taken bytes limit u fence from seq (Ok c) fits next =
     let ws = put_writes bytes u.expected c in
     let full = is_full (records_in_storage bytes) total_row (u.expected + 1) in
     let P : service.Did → Type 0 = IsLastPut bytes u seq (Ok c) in
-    let four : P (only from (both Quiet fence) (Answer 4)) = other_answer bytes u seq (Ok c) (only from (both Quiet fence) (Answer 4)) refl in
-    cond_both full (Err 4) (Ok ws) (λ (r : Result (List LineWrite) ℕ). P (took m from Mission u (if_allowed limit [] r)))
-    (λ t. four)
-    (λ room. cond_both (exceeds limit ws) (Err 4) (Ok (record { writes = ws; kept = [] })) (λ (r : Result TakenItem ℕ). P (took m from Mission u r))
-    (λ t. four)
+    let refused : P (only from (both Quiet fence) (Answer no_space)) = other_answer bytes u seq (Ok c) (only from (both Quiet fence) (Answer no_space)) refl in
+    cond_both full (Err no_space) (Ok ws) (λ (r : Result (List LineWrite) ℕ). P (took m from Mission u (if_allowed limit [] r)))
+    (λ t. refused)
+    (λ room. cond_both (exceeds limit ws) (Err no_space) (Ok (record { writes = ws; kept = [] })) (λ (r : Result TakenItem ℕ). P (took m from Mission u r))
+    (λ t. refused)
     (λ t zero. record {
       command = c;
       stored_is = refl;
       next = next;
       writes_are = refl;
       room = λ g. let clash : true ≡ false = sym (g) ∙ room in cc;
-      last = cond_both (is_last u) (Answer 0) (Next (u.expected + 1)) (λ (x : Content). is_zero x ≡ true → is_last u ≡ true) (λ yes z. yes) (λ other z. let clash : false ≡ true = z in cc) zero;
+      last = cond_both (is_last u) (Answer accepted) (Next (u.expected + 1)) (λ (x : Content). is_zero x ≡ true → is_last u ≡ true) (λ yes z. yes) (λ other z. let clash : false ≡ true = z in cc) zero;
     }))
 
 last_given : (bytes : List ℕ) (limit : Option ℕ) (before fence : Uploads) (u : Upload) (from : From) (seq : ℕ) (stored : Result Command ℕ) → before ≡ Open u → RequestFits (Give seq (ForMission stored)) → u.owner ≡ from.station
@@ -96,15 +95,15 @@ last_given bytes limit (Open w) fence u from seq stored e fits own =
     let m = both (Open w) fence in
     let P : service.Did → Type 0 = IsLastPut bytes w seq stored in
     let d3 = took m from Mission w (taken bytes limit w (ForMission stored)) in
-    let d2 = cond (not (seq == w.expected)) (only from m (Answer 13)) d3 in
+    let d2 = cond (not (seq == w.expected)) (only from m (Answer invalid_sequence)) d3 in
     let d1 = cond (seq + 1 == w.expected) (only from m (Next w.expected)) d2 in
     subst (λ (x : Upload). IsLastPut bytes x seq stored (given_to bytes limit m from Mission seq (ForMission stored) (Open w))) same
-    (cond_both (not (w.owner == from.station)) (only from m (Answer 14)) d1 P
-    (λ t. other_answer bytes w seq stored (only from m (Answer 14)) refl)
+    (cond_both (not (w.owner == from.station)) (only from m (Answer denied)) d1 P
+    (λ t. other_answer bytes w seq stored (only from m (Answer denied)) refl)
     (λ t. cond_both (seq + 1 == w.expected) (only from m (Next w.expected)) d2 P
     (λ t. other_answer bytes w seq stored (only from m (Next w.expected)) refl)
-    (λ t. cond_both (not (seq == w.expected)) (only from m (Answer 13)) d3 P
-    (λ t. other_answer bytes w seq stored (only from m (Answer 13)) refl)
+    (λ t. cond_both (not (seq == w.expected)) (only from m (Answer invalid_sequence)) d3 P
+    (λ t. other_answer bytes w seq stored (only from m (Answer invalid_sequence)) refl)
     (λ t. last_taken bytes limit w fence from seq stored fits (not-false (seq == w.expected) t)))))
 
 -- the same of what the vehicle tells

@@ -1,25 +1,22 @@
 -- What a request to the mission protocol does to the uploads of a fence.
-use Rattle.std.proofs.Common.{◌≡◌, ◌≢◌, ◌⊎◌, inl, inr, ℕ, ◌+◌, ◌-◌, ◌<◌, ◌≤◌, Bool, true, false, cond, not, List, [], ◌∷◌, ◌++◌, length, take, refl, sym, ◌∙◌, ap, subst, arith, Option, Some, None}
+use Rattle.std.proofs.Common.{◌≡◌, ◌≢◌, ◌⊎◌, inl, inr, ℕ, ◌+◌, ◌<◌, Bool, true, false, cond, not, List, [], ◌∷◌, ◌++◌, refl, sym, ◌∙◌, ap, arith, Option, Some, None}
 use Rattle.std.specs.Prelude.{Result, Ok, Err, nat_lt, ◌==◌, ◌&&◌}
-use Rattle.std.proofs.lemmas.Bool.{cases_Bool, cond_both, not-true, not-false, eqb-true, eqb-false, ne_eqb}
+use Rattle.std.proofs.lemmas.Bool.{cond_both, not-true, not-false, eqb-true, eqb-false, ne_eqb}
 use Rattle.storage_lines.specs.declared.lines.LineWrite.{LineWrite}
-use Rattle.param_records.specs.Steps.{records_in_storage}
-use Rattle.param_records.specs.Changes.{is_full}
 use Rattle.mission_commands.specs.declared.commands.Command.{Command}
 use Rattle.mission_records.specs.declared.reading.TheConstants.{CAPACITY}
-use Rattle.mission_records.specs.Mission.{total_row, begin_writes, put_writes}
+use Rattle.mission_records.specs.Mission.{begin_writes}
 use Rattle.fence_records.specs.declared.items.FenceItem.{FenceItem}
 use Rattle.fence_records.specs.Lists as fences
 use Rattle.fence_records.specs.Lists.{IsFenceItem}
 use Rattle.mission_service.specs.declared.requests.MissionType.{MissionType}
 use Rattle.mission_service.specs.declared.requests.MissionType.TheVariants.{Mission, Fence}
-use Rattle.mission_service.specs.declared.uploads.Target.{Target}
-use Rattle.mission_service.specs.Uploads.{Upload, Uploads, Quiet, Open, Finished, Missions, uploads_of, with_uploads}
-use Rattle.mission_service.specs.Requests.{Given, ForMission, ForFence, Request, Begin, Give, Clear, Count, Show, Cancel, Unsupported, type_of_given}
+use Rattle.mission_service.specs.Uploads.{Upload, Uploads, Quiet, Open, Finished, Missions, with_uploads}
+use Rattle.mission_service.specs.Requests.{Given, ForMission, ForFence, Request, Begin, Give, Clear, Count, Show, Cancel, Unsupported}
 use Rattle.mission_service.specs.Service as service
 use Rattle.mission_service.specs.declared.replies.Content.{Content}
 use Rattle.mission_service.specs.declared.replies.Content.TheVariants.{Answer, Next, Total}
-use Rattle.mission_service.specs.Service.{From, Taken, Told, exceeds, tells, only, does, is_anothers, opened, first_writes, clear_writes, any_anothers, all_quiet, cleared, begun, is_last, if_allowed, command_lines, taken, after_item, told_after, took, given_to, total, shown, cancelled, answered}
+use Rattle.mission_service.specs.Service.{From, Taken, Told, exceeds, tells, only, does, is_anothers, opened, first_writes, clear_writes, any_anothers, all_quiet, cleared, begun, is_last, if_allowed, command_lines, taken, after_item, told_after, took, given_to, total, shown, cancelled, answered, accepted, denied, error, fence_capacity, invalid_sequence, no_space}
 use Rattle.vehicle_laws.specs.Uploads.{fence_item_in}
 use Rattle.mission_service.specs.Asked.{RequestFits}
 use Rattle.vehicle_laws.proofs.Effects.{first_next, cond_none}
@@ -98,11 +95,11 @@ of_clearing bytes allowed mission before from request types n =
     let m = both mission before in
     let ws = clear_writes bytes types in
     let P : service.Did → Type 0 = E before from request in
-    let done = does from (all_quiet m types) ws (Answer 0) in
+    let done = does from (all_quiet m types) ws (Answer accepted) in
     let alone : NoFenceBegun from request done.told = λ c e t. let clash : false ≡ true = t in cc in
-    cond_both (any_anothers from.station m types) (only from m (Answer 14)) (cond (exceeds allowed ws) (only from m (Answer 4)) done) P
+    cond_both (any_anothers from.station m types) (only from m (Answer denied)) (cond (exceeds allowed ws) (only from m (Answer no_space)) done) P
     (λ t. answers mission before from request 14 n)
-    (λ t. cond_both (exceeds allowed ws) (only from m (Answer 4)) done P
+    (λ t. cond_both (exceeds allowed ws) (only from m (Answer no_space)) done P
     (λ t. answers mission before from request 4 n)
     (λ t. elim (cleared_fence types m) [
       | inl k ↦ same before from request done k n alone
@@ -117,16 +114,16 @@ of_count bytes allowed mission before from count =
     let P : service.Did → Type 0 = E before from request in
     let none : List LineWrite = [] in
     let d4 = does from (with_uploads Fence m (opened from count)) none (Next 0) in
-    let d3 = cond (exceeds allowed none) (only from m (Answer 4)) d4 in
+    let d3 = cond (exceeds allowed none) (only from m (Answer no_space)) d4 in
     let d2 = cond (count == 0) (cleared bytes allowed m from (Fence ∷ [])) d3 in
-    let d1 = cond (nat_lt 51 count) (only from m (Answer 4)) d2 in
-    cond_both (is_anothers from.station before) (only from m (Answer 14)) d1 P
+    let d1 = cond (nat_lt fence_capacity count) (only from m (Answer no_space)) d2 in
+    cond_both (is_anothers from.station before) (only from m (Answer denied)) d1 P
     (λ t. answers mission before from request 14 n)
-    (λ t. cond_both (nat_lt 51 count) (only from m (Answer 4)) d2 P
+    (λ t. cond_both (nat_lt fence_capacity count) (only from m (Answer no_space)) d2 P
     (λ t. answers mission before from request 4 n)
     (λ few. cond_both (count == 0) (cleared bytes allowed m from (Fence ∷ [])) d3 P
     (λ t. of_clearing bytes allowed mission before from request (Fence ∷ []) n)
-    (λ some. cond_both (exceeds allowed none) (only from m (Answer 4)) d4 P
+    (λ some. cond_both (exceeds allowed none) (only from m (Answer no_space)) d4 P
     (λ t. answers mission before from request 4 n)
     (λ t. let other = eqb-false count 0 some in inl (record { count = count; asked = refl; told_is = refl; now_is = refl; some = omega arith })))))
 
@@ -137,16 +134,16 @@ of_mission_count bytes allowed mission before from count =
     let n : GivesNone request = λ seq. refl in
     let P : service.Did → Type 0 = E before from request in
     let d4 = does from (with_uploads Mission m (opened from count)) (begin_writes bytes) (Next 0) in
-    let d3 = cond (exceeds allowed (begin_writes bytes)) (only from m (Answer 4)) d4 in
+    let d3 = cond (exceeds allowed (begin_writes bytes)) (only from m (Answer no_space)) d4 in
     let d2 = cond (count == 0) (cleared bytes allowed m from (Mission ∷ [])) d3 in
-    let d1 = cond (nat_lt CAPACITY count) (only from m (Answer 4)) d2 in
-    cond_both (is_anothers from.station mission) (only from m (Answer 14)) d1 P
+    let d1 = cond (nat_lt CAPACITY count) (only from m (Answer no_space)) d2 in
+    cond_both (is_anothers from.station mission) (only from m (Answer denied)) d1 P
     (λ t. answers mission before from request 14 n)
-    (λ t. cond_both (nat_lt CAPACITY count) (only from m (Answer 4)) d2 P
+    (λ t. cond_both (nat_lt CAPACITY count) (only from m (Answer no_space)) d2 P
     (λ t. answers mission before from request 4 n)
     (λ few. cond_both (count == 0) (cleared bytes allowed m from (Mission ∷ [])) d3 P
     (λ t. of_clearing bytes allowed mission before from request (Mission ∷ []) n)
-    (λ some. cond_both (exceeds allowed (begin_writes bytes)) (only from m (Answer 4)) d4 P
+    (λ some. cond_both (exceeds allowed (begin_writes bytes)) (only from m (Answer no_space)) d4 P
     (λ t. answers mission before from request 4 n)
     (λ t. same before from request d4 refl n (λ c e t. cc)))))
 
@@ -167,13 +164,13 @@ mission_item_left bytes allowed (Finished s l) before from seq stored = refl
 mission_item_left bytes allowed (Open u) before from seq stored =
     let m = both (Open u) before in
     let d3 = took m from Mission u (taken bytes allowed u (ForMission stored)) in
-    let d2 = cond (not (seq == u.expected)) (only from m (Answer 13)) d3 in
+    let d2 = cond (not (seq == u.expected)) (only from m (Answer invalid_sequence)) d3 in
     let d1 = cond (seq + 1 == u.expected) (only from m (Next u.expected)) d2 in
-    cond_both (not (u.owner == from.station)) (only from m (Answer 14)) d1 (Left before)
+    cond_both (not (u.owner == from.station)) (only from m (Answer denied)) d1 (Left before)
     (λ t. refl)
     (λ t. cond_both (seq + 1 == u.expected) (only from m (Next u.expected)) d2 (Left before)
     (λ t. refl)
-    (λ t. cond_both (not (seq == u.expected)) (only from m (Answer 13)) d3 (Left before)
+    (λ t. cond_both (not (seq == u.expected)) (only from m (Answer invalid_sequence)) d3 (Left before)
     (λ t. refl)
     (λ t. mission_took (Open u) before from u (taken bytes allowed u (ForMission stored)))))
 
@@ -229,22 +226,22 @@ item_taken bytes allowed mission u from seq (Ok item) fits own next =
 
 of_item : (bytes : List ℕ) (allowed : Option ℕ) (mission before : Uploads) (from : From) (seq : ℕ) (stored : Result FenceItem ℕ) → RequestFits (Give seq (ForFence stored))
     → E before from (Give seq (ForFence stored)) (given_to bytes allowed (both mission before) from Fence seq (ForFence stored) before)
-of_item bytes allowed mission Quiet from seq stored fits = off Quiet from seq (ForFence stored) (only from (both mission Quiet) (Answer 1)) quiet_closed
-of_item bytes allowed mission (Finished s l) from seq stored fits = off (Finished s l) from seq (ForFence stored) (only from (both mission (Finished s l)) (Answer (cond ((s == from.station) && (seq == l)) 0 1))) (finished_closed s l)
+of_item bytes allowed mission Quiet from seq stored fits = off Quiet from seq (ForFence stored) (only from (both mission Quiet) (Answer error)) quiet_closed
+of_item bytes allowed mission (Finished s l) from seq stored fits = off (Finished s l) from seq (ForFence stored) (only from (both mission (Finished s l)) (Answer (cond ((s == from.station) && (seq == l)) accepted error))) (finished_closed s l)
 of_item bytes allowed mission (Open u) from seq stored fits =
     let m = both mission (Open u) in
     let request = Give seq (ForFence stored) in
     let P : service.Did → Type 0 = E (Open u) from request in
     let d3 = took m from Fence u (taken bytes allowed u (ForFence stored)) in
-    let d2 = cond (not (seq == u.expected)) (only from m (Answer 13)) d3 in
+    let d2 = cond (not (seq == u.expected)) (only from m (Answer invalid_sequence)) d3 in
     let d1 = cond (seq + 1 == u.expected) (only from m (Next u.expected)) d2 in
-    cond_both (not (u.owner == from.station)) (only from m (Answer 14)) d1 P
-    (λ t. same_upload mission u from seq (ForFence stored) (Answer 14) (ap (λ (b : Bool). cond b (fence_item_in u.expected request) None) (not-true (u.owner == from.station) t)))
+    cond_both (not (u.owner == from.station)) (only from m (Answer denied)) d1 P
+    (λ t. same_upload mission u from seq (ForFence stored) (Answer denied) (ap (λ (b : Bool). cond b (fence_item_in u.expected request) None) (not-true (u.owner == from.station) t)))
     (λ own. cond_both (seq + 1 == u.expected) (only from m (Next u.expected)) d2 P
     (λ t. let one = eqb-true (seq + 1) u.expected t in let differ : (seq == u.expected) ≡ false = ne_eqb seq u.expected (λ e. absurd (omega arith)) in
     same_upload mission u from seq (ForFence stored) (Next u.expected) (ap (λ (o : Option FenceItem). cond (u.owner == from.station) o None) (other_number u.expected seq stored differ) ∙ cond_none (u.owner == from.station)))
-    (λ t. cond_both (not (seq == u.expected)) (only from m (Answer 13)) d3 P
-    (λ t. same_upload mission u from seq (ForFence stored) (Answer 13) (ap (λ (o : Option FenceItem). cond (u.owner == from.station) o None) (other_number u.expected seq stored (not-true (seq == u.expected) t)) ∙ cond_none (u.owner == from.station)))
+    (λ t. cond_both (not (seq == u.expected)) (only from m (Answer invalid_sequence)) d3 P
+    (λ t. same_upload mission u from seq (ForFence stored) (Answer invalid_sequence) (ap (λ (o : Option FenceItem). cond (u.owner == from.station) o None) (other_number u.expected seq stored (not-true (seq == u.expected) t)) ∙ cond_none (u.owner == from.station)))
     (λ t. item_taken bytes allowed mission u from seq stored fits (not-false (u.owner == from.station) own) (not-false (seq == u.expected) t))))
 
 of_cancel : (mission before : Uploads) (from : From) → E before from (Cancel Fence) (record { missions = both mission (cancelled from.station before); writes = []; told = [] })

@@ -1,37 +1,33 @@
 -- An upload of a fence that ends with the answer 0.
-use Rattle.std.proofs.Common.{◌≡◌, ◌≢◌, ◌⊎◌, inl, inr, ℕ, ◌+◌, ◌-◌, ◌<◌, ◌≤◌, Bool, true, false, cond, not, List, [], ◌∷◌, ◌++◌, length, take, refl, sym, ◌∙◌, ap, subst, arith, Option, Some, None, append_assoc, append-nil, length-append}
-use Rattle.std.specs.Prelude.{Result, Ok, Err, nat_lt, ◌==◌, ◌&&◌, map, count_by}
+use Rattle.std.proofs.Common.{◌≡◌, ◌≢◌, ℕ, ◌+◌, Bool, true, false, cond, not, List, [], ◌∷◌, ◌++◌, length, refl, sym, ◌∙◌, ap, subst, arith, Option, Some, None, append_assoc}
+use Rattle.std.specs.Prelude.{Result, Ok, Err, nat_lt, ◌==◌, count_by}
 use Rattle.std.specs.Option.{option_map_or}
 use Rattle.std.proofs.lemmas.List.{length_push}
-use Rattle.std.proofs.lemmas.Bool.{cases_Bool, cond_both, eqb-true, eq-eqb, ne_eqb, not-true, not-false}
+use Rattle.std.proofs.lemmas.Bool.{cond_both, eqb-true, eq-eqb, ne_eqb, not-false}
 use Rattle.storage_lines.specs.declared.lines.LineWrite.{LineWrite}
-use Rattle.storage_lines.specs.declared.lines.TheConstants.{STORAGE_BYTES}
 use Rattle.storage_lines.specs.Lines.{after}
 use Rattle.storage_lines.proofs.LineLemmas.{after-append, length-after}
 use Rattle.fence_records.specs.declared.items.FenceItem.{FenceItem}
 use Rattle.fence_records.specs.Write.{encoded, fence_writes}
 use Rattle.fence_records.specs.Fence.{Figure}
 use Rattle.fence_records.proofs.Replaces.{fences_are_replaced}
-use Rattle.fence_records.specs.Lists.{fence_of, IsFenceItem, AreFenceItems, replace_writes, figure_writes, figures_of, is_return_point}
-use Rattle.mission_service.specs.declared.requests.MissionType.{MissionType}
+use Rattle.fence_records.specs.Lists.{fence_of, IsFenceItem, replace_writes, figure_writes, figures_of, is_return_point}
 use Rattle.mission_service.specs.declared.requests.MissionType.TheVariants.{Mission, Fence}
 use Rattle.mission_service.specs.declared.uploads.Target.{Target}
-use Rattle.mission_service.specs.Uploads.{Upload, Uploads, Quiet, Open, Finished, Missions as MissionUploads, with_uploads}
-use Rattle.mission_service.specs.Requests.{Given, ForMission, ForFence, Request, Begin, Give, type_of_given}
+use Rattle.mission_service.specs.Uploads.{Upload, Uploads, Quiet, Open, Finished, Missions as MissionUploads}
+use Rattle.mission_service.specs.Requests.{Given, ForMission, ForFence, Give, type_of_given}
 use Rattle.mission_service.specs.Service as service
-use Rattle.mission_service.specs.declared.replies.Content.{Content}
-use Rattle.mission_service.specs.declared.replies.Content.TheVariants.{Answer, Next, Total, MissionItem, FencePart}
-use Rattle.mission_service.specs.Service.{Told, From, Taken as TakenItem, tells, only, exceeds, is_last, if_allowed, taken, took, told_after, given_to}
-use Rattle.vehicle_core.specs.Vehicle.{Vehicle, Asked, Missions, hears, tells_of_missions}
-use Rattle.vehicle_core.specs.Acts.{Act, Said, did}
-use Rattle.vehicle_node.specs.Runs.{Run, did_in, act_done, all_acts, start}
-use Rattle.vehicle_laws.specs.Uploads.{run_over, says, Opens, GoesOn, IsUpload, Ends, fence_items_from, fence_item_in}
+use Rattle.mission_service.specs.declared.replies.Content.TheVariants.{Answer, Next}
+use Rattle.mission_service.specs.Service.{Told, From, Taken as TakenItem, tells, only, exceeds, is_last, if_allowed, taken, took, told_after, given_to, accepted, denied, invalid_sequence, no_space}
+use Rattle.vehicle_core.specs.Acts.{Act, did}
+use Rattle.vehicle_node.specs.Runs.{Run, did_in}
+use Rattle.vehicle_laws.specs.Uploads.{run_over, says, Opens, GoesOn, fence_items_from, fence_item_in}
 use Rattle.mission_service.specs.Asked.{RequestFits, GivenFits}
 use Rattle.vehicle_laws.specs.Fitting.{ActFits, AllFit}
-use Rattle.vehicle_laws.specs.Laws.{Stores, LawOfFenceUploads}
+use Rattle.vehicle_laws.specs.Laws.{LawOfFenceUploads}
 use Rattle.vehicle_laws.proofs.Status.{run_since, run_snoc, from_snoc, goes_snoc, fit_before, fit_since}
 use Rattle.vehicle_laws.proofs.Ends.{first_zero, told_zero, same_zero, gives_not_opens}
-use Rattle.vehicle_laws.proofs.FenceStatus.{fences_at, item_given, OpenSince, fence_status, the_open, fit_push, more_from}
+use Rattle.vehicle_laws.proofs.FenceStatus.{fences_at, item_given, fence_status, the_open, fit_push, more_from}
 
 -- the last item of the upload is taken, and the fence is written
 pub record LastWritten (bytes : List ℕ) (u : Upload) (seq : ℕ) (stored : Result FenceItem ℕ) (writes : List LineWrite) : Type 0 where
@@ -67,7 +63,7 @@ last_written : (bytes : List ℕ) (limit : Option ℕ) (mission : Uploads) (u : 
 last_written bytes limit mission u from seq item (Err e) next l z is = other_answer bytes u seq (Ok item) (only from (both mission Quiet) (Answer e)) (ne_eqb e 0 z)
 last_written bytes limit mission u from seq item (Ok ws) next l z is =
     cond_both (exceeds limit ws) (Err 4) (Ok (record { writes = ws; kept = [] })) (λ (r : Result TakenItem ℕ). IsLast bytes u seq (Ok item) (took (both mission (Open u)) from Fence u r))
-    (λ t. other_answer bytes u seq (Ok item) (only from (both mission Quiet) (Answer 4)) refl)
+    (λ t. other_answer bytes u seq (Ok item) (only from (both mission Quiet) (Answer no_space)) refl)
     (λ t zero. record { item = item; stored_is = refl; next = next; writes_are = is; last = l })
 
 last_taken : (bytes : List ℕ) (limit : Option ℕ) (mission : Uploads) (u : Upload) (from : From) (seq : ℕ) (stored : Result FenceItem ℕ) → RequestFits (Give seq (ForFence stored)) → (seq == u.expected) ≡ true
@@ -79,7 +75,7 @@ last_taken bytes limit mission u from seq (Ok item) fits next =
     let kept : TakenItem = record { writes = []; kept = items } in
     cond_both (is_last u) (if_allowed limit [] (replace_writes bytes items)) (Ok kept) (λ (r : Result TakenItem ℕ). IsLast bytes u seq (Ok item) (took m from Fence u r))
     (λ l. last_written bytes limit mission u from seq item (replace_writes bytes items) next l (replace_refuses bytes items) refl)
-    (λ other. other_answer bytes u seq (Ok item) (took m from Fence u (Ok kept)) (ap (λ (b : Bool). first_zero (tells from (cond b (Answer 0) (Next (u.expected + 1))))) other))
+    (λ other. other_answer bytes u seq (Ok item) (took m from Fence u (Ok kept)) (ap (λ (b : Bool). first_zero (tells from (cond b (Answer accepted) (Next (u.expected + 1))))) other))
 
 last_given : (bytes : List ℕ) (limit : Option ℕ) (mission before : Uploads) (u : Upload) (from : From) (seq : ℕ) (stored : Result FenceItem ℕ) → before ≡ Open u → RequestFits (Give seq (ForFence stored)) → u.owner ≡ from.station
     → IsLast bytes u seq stored (given_to bytes limit (both mission before) from Fence seq (ForFence stored) before)
@@ -90,15 +86,15 @@ last_given bytes limit mission (Open w) u from seq stored e fits own =
     let m = both mission (Open w) in
     let P : service.Did → Type 0 = IsLast bytes w seq stored in
     let d3 = took m from Fence w (taken bytes limit w (ForFence stored)) in
-    let d2 = cond (not (seq == w.expected)) (only from m (Answer 13)) d3 in
+    let d2 = cond (not (seq == w.expected)) (only from m (Answer invalid_sequence)) d3 in
     let d1 = cond (seq + 1 == w.expected) (only from m (Next w.expected)) d2 in
     subst (λ (x : Upload). IsLast bytes x seq stored (given_to bytes limit m from Fence seq (ForFence stored) (Open w))) same
-    (cond_both (not (w.owner == from.station)) (only from m (Answer 14)) d1 P
-    (λ t. other_answer bytes w seq stored (only from m (Answer 14)) refl)
+    (cond_both (not (w.owner == from.station)) (only from m (Answer denied)) d1 P
+    (λ t. other_answer bytes w seq stored (only from m (Answer denied)) refl)
     (λ t. cond_both (seq + 1 == w.expected) (only from m (Next w.expected)) d2 P
     (λ t. other_answer bytes w seq stored (only from m (Next w.expected)) refl)
-    (λ t. cond_both (not (seq == w.expected)) (only from m (Answer 13)) d3 P
-    (λ t. other_answer bytes w seq stored (only from m (Answer 13)) refl)
+    (λ t. cond_both (not (seq == w.expected)) (only from m (Answer invalid_sequence)) d3 P
+    (λ t. other_answer bytes w seq stored (only from m (Answer invalid_sequence)) refl)
     (λ t. last_taken bytes limit mission w from seq stored fits (not-false (seq == w.expected) t)))))
 
 last_act : (b : List ℕ) (r : Run) (u : Upload) (v : Bool) (target : Target) (number seq : ℕ) (stored : Result FenceItem ℕ) → fences_at r ≡ Open u → RequestFits (Give seq (ForFence stored))

@@ -1,28 +1,25 @@
 -- At each act of a run no upload of a fence is open, or one has been opened and goes on since.
-use Rattle.std.proofs.Common.{◌≡◌, ◌≢◌, ◌⊎◌, inl, inr, ℕ, zero, suc, ◌+◌, ◌-◌, ◌<◌, ◌≤◌, Bool, true, false, cond, not, List, [], ◌∷◌, ◌++◌, length, take, refl, sym, ◌∙◌, ap, subst, arith, Option, Some, None, append_assoc, append-nil, length-append}
+use Rattle.std.proofs.Common.{◌≡◌, ◌≢◌, ◌⊎◌, inl, inr, ℕ, ◌+◌, ◌<◌, Bool, cond, not, List, [], ◌∷◌, ◌++◌, length, refl, sym, ◌∙◌, ap, subst, arith, Option, Some, None, append_assoc, append-nil}
 use Rattle.std.specs.Prelude.{nat_le, ◌==◌, map}
 use Rattle.std.specs.Option.{option_map_or}
 use Rattle.std.proofs.lemmas.List.{length_push}
-use Rattle.std.proofs.lemmas.Bool.{cases_Bool, cond_both, cases_lt, eqb-false}
+use Rattle.std.proofs.lemmas.Bool.{cond_both, cases_lt, eqb-false}
 use Rattle.storage_lines.specs.Lines.{after}
 use Rattle.param_service.specs.Service.{streamed}
 use Rattle.fence_records.specs.declared.items.FenceItem.{FenceItem}
 use Rattle.fence_records.specs.Lists.{IsFenceItem, AreFenceItems}
 use Rattle.mission_service.specs.declared.requests.MissionType.TheVariants.{Fence}
-use Rattle.mission_service.specs.declared.uploads.Target.{Target}
 use Rattle.mission_service.specs.Uploads.{Upload, Uploads, Quiet, Open, Finished}
 use Rattle.mission_service.specs.Requests as missions
 use Rattle.mission_service.specs.Requests.{Begin, Asking, operation_cancelled}
-use Rattle.mission_service.specs.Service as service
-use Rattle.mission_service.specs.declared.replies.Content.{Content}
-use Rattle.mission_service.specs.Service.{Told, is_last, idled, idle, idle_turns, answered}
+use Rattle.mission_service.specs.Service.{Told, idled, idle, idle_turns, answered}
 use Rattle.mission_service.specs.declared.replies.Content.TheVariants.{Next, Answer}
-use Rattle.vehicle_core.specs.Vehicle.{Vehicle, Asked, Parameters, Missions, is_heard, hears, tells_of_missions}
+use Rattle.vehicle_core.specs.Vehicle.{Vehicle, Asked, Parameters, Missions, is_heard, tells_of_missions}
 use Rattle.vehicle_core.specs.Acts.{Act, Said, Beat, Stream, Did, did, heard_as, nothing, by_parameters, beaten}
-use Rattle.vehicle_node.specs.Runs.{Run, did_in, act_done, all_acts, start}
-use Rattle.vehicle_laws.specs.Uploads.{run_over, uploads_at, says, Opens, OpensNone, GoesOn, given_from, fence_items_from, fence_item_in, said_in}
+use Rattle.vehicle_node.specs.Runs.{Run, did_in, act_done, start}
+use Rattle.vehicle_laws.specs.Uploads.{run_over, uploads_at, says, Opens, OpensNone, GoesOn, fence_items_from, fence_item_in, said_in}
 use Rattle.vehicle_laws.specs.Fitting.{AskedFits, ActFits, AllFit}
-use Rattle.vehicle_laws.proofs.Effects.{first_next, cond_none}
+use Rattle.vehicle_laws.proofs.Effects.{cond_none}
 use Rattle.vehicle_laws.proofs.ActEffects.{asked_of, from_station, not_opened, vehicle_after}
 use Rattle.vehicle_laws.proofs.Held.{given_in}
 use Rattle.vehicle_laws.proofs.FenceEffects.{Becomes, FenceStays, FenceKept, FenceBegun, FenceEffect, NoFenceBegun, unmoved, fence_effect}

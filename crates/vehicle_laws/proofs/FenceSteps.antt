@@ -1,9 +1,5 @@
 -- The fence after each number of the lines of an act.
-use Rattle.std.proofs.Common.{◌≡◌, ◌≢◌, ◌⊎◌, inl, inr, ℕ, ◌+◌, ◌-◌, ◌*◌, ◌<◌, ◌≤◌, Bool, true, false, cond, not, List, [], ◌∷◌, ◌++◌, length, take, drop, refl, sym, ◌∙◌, ap, subst, arith, Option, Some, None, append-nil}
-use Rattle.std.specs.Prelude.{Result, Ok, Err, nat_lt, ◌==◌, ◌&&◌, ◌||◌, IfSome, slice_get}
-use Rattle.std.specs.Option.{option_map_or}
-use Rattle.std.proofs.lemmas.List.{take_all}
-use Rattle.std.proofs.lemmas.Bool.{cases_Bool, cases_lt, cond_both, or_right}
+use Rattle.std.proofs.Common.{◌≡◌, ◌≢◌, ◌⊎◌, inl, inr, ℕ, ◌+◌, ◌<◌, ◌≤◌, cond, List, [], ◌∷◌, ◌++◌, length, take, drop, refl, sym, ◌∙◌, ap, subst, arith}
 use Rattle.param_tree.specs.declared.Var.{Var}
 use Rattle.param_tree.specs.Rows.{vehicle_rows}
 use Rattle.storage_lines.specs.declared.lines.LineWrite.{LineWrite}
@@ -16,16 +12,12 @@ use Rattle.storage_lines.specs.Pieces.{writes_of, writes_of_piece}
 use Rattle.storage_lines.proofs.LineLemmas.{after-append, length-after}
 use Rattle.storage_lines.proofs.PieceLemmas.{pieces_in_steps}
 use Rattle.storage_lines.proofs.PrefixLemmas.{prefix_append, prefix_nil}
-use Rattle.param_records.specs.Changes.{IsFull, set_pieces, is_full}
-use Rattle.param_records.specs.Steps.{records_in_storage, IsKept}
-use Rattle.param_service.specs.Requests as parameters
-use Rattle.param_service.specs.Requests.{Show, ShowAll, Set}
-use Rattle.param_service.specs.Service as parameter_service
-use Rattle.param_service.specs.Service.{is_total, writes_for, set_writes, streamed}
+use Rattle.param_records.specs.Changes.{IsFull, set_pieces}
+use Rattle.param_records.specs.Steps.{records_in_storage}
 use Rattle.mission_commands.specs.declared.commands.Command.{Command}
 use Rattle.mission_records.specs.declared.reading.TheConstants.{CAPACITY, TOTAL_INDEX}
 use Rattle.mission_records.specs.Mission.{total_row, version, place_of_command, command_bytes, total_writes, version_writes, command_writes, begin_writes, put_writes}
-use Rattle.mission_records.specs.Steps.{IsFormatted, StaysFormatted}
+use Rattle.mission_records.specs.Steps.{IsFormatted}
 use Rattle.mission_commands.specs.Storable.{IsStorable}
 use Rattle.mission_records.proofs.Commands.{length-command}
 use Rattle.mission_records.proofs.Totals.{all_writes, Setting, sets, total_setting, zero_fits, clears}
@@ -40,22 +32,13 @@ use Rattle.fence_records.specs.Lists.{fence_of, FencesInSteps}
 use Rattle.fence_records.proofs.Replaces.{fences_in_steps}
 use Rattle.mission_service.specs.declared.requests.MissionType.{MissionType}
 use Rattle.mission_service.specs.declared.requests.MissionType.TheVariants.{Mission, Fence}
-use Rattle.mission_service.specs.declared.uploads.Target.{Target}
-use Rattle.mission_service.specs.Uploads.{Upload, Uploads, Quiet, Open, Finished, Missions, with_uploads, uploads_of}
-use Rattle.mission_service.specs.Requests.{Given, ForMission, ForFence, Request, Begin, Give, Clear, Count, Show as ShowItem, Cancel, Unsupported}
-use Rattle.mission_service.specs.Service as service
-use Rattle.mission_service.specs.declared.replies.Content.{Content}
-use Rattle.mission_service.specs.declared.replies.Content.TheVariants.{Answer, Next}
-use Rattle.mission_service.specs.Service.{From, Taken, exceeds, only, does, is_anothers, opened, clear_writes, any_anothers, all_quiet, cleared, begun, is_last, if_allowed, command_lines, taken, took, given_to, answered}
-use Rattle.vehicle_core.specs.Vehicle.{Vehicle, Asked, Parameters, Missions as AskedMissions, is_heard, hears}
-use Rattle.vehicle_core.specs.Acts.{Act, Said, Beat, Stream, Did, did, nothing, by_parameters, asked_of, beaten}
-use Rattle.vehicle_node.specs.Runs.{Run, did_in, act_done, start}
+use Rattle.mission_service.specs.Uploads.{Upload, Open, Missions}
+use Rattle.mission_service.specs.Service.{clear_writes}
+use Rattle.vehicle_core.specs.Acts.{Act}
+use Rattle.vehicle_node.specs.Runs.{did_in, act_done}
 use Rattle.vehicle_laws.specs.Uploads.{run_over}
-use Rattle.mission_service.specs.Asked.{RequestFits}
-use Rattle.vehicle_laws.specs.Fitting.{SettingFits, AskedFits, ActFits, AllFit}
 use Rattle.vehicle_laws.specs.Laws.{IsFenceOneOf, LawOfFences}
 use Rattle.vehicle_laws.proofs.Keeping.{formatted_then}
-use Rattle.vehicle_laws.proofs.ActEffects.{missions_at, from_station}
 use Rattle.vehicle_laws.proofs.ActLines.{OfRow, OfMissions, act_lines}
 use Rattle.vehicle_laws.proofs.Fences.{clear_keeps}
 use Rattle.vehicle_laws.proofs.Status.{Status, status, the_open, fit_before, fit_since}

@@ -1,21 +1,21 @@
 -- Writing and clearing a fence leaves the parameters and the mission.
-use Rattle.std.proofs.Common.{◌≡◌, ◌≢◌, ◌⊎◌, inl, inr, ℕ, ◌+◌, ◌-◌, ◌<◌, ◌≤◌, Bool, true, false, cond, List, [], ◌∷◌, ◌++◌, length, take, drop, refl, sym, ◌∙◌, ap, subst, arith, Option, Some, None}
+use Rattle.std.proofs.Common.{◌≡◌, ◌≢◌, ℕ, ◌+◌, ◌≤◌, List, [], ◌∷◌, ◌++◌, length, take, drop, sym, ◌∙◌, ap, subst, arith, Option, Some, None}
 use Rattle.std.specs.Prelude.{Result, Ok, Err, nat_lt, count_by}
 use Rattle.std.proofs.lemmas.List.{length-take, length-drop}
-use Rattle.std.proofs.lemmas.Bool.{cases_Bool, cond_both}
+use Rattle.std.proofs.lemmas.Bool.{cond_both}
 use Rattle.std.proofs.lemmas.Bool.Decides.{nat_tests}
 use Rattle.storage_lines.specs.declared.lines.LineWrite.{LineWrite}
 use Rattle.storage_lines.specs.declared.lines.TheConstants.{STORAGE_BYTES}
 use Rattle.storage_lines.specs.declared.areas.Area.TheVariants as area
-use Rattle.storage_lines.specs.Areas.{spans_of, put_in, logical_of}
-use Rattle.storage_lines.specs.Lines.{after, changes, EachPrefix}
+use Rattle.storage_lines.specs.Areas.{spans_of, put_in}
+use Rattle.storage_lines.specs.Lines.{after, EachPrefix}
 use Rattle.storage_lines.specs.Pieces.{writes_of_piece}
 use Rattle.storage_lines.proofs.AreaLemmas.{length-put_in}
 use Rattle.storage_lines.proofs.ApartLemmas.{whole_changes}
 use Rattle.storage_lines.proofs.PieceLemmas.{pieces_in_steps}
 use Rattle.fence_records.specs.declared.items.FenceItem.{FenceItem}
 use Rattle.fence_records.specs.Fence.{Figure, version}
-use Rattle.fence_records.specs.Write.{encoded, without_fence, with_records, with_fence, fence_writes}
+use Rattle.fence_records.specs.Write.{encoded, without_fence, with_records, fence_writes}
 use Rattle.fence_records.specs.Lists.{clear_writes, replace_writes, figure_writes, figures_of, is_return_point}
 use Rattle.mission_records.specs.Steps.{IsFormatted, Keeps, IsBeside}
 use Rattle.storage_lines.proofs.PrefixLemmas.{prefix_append}

@@ -1,46 +1,42 @@
 -- After each number of the lines of a run the bytes are formatted.
-use Rattle.std.proofs.Common.{◌≡◌, ◌≢◌, inl, inr, ℕ, ◌+◌, ◌<◌, ◌≤◌, List, [], ◌∷◌, ◌++◌, length, take, refl, sym, ◌∙◌, ap, subst, arith, append_assoc, append-nil, Option, Some, None}
+use Rattle.std.proofs.Common.{◌≡◌, inl, inr, ℕ, ◌+◌, ◌<◌, ◌≤◌, List, [], ◌∷◌, ◌++◌, length, take, sym, ◌∙◌, ap, subst, arith, append_assoc}
 use Rattle.std.proofs.lemmas.List.{take_all}
 use Rattle.std.proofs.lemmas.Bool.{cases_lt}
 use Rattle.param_tree.specs.declared.Kind.TheVariants.{I16}
-use Rattle.param_tree.specs.declared.Var.{Var}
-use Rattle.param_tree.specs.Rows.{vehicle_rows}
 use Rattle.storage_lines.specs.declared.lines.LineWrite.{LineWrite}
-use Rattle.storage_lines.specs.declared.lines.TheConstants.{STORAGE_BYTES}
 use Rattle.storage_lines.specs.declared.areas.Area.TheVariants as area
-use Rattle.storage_lines.specs.Areas.{logical_of, size_of_area}
+use Rattle.storage_lines.specs.Areas.{size_of_area}
 use Rattle.storage_lines.specs.Bytes.{IsBytes}
 use Rattle.storage_lines.specs.Lines.{after, EachPrefix}
-use Rattle.storage_lines.specs.Pieces.{writes_of, writes_of_piece}
 use Rattle.storage_lines.proofs.LineLemmas.{after-append, length-after}
 use Rattle.storage_lines.proofs.PrefixLemmas.{prefix_append, prefix_nil}
 use Rattle.param_records.specs.Records.{Record, records_of, place_from}
-use Rattle.param_records.specs.Changes.{set_pieces, IsFull}
+use Rattle.param_records.specs.Changes.{IsFull}
 use Rattle.param_records.specs.Steps.{records_in_storage}
 use Rattle.mission_commands.specs.declared.commands.Command.{Command}
 use Rattle.mission_commands.specs.Storable.{IsStorable}
 use Rattle.mission_records.specs.declared.reading.TheConstants.{CAPACITY, TOTAL_INDEX}
 use Rattle.mission_records.specs.Mission.{version, total_row, place_of_command, command_bytes, total_writes, version_writes, command_writes, begin_writes, put_writes}
-use Rattle.mission_records.specs.Steps.{IsFormatted, IsTotalInOneLine, StaysFormatted}
+use Rattle.mission_records.specs.Steps.{IsFormatted, StaysFormatted}
 use Rattle.mission_records.proofs.Commands.{length-command}
-use Rattle.mission_records.proofs.Totals.{all_writes, Setting, stays, total_setting, zero_fits}
+use Rattle.mission_records.proofs.Totals.{all_writes, stays, total_setting, zero_fits}
 use Rattle.fence_records.specs.Lists as fences
 use Rattle.mission_service.specs.declared.requests.MissionType.{MissionType}
 use Rattle.mission_service.specs.declared.requests.MissionType.TheVariants.{Mission, Fence}
 use Rattle.mission_service.specs.Uploads.{Missions}
 use Rattle.mission_service.specs.Service.{clear_writes}
 use Rattle.vehicle_core.specs.Acts.{Act}
-use Rattle.vehicle_node.specs.Runs.{Run, did_in, act_done, all_acts, boot, start}
+use Rattle.vehicle_node.specs.Runs.{did_in, start}
 use Rattle.vehicle_laws.specs.Fitting.{AllFit}
 use Rattle.vehicle_laws.specs.Uploads.{run_over}
 use Rattle.vehicle_laws.specs.Rows.{KeepsParams}
-use Rattle.vehicle_laws.specs.Laws.{StartsFormatted, EndsWithin, StaysInOneLine}
+use Rattle.vehicle_laws.specs.Laws.{StartsFormatted, StaysInOneLine}
 use Rattle.vehicle_laws.proofs.Keeping.{then_stays, formatted_then}
 use Rattle.vehicle_laws.proofs.ActLines.{OfRow, OfMissions, act_lines}
 use Rattle.vehicle_laws.proofs.Fences.{clear_beside, replace_beside}
 use Rattle.vehicle_laws.proofs.FenceSteps.{HasPlace, has_place}
 use Rattle.vehicle_laws.proofs.RowSteps.{piece_keeps, same_records}
-use Rattle.vehicle_laws.proofs.Status.{status, run_snoc, fit_before, fit_since}
+use Rattle.vehicle_laws.proofs.Status.{status, fit_before, fit_since}
 use Rattle.vehicle_laws.proofs.LinesByActs.{lines_by_acts}
 
 abbrev Stays : List ℕ → List LineWrite → Type 0

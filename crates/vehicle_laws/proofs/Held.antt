@@ -1,9 +1,9 @@
--- What an upload has written so far: after each number of lines since its opening, the old mission or a first part of the
+-- What an upload has written so far: after each number of lines since its opening, the old mission or a prefix of the
 -- commands that came.
-use Rattle.std.proofs.Common.{◌≡◌, ◌≢◌, ◌⊎◌, inl, inr, ℕ, zero, suc, ◌+◌, ◌-◌, ◌<◌, ◌≤◌, Bool, true, false, cond, List, [], ◌∷◌, ◌++◌, length, take, refl, sym, ◌∙◌, ap, subst, arith, Option, Some, None, append_assoc, append-nil, length-append}
+use Rattle.std.proofs.Common.{◌≡◌, ◌≢◌, ◌⊎◌, inl, inr, ℕ, ◌+◌, ◌-◌, ◌<◌, ◌≤◌, List, [], ◌∷◌, ◌++◌, length, take, refl, sym, ◌∙◌, ap, subst, arith, Option, Some, None, append_assoc, append-nil, length-append}
 use Rattle.std.specs.Option.{option_map_or}
 use Rattle.std.proofs.lemmas.List.{take_all, take-append-le, length_push}
-use Rattle.std.proofs.lemmas.Bool.{cases_lt, eqb-true, eqb-false}
+use Rattle.std.proofs.lemmas.Bool.{cases_lt, eqb-false}
 use Rattle.storage_lines.specs.declared.lines.LineWrite.{LineWrite}
 use Rattle.storage_lines.specs.Lines.{after, EachPrefix}
 use Rattle.storage_lines.proofs.LineLemmas.{after-append}
@@ -16,16 +16,15 @@ use Rattle.mission_records.specs.Mission.{total_row, mission_area, mission_of, b
 use Rattle.mission_records.specs.Steps.{IsFormatted, IsTotalInOneLine, HasVersion, StaysFormatted, Puts}
 use Rattle.mission_records.proofs.Puts.{begins, puts}
 use Rattle.mission_service.specs.declared.requests.MissionType.TheVariants.{Mission}
-use Rattle.mission_service.specs.Uploads.{Upload, Uploads, Open}
-use Rattle.mission_service.specs.Service.{is_last}
+use Rattle.mission_service.specs.Uploads.{Upload, Open}
 use Rattle.mission_service.specs.Requests.{Request}
 use Rattle.vehicle_core.specs.Acts.{Act}
 use Rattle.vehicle_node.specs.Runs.{Run, did_in, act_done, all_acts}
-use Rattle.vehicle_laws.specs.Uploads.{Opens, OpensNone, GoesOn, given_from, commands_from, command_in, said_in}
+use Rattle.vehicle_laws.specs.Uploads.{OpensNone, GoesOn, given_from, commands_from, command_in, said_in}
 use Rattle.vehicle_laws.specs.Fitting.{ActFits, AllFit}
 use Rattle.vehicle_laws.specs.Laws.{IsPrefixOf}
 use Rattle.mission_records.proofs.Totals.{all_writes}
-use Rattle.vehicle_laws.proofs.Effects.{Off, Stays, Put, GoesOnWith}
+use Rattle.vehicle_laws.proofs.Effects.{Off, Stays, Put}
 use Rattle.vehicle_laws.proofs.ActEffects.{missions_at, command_given, ActBegun, act_effect}
 
 pub prefix_self : (xs : List Command) → IsPrefixOf xs xs
@@ -44,7 +43,7 @@ prefix_then xs ys zs p q = (p.0 ++ q.0, sym (append_assoc xs p.0 q.0) ∙ ap (λ
 abbrev pub IsOldOrPrefix : List Command → List Command → List ℕ → Type 0
 IsOldOrPrefix old cs now = (mission_of now ≡ old) ⊎ IsPrefixOf (mission_of now) cs
 
--- the lines issued since the run r leave the old mission or a first part of these commands
+-- the lines issued since the run r leave the old mission or a prefix of these commands
 pub record Held (b : List ℕ) (r s : Run) (cs : List Command) : Type 0 where
   pub more : List LineWrite
   pub issued : s.issued ≡ r.issued ++ more
@@ -61,7 +60,7 @@ held_wider b r s cs ds w h = record {
   one_line = h.one_line;
   each = λ t k l g. elim (h.each t k l g) [
     | inl old ↦ inl old
-    | inr front ↦ inr (prefix_then (mission_of (after b (take k s.issued))) cs ds front w)
+    | inr prefix ↦ inr (prefix_then (mission_of (after b (take k s.issued))) cs ds prefix w)
   ];
 }
 
@@ -122,7 +121,7 @@ more_from station seq act = given_in command_in station seq act
 abbrev pub IsClosed : Run → Type 0
 IsClosed s = (u : Upload) → missions_at s ≢ Open u
 
--- behind an opening
+-- after an opening
 pub begun : (b : List ℕ) (r : Run) (p : Act) → IsFormatted (after b r.issued) → (x : ActBegun b r p (did_in b r p).writes (missions_at (act_done b r p))) → Ongoing b r (act_done b r p) x.station x.count []
 begun b r p f x =
     let bytes = after b r.issued in
@@ -260,7 +259,7 @@ given_cons f station seq acts (Some x) = refl
 pub from_cons : {X : Type 0} (f : ℕ → Request → Option X) (station seq : ℕ) (act : Act) (acts : List Act) → given_from f station seq (act ∷ acts) ≡ given_in f station seq act ++ given_from f station (seq + length (given_in f station seq act)) acts
 from_cons f station seq act acts = given_cons f station seq acts (said_in (f seq) station act)
 
--- behind the end of an upload no part belongs to it
+-- after the end of an upload no act belongs to it
 ends_there : (b : List ℕ) (r s : Run) (cs : List Command) (ps : List Act) → Held b r s cs → IsClosed s → GoesOn Mission b s ps → Held b r (all_acts b s ps) cs
 ends_there b r s cs [] h closed g = h
 ends_there b r s cs (p ∷ ps) h closed g = absurd (closed g.0.0 g.0.1)

@@ -1,5 +1,5 @@
 -- Writes that keep the mission, or empty it.
-use Rattle.std.proofs.Common.{◌≡◌, ◌⊎◌, inl, inr, ℕ, List, [], ◌++◌, take, sym, ◌∙◌, subst, refl}
+use Rattle.std.proofs.Common.{◌≡◌, inl, inr, ℕ, List, [], ◌++◌, take, sym, ◌∙◌, subst, refl}
 use Rattle.storage_lines.specs.declared.lines.LineWrite.{LineWrite}
 use Rattle.storage_lines.specs.Lines.{after, EachPrefix}
 use Rattle.storage_lines.proofs.LineLemmas.{after-append}

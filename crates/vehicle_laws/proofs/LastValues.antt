@@ -1,9 +1,9 @@
 -- A row reads as after the last act that may have set it.
-use Rattle.std.proofs.Common.{◌≡◌, ◌≢◌, ◌⊎◌, inl, inr, ℕ, ◌+◌, ◌-◌, ◌≤◌, Bool, true, false, cond, List, [], ◌∷◌, ◌++◌, length, take, refl, sym, ◌∙◌, ap, subst, arith, append_assoc, append-nil, length-append, Option, Some, None}
+use Rattle.std.proofs.Common.{◌≡◌, ◌≢◌, inl, inr, ℕ, ◌-◌, ◌≤◌, Bool, true, false, cond, List, [], ◌∷◌, ◌++◌, length, take, refl, sym, ◌∙◌, ap, subst, arith, append_assoc, length-append, Option, Some, None}
 use Rattle.std.specs.Prelude.{◌||◌, slice_get, IfSome, IsTrue}
 use Rattle.std.specs.Option.{option_map_or}
 use Rattle.std.proofs.lemmas.List.{take_all, take-append-le}
-use Rattle.std.proofs.lemmas.Bool.{cases_lt, cases_Bool}
+use Rattle.std.proofs.lemmas.Bool.{cases_lt}
 use Rattle.param_tree.specs.declared.Var.{Var}
 use Rattle.param_tree.specs.Rows.{vehicle_rows}
 use Rattle.storage_lines.specs.declared.lines.LineWrite.{LineWrite}
@@ -19,10 +19,10 @@ use Rattle.param_service.specs.Service.{is_total, writes_for, set_writes}
 use Rattle.vehicle_core.specs.Vehicle.{Parameters}
 use Rattle.vehicle_core.specs.Acts.{Act, Said, heard_as, did}
 use Rattle.vehicle_node.specs.Runs.{Run, did_in, act_done, all_acts, start}
-use Rattle.vehicle_node.proofs.RunLaws.{Extends, extends_all, all_acts-append}
+use Rattle.vehicle_node.proofs.RunLaws.{extends_all, all_acts-append}
 use Rattle.vehicle_laws.specs.Fitting.{ActFits, AllFit}
 use Rattle.vehicle_laws.specs.Uploads.{run_over}
-use Rattle.vehicle_laws.specs.Rows.{row_of_act, AllLeave, KeepsParams, SetsTo, SetsOnly, IsSetting}
+use Rattle.vehicle_laws.specs.Rows.{row_of_act, AllLeave, SetsOnly, IsSetting}
 use Rattle.vehicle_laws.specs.Laws.{StartsFormatted, LawOfLastValues}
 use Rattle.vehicle_laws.proofs.RowSteps.{same_value, row_sets, law_of_records}
 use Rattle.vehicle_laws.proofs.Status.{status, run_snoc, fit_before, fit_since}

@@ -1,11 +1,9 @@
 -- What is read of frames fits.
-use Rattle.std.proofs.Common.{◌≡◌, ◌⊎◌, inl, inr, ℕ, Bool, true, false, cond, List, [], ◌∷◌, ◌++◌, refl, sym, ◌∙◌, ap, subst, Option, Some, None}
-use Rattle.std.specs.Prelude.{IfSome, slice_get, map, option_map, ◌==◌, if◌then◌else◌}
-use Rattle.std.specs.List.{range_with_len}
+use Rattle.std.proofs.Common.{◌≡◌, inl, inr, ℕ, cond, List, [], ◌∷◌, ◌++◌, refl, sym, subst, Option, Some, None}
+use Rattle.std.specs.Prelude.{IfSome, slice_get, map, option_map, ◌==◌}
 use Rattle.std.proofs.lemmas.Bool.{cond_both}
 use Rattle.flash_traits.specs.Losses.{Received, Datagram, Idle, End}
 use Rattle.param_tree.specs.declared.Var.{Var}
-use Rattle.param_tree.specs.Rules.{has_name}
 use Rattle.param_tree.specs.Rows.{vehicle_rows}
 use Rattle.param_records.specs.Steps.{IsKept}
 use Rattle.param_records.proofs.SetLemmas.{kept_number}
@@ -22,11 +20,11 @@ use Rattle.mission_service.specs.Requests as missions
 use Rattle.mission_service.specs.Requests.{Begin, Give, Clear, Count, Show as ShowItem, Cancel, Unsupported}
 use Rattle.mission_service.specs.Asked.{RequestFits, AsksWhatFits}
 use Rattle.vehicle_core.specs.Vehicle.{Asked, Parameters, Missions, Asks, one_of}
-use Rattle.vehicle_core.specs.Acts.{Act, Said, Beat, Stream, heard_as}
-use Rattle.vehicle_node.specs.Reading.{Says, sender_in, AreSaid, IsEvent, Reads, no_rests, streams, beats}
+use Rattle.vehicle_core.specs.Acts.{Act, Beat, Stream}
+use Rattle.vehicle_node.specs.Reading.{sender_in, AreSaid, IsEvent, Reads, no_rests, streams, beats}
 use Rattle.vehicle_node.specs.Frames.{stations}
 use Rattle.mav_frames.specs.Cut.{frames_in}
-use Rattle.vehicle_laws.specs.Fitting.{SettingFits, ClearsOneOrAll, AskedFits, ActFits, AllFit}
+use Rattle.vehicle_laws.specs.Fitting.{SettingFits, ClearsOneOrAll, AskedFits, AllFit}
 use Rattle.vehicle_laws.specs.Laws.{acts_of, ReadActsFit}
 
 -- what is asked of the parameters, if anything

@@ -1,13 +1,12 @@
 -- What the lines of an act leave of the rows of the table.
 use Rattle.std.proofs.Common.{◌≡◌, ◌≢◌, ◌⊎◌, inl, inr, ℕ, ◌+◌, ◌<◌, ◌≤◌, List, [], ◌∷◌, ◌++◌, length, take, refl, sym, ◌∙◌, ap, subst, arith, Option, Some, None, append-nil}
-use Rattle.std.specs.Prelude.{Ok, IfSome, IsTrue, slice_get}
 use Rattle.param_tree.specs.declared.Kind.{Kind}
 use Rattle.param_tree.specs.declared.Var.{Var}
 use Rattle.param_tree.specs.Rows.{vehicle_rows}
 use Rattle.storage_lines.specs.declared.lines.LineWrite.{LineWrite}
 use Rattle.storage_lines.specs.declared.lines.TheConstants.{STORAGE_BYTES}
 use Rattle.storage_lines.specs.declared.areas.Area.TheVariants as area
-use Rattle.storage_lines.specs.Areas.{logical_of, size_of_area}
+use Rattle.storage_lines.specs.Areas.{size_of_area}
 use Rattle.storage_lines.specs.Bytes.{IsBytes}
 use Rattle.storage_lines.specs.Lines.{after, EachPrefix}
 use Rattle.storage_lines.specs.Pieces.{writes_of, writes_of_piece}
@@ -15,29 +14,26 @@ use Rattle.storage_lines.proofs.LineLemmas.{after-append, length-after}
 use Rattle.storage_lines.proofs.PieceLemmas.{pieces_in_steps}
 use Rattle.storage_lines.proofs.PrefixLemmas.{prefix_append, prefix_nil}
 use Rattle.param_records.specs.Records.{Record, records_of, end_of, value_in, place_from}
-use Rattle.param_records.specs.Values.{params_of, value_in_records, value_of_number}
+use Rattle.param_records.specs.Values.{params_of, value_in_records}
 use Rattle.param_records.specs.Changes.{fresh, set_pieces, IsFull}
-use Rattle.param_records.specs.Steps.{records_in_storage, place_of_row, IsKept, ReadsBetween}
+use Rattle.param_records.specs.Steps.{records_in_storage, place_of_row, ReadsBetween}
 use Rattle.mission_commands.specs.declared.commands.Command.{Command}
 use Rattle.mission_commands.specs.Storable.{IsStorable}
 use Rattle.mission_records.specs.declared.reading.TheConstants.{CAPACITY, TOTAL_INDEX}
 use Rattle.mission_records.specs.Mission.{version, total_row, place_of_command, command_bytes, total_writes, version_writes, command_writes, begin_writes, put_writes}
 use Rattle.mission_records.specs.Steps.{IsFormatted}
 use Rattle.mission_records.proofs.Commands.{length-command}
-use Rattle.mission_records.proofs.Totals.{all_writes, total_there, Setting, sets, total_setting, zero_fits, clears}
+use Rattle.mission_records.proofs.Totals.{all_writes, Setting, sets, total_setting, zero_fits}
 use Rattle.fence_records.specs.Lists as fences
 use Rattle.mission_service.specs.declared.requests.MissionType.{MissionType}
 use Rattle.mission_service.specs.declared.requests.MissionType.TheVariants.{Mission, Fence}
 use Rattle.mission_service.specs.Uploads.{kinds, Missions}
 use Rattle.mission_service.specs.Requests.{Begin, Clear}
 use Rattle.mission_service.specs.Service.{clear_writes}
-use Rattle.vehicle_core.specs.Acts.{Act}
-use Rattle.vehicle_node.specs.Runs.{did_in}
 use Rattle.vehicle_laws.specs.Fitting.{ClearsOneOrAll}
 use Rattle.vehicle_laws.specs.Uploads.{run_over}
-use Rattle.vehicle_laws.specs.Rows.{total_to_set, row_of_act, KeepsParams, SetsTo, SetsOnly}
+use Rattle.vehicle_laws.specs.Rows.{total_to_set, KeepsParams, SetsTo, SetsOnly}
 use Rattle.vehicle_laws.specs.Laws.{LawOfRecords}
-use Rattle.vehicle_laws.proofs.Keeping.{formatted_then}
 use Rattle.vehicle_laws.proofs.ActLines.{OfRow, OfMissions, act_lines}
 use Rattle.vehicle_laws.proofs.Fences.{clear_beside, replace_beside}
 use Rattle.vehicle_laws.proofs.FenceSteps.{HasPlace, has_place}

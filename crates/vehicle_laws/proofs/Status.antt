@@ -1,33 +1,22 @@
 -- At each act of a run no upload of a mission is open, or one has been opened and goes on since.
-use Rattle.std.proofs.Common.{◌≡◌, ◌≢◌, ◌⊎◌, inl, inr, ℕ, zero, suc, ◌+◌, ◌-◌, ◌<◌, ◌≤◌, Bool, true, false, cond, not, List, [], ◌∷◌, ◌++◌, length, take, refl, sym, ◌∙◌, ap, subst, arith, Option, Some, None, append_assoc, append-nil, length-append}
-use Rattle.std.specs.Prelude.{Result, Ok, Err, ◌==◌, map}
-use Rattle.std.specs.Option.{option_map_or}
-use Rattle.std.proofs.lemmas.List.{length_push}
-use Rattle.std.proofs.lemmas.Bool.{cases_Bool, cond_both, eqb-true, eq-eqb, not-true, not-false, not_from_true}
-use Rattle.storage_lines.specs.declared.lines.LineWrite.{LineWrite}
+use Rattle.std.proofs.Common.{◌≡◌, ◌⊎◌, inl, inr, ℕ, ◌+◌, List, [], ◌∷◌, ◌++◌, length, refl, sym, ◌∙◌, ap, subst, arith, Option, Some, append_assoc, append-nil, length-append}
 use Rattle.storage_lines.specs.Lines.{after}
 use Rattle.storage_lines.proofs.LineLemmas.{after-append}
-use Rattle.param_records.specs.Changes.{IsFull}
-use Rattle.param_records.specs.Steps.{records_in_storage}
-use Rattle.mission_commands.specs.declared.commands.Command.{Command}
-use Rattle.mission_records.specs.declared.reading.TheConstants.{CAPACITY}
-use Rattle.mission_records.specs.Mission.{total_row, mission_of, put_writes}
-use Rattle.mission_records.specs.Steps.{IsFormatted, IsTotalInOneLine, HasVersion, StaysFormatted}
+use Rattle.mission_records.specs.Steps.{IsFormatted, IsTotalInOneLine, StaysFormatted}
 use Rattle.mission_service.specs.declared.requests.MissionType.{MissionType}
 use Rattle.mission_service.specs.declared.requests.MissionType.TheVariants.{Mission}
-use Rattle.mission_service.specs.Uploads.{Upload, Uploads, Open}
+use Rattle.mission_service.specs.Uploads.{Upload, Open}
 use Rattle.mission_service.specs.Requests.{Request, Begin}
 use Rattle.vehicle_core.specs.Vehicle.{Asked, Missions}
 use Rattle.vehicle_core.specs.Acts.{Act, Said, Beat, Stream}
 use Rattle.vehicle_node.specs.Runs.{Run, did_in, act_done, all_acts, start}
-use Rattle.vehicle_laws.specs.Uploads.{run_over, says, Opens, OpensNone, GoesOn, IsUpload, given_from, commands_from, command_in}
+use Rattle.vehicle_laws.specs.Uploads.{run_over, says, Opens, OpensNone, GoesOn, given_from, commands_from, command_in}
 use Rattle.vehicle_laws.specs.Fitting.{ActFits, AllFit}
-use Rattle.vehicle_laws.specs.Laws.{IsPrefixOf, LawOfMissions}
+use Rattle.vehicle_laws.specs.Laws.{LawOfMissions}
 use Rattle.mission_records.proofs.Totals.{all_writes}
 use Rattle.vehicle_node.proofs.RunLaws.{all_acts-append}
 use Rattle.vehicle_laws.proofs.Keeping.{formatted_then}
-use Rattle.vehicle_laws.proofs.Effects.{Off, Stays, Put}
-use Rattle.vehicle_laws.proofs.ActEffects.{missions_at, ActBegun, act_effect}
+use Rattle.vehicle_laws.proofs.ActEffects.{missions_at, act_effect}
 use Rattle.vehicle_laws.proofs.Held.{Held, Ongoing, Step, IsClosed, given_in, more_from, begun, step_stays, step_put, from_cons, goes_on}
 
 pub run_snoc : (b : List ℕ) (ps : List Act) (p : Act) → run_over b (ps ++ p ∷ []) ≡ act_done b (run_over b ps) p
@@ -51,7 +40,7 @@ pub goes_snoc : (t : MissionType) (b : List ℕ) (r : Run) (ps : List Act) (p : 
 goes_snoc t b r [] p g h = h
 goes_snoc t b r (q ∷ ps) p g h = (g.0, g.1, goes_snoc t b (act_done b r q) ps p g.2 h)
 
--- one upload has been opened behind some first acts, and these are its acts
+-- one upload has been opened after some first acts, and these are its acts
 pub record OpenSince (b : List ℕ) (done : List Act) : Type 0 where
   pub before : List Act
   pub opening : Act
@@ -69,7 +58,7 @@ pub record Status (b : List ℕ) (done : List Act) : Type 0 where
   pub one_line : IsTotalInOneLine (after b (start b).issued) → IsTotalInOneLine (after b (run_over b done).issued)
   pub then : IsClosed (run_over b done) ⊎ OpenSince b done
 
--- the run is behind the opening and the acts since
+-- the run is after the opening and the acts since
 pub run_since : (b : List ℕ) (done before since : List Act) (opening : Act) → done ≡ before ++ opening ∷ since → all_acts b (run_over b (before ++ opening ∷ [])) since ≡ run_over b done
 run_since b done before since opening e =
     sym (all_acts-append b (start b) (before ++ opening ∷ []) since)

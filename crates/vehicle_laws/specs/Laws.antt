@@ -1,5 +1,5 @@
 -- The laws over runs: of missions, of uploads, of fences, and of what the start leaves.
-use Rattle.std.specs.Prelude.{◌≡◌, ◌≢◌, ◌⊎◌, ◌≤◌, ◌<◌, ℕ, List, [], ◌∷◌, ◌++◌, length, take, Some, slice_get}
+use Rattle.std.specs.Prelude.{◌≡◌, ◌⊎◌, ◌≤◌, ◌<◌, ℕ, List, [], ◌∷◌, ◌++◌, length, take, Some, slice_get}
 use Rattle.std.specs.List.{flat_map}
 use Rattle.flash_traits.specs.Losses.{Received}
 use Rattle.storage_lines.specs.declared.lines.TheConstants.{STORAGE_BYTES}

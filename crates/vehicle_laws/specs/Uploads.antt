@@ -1,11 +1,10 @@
 -- Uploads in a run: where one opens, how long it goes on, where it ends, and what its station
 -- gives.
-use Rattle.std.specs.Prelude.{◌≡◌, ℕ, ◌+◌, Bool, ◌==◌, if◌then◌else◌, List, [], ◌∷◌, ◌++◌, Option, Some, None, Result, Ok, Err}
+use Rattle.std.specs.Prelude.{◌≡◌, ℕ, ◌+◌, Bool, ◌==◌, if◌then◌else◌, List, [], ◌∷◌, ◌++◌, Option, Some, None, Ok}
 use Rattle.std.specs.Option.{option_map_or}
 use Rattle.mission_commands.specs.declared.commands.Command.{Command}
 use Rattle.fence_records.specs.declared.items.FenceItem.{FenceItem}
 use Rattle.mission_service.specs.declared.requests.MissionType.{MissionType}
-use Rattle.mission_service.specs.declared.requests.MissionType.TheVariants.{Mission, Fence}
 use Rattle.mission_service.specs.declared.uploads.Target.{Target}
 use Rattle.mission_service.specs.Uploads.{Upload, Uploads, Open, uploads_of}
 use Rattle.mission_service.specs.Requests.{Given, ForMission, ForFence, Request, Begin, Give, type_of_given}
