@@ -1,31 +1,38 @@
 -- What boot leaves.
-use Rattle.std.proofs.Common.{◌≡◌, inl, inr, ℕ, zero, suc, ◌<◌, Bool, true, false, cond, List, [], ◌∷◌, ◌++◌, length, take, refl, sym, ◌∙◌, ap, subst, arith, append-nil}
+use Rattle.std.proofs.Common.{◌≡◌, inl, inr, ℕ, zero, suc, ◌<◌, Bool, true, false, cond, List, [], ◌∷◌, ◌++◌, length, take, refl, sym, ◌∙◌, ap, subst, arith, append-nil, ◌≢◌}
 use Rattle.std.specs.Prelude.{nat_lt, ◌&&◌, All}
 use Rattle.std.specs.Str.{bytes_eq}
-use Rattle.std.proofs.lemmas.Bool.{cases_Bool, and_parts, ltb-true}
+use Rattle.std.proofs.lemmas.Bool.{cases_Bool, and_parts, ltb-true, cases_lt}
 use Rattle.std.proofs.lemmas.Slice.Eq.{bytes_eq-Decides}
 use Rattle.storage_lines.specs.declared.lines.LineWrite.{LineWrite}
 use Rattle.storage_lines.specs.declared.lines.TheConstants.{STORAGE_BYTES}
-use Rattle.storage_lines.specs.declared.areas.Area.TheVariants.{Param}
+use Rattle.storage_lines.specs.declared.areas.Area.TheVariants.{Param, Fence}
 use Rattle.storage_lines.specs.Areas.{logical_of}
 use Rattle.storage_lines.specs.Bytes.{IsBytes}
 use Rattle.storage_lines.specs.Lines.{after, EachPrefix}
 use Rattle.storage_lines.specs.Pieces.{Piece, writes_of}
 use Rattle.storage_lines.proofs.LineLemmas.{length-after}
-use Rattle.param_records.specs.Records.{magic}
+use Rattle.param_records.specs.Records.{Record, magic}
 use Rattle.param_records.specs.Changes.{piece, formatting, total_zero}
 use Rattle.param_records.specs.Steps.{HasMagic}
 use Rattle.std.proofs.lemmas.List.Elements.{All-nil, All-cons}
 use Rattle.storage_lines.proofs.PrefixLemmas.{prefix_nil}
 use Rattle.param_records.proofs.FormatLemmas.{formats}
 use Rattle.param_records.proofs.OtherAreas.{IsParamPiece, two_fit}
-use Rattle.param_records.proofs.StepLemmas.{front_is}
+use Rattle.param_records.proofs.StepLemmas.{front_is, no_records}
 use Rattle.mission_records.proofs.Totals.{all_writes}
 use Rattle.mission_records.proofs.Pieces.{all_low}
 use Rattle.mission_records.specs.Steps.{IsFormatted, IsTotalInOneLine}
 use Rattle.mission_records.proofs.Puts.{in_one_line}
 use Rattle.vehicle_node.specs.Runs.{boot, start}
 use Rattle.vehicle_laws.specs.Laws.{StartsFormatted, BootFormats}
+use Rattle.std.proofs.lemmas.List.{take_all}
+use Rattle.param_records.specs.Values.{value_in_records}
+use Rattle.param_records.proofs.RecordLemmas.{records_are}
+use Rattle.mission_records.specs.Mission.{total_row, count_of, mission_of}
+use Rattle.mission_records.proofs.Commands.{empty_mission}
+use Rattle.fence_records.specs.Lists.{fence_of}
+use Rattle.vehicle_laws.proofs.FenceSteps.{same_fence}
 
 nil_bytes : IsBytes []
 nil_bytes i = omega arith
@@ -101,5 +108,41 @@ boot_unformatted b j size =
       | inr other ↦ subst P (sym (boot_all b other)) (λ less. (all b size).unformatted (no_magic b other) j less)
     ]
 
+-- without the magic there is no mission
+none_stored : (now : List ℕ) → ¬ HasMagic now → mission_of now ≡ []
+none_stored now h = empty_mission now (ap (λ (rs : List Record). count_of (value_in_records rs total_row)) (no_records (logical_of Param now) h))
+
+none_formatted : (b : List ℕ) → length b ≡ STORAGE_BYTES → mission_of (after b (writes_of b formatting)) ≡ []
+none_formatted b size =
+    let all = formats in
+    let now = after b (writes_of b formatting) in
+    empty_mission now (ap (λ (rs : List Record). count_of (value_in_records rs total_row)) (records_are (logical_of Param now) (total_zero ∷ []) 10 (all b size).whole))
+
+boot_mission : (b : List ℕ) → length b ≡ STORAGE_BYTES → EachPrefix (λ now. mission_of now ≡ mission_of b) b (boot b)
+boot_mission b size =
+    let all = formats in
+    let ws = writes_of b formatting in
+    let P : List LineWrite → Type 0 = λ ws. EachPrefix (λ now. mission_of now ≡ mission_of b) b ws in
+    elim (cases_Bool (bytes_eq (take 4 (logical_of Param b)) magic)) [
+      | inl same ↦ subst P (sym (boot_none b same)) (prefix_nil (λ now. mission_of now ≡ mission_of b) b refl)
+      | inr other ↦ subst P (sym (boot_all b other)) (λ j h. elim (cases_lt j (length ws)) [
+        | inl fewer ↦ none_stored (after b (take j ws)) ((all b size).unformatted (no_magic b other) j fewer) ∙ sym (none_stored b (no_magic b other))
+        | inr whole ↦ ap (λ (l : List LineWrite). mission_of (after b l)) (take_all j ws whole) ∙ none_formatted b size ∙ sym (none_stored b (no_magic b other))
+      ])
+    ]
+
+fence_not_param : Fence ≢ Param
+fence_not_param e = cc
+
+boot_fence : (b : List ℕ) → length b ≡ STORAGE_BYTES → EachPrefix (λ now. fence_of now ≡ fence_of b) b (boot b)
+boot_fence b size =
+    let all = formats in
+    let ws = writes_of b formatting in
+    let P : List LineWrite → Type 0 = λ ws. EachPrefix (λ now. fence_of now ≡ fence_of b) b ws in
+    elim (cases_Bool (bytes_eq (take 4 (logical_of Param b)) magic)) [
+      | inl same ↦ subst P (sym (boot_none b same)) (prefix_nil (λ now. fence_of now ≡ fence_of b) b refl)
+      | inr other ↦ subst P (sym (boot_all b other)) (λ j h. same_fence (after b (take j ws)) b ((all b size).areas j h Fence fence_not_param))
+    ]
+
 pub boot_formats : BootFormats
-boot_formats = record { formatted = boot_formatted; in_one_line = boot_in_one_line; unformatted = boot_unformatted; bytes = boot_bytes }
+boot_formats = record { formatted = boot_formatted; in_one_line = boot_in_one_line; unformatted = boot_unformatted; bytes = boot_bytes; mission = boot_mission; fence = boot_fence }

@@ -143,8 +143,8 @@ is_given (Said s heard) = asks_to_take heard.asked
 is_given _ = false
 
 -- an act that gives an item opens no upload
-pub gives_not_opens : (t : MissionType) (b : List ℕ) (r : Run) (p : Act) (s : ℕ) (v : Bool) (target : Target) (number seq : ℕ) (given : Given) → p ≡ says s v target number (Give seq given) → OpensNone t b r p
-gives_not_opens t b r p s v target number seq given e n m o = let clash : true ≡ false = ap is_given (sym e ∙ o.is) in cc
+pub gives_not_opens : (t : MissionType) (b : List ℕ) (r : Run) (act : Act) (s : ℕ) (v : Bool) (target : Target) (number seq : ℕ) (given : Given) → act ≡ says s v target number (Give seq given) → OpensNone t b r act
+gives_not_opens t b r act s v target number seq given e n m o = let clash : true ≡ false = ap is_given (sym e ∙ o.is) in cc
 
 mission_given : (g : Given) → type_of_given g ≡ Mission → (stored : Result Command ℕ) × (g ≡ ForMission stored)
 mission_given (ForMission stored) e = (stored, refl)
@@ -167,14 +167,14 @@ law_of_uploads b acts last u f fit ends =
     let said : Act = says u.owner ends.v2 ends.sender ends.number (Give ends.seq (ForMission stored)) in
     let is : last ≡ said = ends.is ∙ ap (λ (g : Given). says u.owner ends.v2 ends.sender ends.number (Give ends.seq g)) chosen.1 in
     let fits : ActFits said = subst ActFits is (fit_since acts (last ∷ []) fit).0 in
-    let zero : told_zero (did_in b s said).told ≡ true = ap (λ (p : Act). told_zero (did_in b s p).told) (sym is) ∙ ap told_zero ends.told in
+    let zero : told_zero (did_in b s said).told ≡ true = ap (λ (act : Act). told_zero (did_in b s act).told) (sym is) ∙ ap told_zero ends.told in
     let lp = last_act b s u ends.v2 ends.sender ends.number ends.seq stored ends.was_open fits.0 zero in
     let c = lp.command in
     let seq_is : (ends.seq == length cs) ≡ true = ap (λ (n : ℕ). ends.seq == n) (sym expected) ∙ lp.next in
     let own : (x.station == u.owner) ≡ true = eq-eqb x.station u.owner (sym owner) in
     let storable : IsStorable c = subst (λ (r : Result Command ℕ). GivenFits (ForMission r)) lp.stored_is fits.0 in
     let gives : command_given x.station (length cs) last ≡ Some c =
-    ap (λ (p : Act). command_given x.station (length cs) p) is
+    ap (λ (act : Act). command_given x.station (length cs) act) is
     ∙ ap (λ (r : Result Command ℕ). command_given x.station (length cs) (says u.owner ends.v2 ends.sender ends.number (Give ends.seq (ForMission r)))) lp.stored_is
     ∙ ap (λ (t : Bool). cond t (cond (ends.seq == length cs) (Some c) None) None) own
     ∙ ap (λ (t : Bool). cond t (Some c) None) seq_is in
@@ -191,7 +191,7 @@ law_of_uploads b acts last u f fit ends =
     let end : after b (run_over b (acts ++ last ∷ [])).issued ≡ after bytes ws =
     ap (λ (r : Run). after b r.issued) (run_snoc b acts last)
     ∙ after-append b s.issued (did_in b s last).writes
-    ∙ ap (λ (p : Act). after bytes (did_in b s p).writes) is
+    ∙ ap (λ (act : Act). after bytes (did_in b s act).writes) is
     ∙ ap (λ (l : List LineWrite). after bytes l) lp.writes_are in
     let alone = gives_not_opens Mission b s last u.owner ends.v2 ends.sender ends.number ends.seq ends.given ends.is in
     let goes : GoesOn Mission b (run_over b (x.before ++ x.opening ∷ [])) (x.since ++ last ∷ []) =

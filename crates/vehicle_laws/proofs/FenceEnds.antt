@@ -131,14 +131,14 @@ law_of_fence_uploads b acts last u size fit ends =
     let said : Act = says u.owner ends.v2 ends.sender ends.number (Give ends.seq (ForFence stored)) in
     let is : last ≡ said = ends.is ∙ ap (λ (g : Given). says u.owner ends.v2 ends.sender ends.number (Give ends.seq g)) chosen.1 in
     let fits : ActFits said = subst ActFits is (fit_since acts (last ∷ []) fit).0 in
-    let zero : told_zero (did_in b s said).told ≡ true = ap (λ (p : Act). told_zero (did_in b s p).told) (sym is) ∙ ap told_zero ends.told in
+    let zero : told_zero (did_in b s said).told ≡ true = ap (λ (act : Act). told_zero (did_in b s act).told) (sym is) ∙ ap told_zero ends.told in
     let lp = last_act b s u ends.v2 ends.sender ends.number ends.seq stored ends.was_open fits.0 zero in
     let i = lp.item in
     let good : IsFenceItem i = subst (λ (r : Result FenceItem ℕ). GivenFits (ForFence r)) lp.stored_is fits.0 in
     let seq_is : (ends.seq == length items) ≡ true = ap (λ (n : ℕ). ends.seq == n) (sym expected) ∙ lp.next in
     let own : (x.station == u.owner) ≡ true = eq-eqb x.station u.owner (sym owner) in
     let gives : item_given x.station (length items) last ≡ Some i =
-    ap (λ (p : Act). item_given x.station (length items) p) is
+    ap (λ (act : Act). item_given x.station (length items) act) is
     ∙ ap (λ (r : Result FenceItem ℕ). item_given x.station (length items) (says u.owner ends.v2 ends.sender ends.number (Give ends.seq (ForFence r)))) lp.stored_is
     ∙ ap (λ (t : Bool). cond t (cond (ends.seq == length items) (Some i) None) None) own
     ∙ ap (λ (t : Bool). cond t (Some i) None) seq_is in
@@ -154,7 +154,7 @@ law_of_fence_uploads b acts last u size fit ends =
     let end : after b (run_over b (acts ++ last ∷ [])).issued ≡ after bytes ws =
     ap (λ (r : Run). after b r.issued) (run_snoc b acts last)
     ∙ after-append b s.issued (did_in b s last).writes
-    ∙ ap (λ (p : Act). after bytes (did_in b s p).writes) is in
+    ∙ ap (λ (act : Act). after bytes (did_in b s act).writes) is in
     let alone = gives_not_opens Fence b s last u.owner ends.v2 ends.sender ends.number ends.seq ends.given ends.is in
     let goes : GoesOn Fence b (run_over b (x.before ++ x.opening ∷ [])) (x.since ++ last ∷ []) =
     goes_snoc Fence b (run_over b (x.before ++ x.opening ∷ [])) x.since last x.goes

@@ -34,10 +34,10 @@ abbrev pub item_given : ℕ → ℕ → Act → Option FenceItem
 item_given station seq act = said_in (fence_item_in seq) station act
 
 -- An act opens an upload of a fence.
-pub record ActOpens (b : List ℕ) (r : Run) (p : Act) (now : Uploads) : Type 0 where
+pub record ActOpens (b : List ℕ) (r : Run) (act : Act) (now : Uploads) : Type 0 where
   pub station : ℕ
   pub count : ℕ
-  pub opens : Opens Fence b r p station count
+  pub opens : Opens Fence b r act station count
   pub becomes : Becomes station count 0 [] now
   pub some : 0 < count
 
@@ -130,19 +130,19 @@ pub fit_push : (xs : List FenceItem) (i : FenceItem) → AreFenceItems xs → Is
 fit_push [] i h f = (f, tt)
 fit_push (x ∷ xs) i h f = (h.0, fit_push xs i h.1 f)
 
-becomes_same : (o c e p d f : ℕ) (k l : List FenceItem) (now : Uploads) → o ≡ p → c ≡ d → e ≡ f → k ≡ l → Becomes o c e k now → Becomes p d f l now
-becomes_same o c e p d f k l now a g h i x = record { upload = x.upload; now_is = x.now_is; owner_is = x.owner_is ∙ a; count_is = x.count_is ∙ g; expected_is = x.expected_is ∙ h; kept_is = x.kept_is ∙ i }
+becomes_same : (o c e act d f : ℕ) (k l : List FenceItem) (now : Uploads) → o ≡ act → c ≡ d → e ≡ f → k ≡ l → Becomes o c e k now → Becomes act d f l now
+becomes_same o c e act d f k l now a g h i x = record { upload = x.upload; now_is = x.now_is; owner_is = x.owner_is ∙ a; count_is = x.count_is ∙ g; expected_is = x.expected_is ∙ h; kept_is = x.kept_is ∙ i }
 
-same_given : (u : Upload) (station n : ℕ) (p : Act) → u.owner ≡ station → u.expected ≡ n → item_given u.owner u.expected p ≡ item_given station n p
-same_given u station n p a e = ap (λ (k : ℕ). item_given k u.expected p) a ∙ ap (λ (k : ℕ). item_given station k p) e
+same_given : (u : Upload) (station n : ℕ) (act : Act) → u.owner ≡ station → u.expected ≡ n → item_given u.owner u.expected act ≡ item_given station n act
+same_given u station n act a e = ap (λ (k : ℕ). item_given k u.expected act) a ∙ ap (λ (k : ℕ). item_given station k act) e
 
 below_more : (e n c count m : ℕ) → e ≡ n → c ≡ count → m ≡ n + 1 → n < count → (e + 1 ≡ c → ⊥) → m < count
-below_more e n c count m p q r below differ = elim (cases_lt m count) [ inl less ↦ less | inr more ↦ absurd (differ (omega arith)) ]
+below_more e n c count m act q r below differ = elim (cases_lt m count) [ inl less ↦ less | inr more ↦ absurd (differ (omega arith)) ]
 
 -- one act more, which opens no upload
-step : (b : List ℕ) (s : Run) (station count : ℕ) (items : List FenceItem) (p : Act) (u : Upload) → Ongoing s station count items → fences_at s ≡ Open u
-    → FenceStays u (item_given u.owner u.expected p) (fences_at (act_done b s p)) ⊎ FenceKept u (item_given u.owner u.expected p) (fences_at (act_done b s p)) → Ongoing (act_done b s p) station count (items ++ more_from station (length items) p)
-step b s station count items p u o e x =
+step : (b : List ℕ) (s : Run) (station count : ℕ) (items : List FenceItem) (act : Act) (u : Upload) → Ongoing s station count items → fences_at s ≡ Open u
+    → FenceStays u (item_given u.owner u.expected act) (fences_at (act_done b s act)) ⊎ FenceKept u (item_given u.owner u.expected act) (fences_at (act_done b s act)) → Ongoing (act_done b s act) station count (items ++ more_from station (length items) act)
+step b s station count items act u o e x =
     let same : u ≡ o.becomes.upload = let both : Open u ≡ Open o.becomes.upload = sym e ∙ o.becomes.now_is in cc in
     let owner : u.owner ≡ station = ap (λ (v : Upload). v.owner) same ∙ o.becomes.owner_is in
     let expected : u.expected ≡ length items = ap (λ (v : Upload). v.expected) same ∙ o.becomes.expected_is in
@@ -150,21 +150,21 @@ step b s station count items p u o e x =
     let kept : u.kept ≡ items = ap (λ (v : Upload). v.kept) same ∙ o.becomes.kept_is in
     elim x [
       | inl y ↦
-          let none : item_given station (length items) p ≡ None = sym (same_given u station (length items) p owner expected) ∙ y.0 in
-          let no_more : items ++ more_from station (length items) p ≡ items = ap (λ (g : Option FenceItem). items ++ option_map_or (λ i. i ∷ []) g []) none ∙ append-nil items in
-          let on : Ongoing (act_done b s p) station count items = record { becomes = becomes_same u.owner u.count u.expected station count (length items) u.kept items (fences_at (act_done b s p)) owner count_is expected kept y.1; below = o.below; fit = o.fit } in
-          subst (Ongoing (act_done b s p) station count) (sym no_more) on
+          let none : item_given station (length items) act ≡ None = sym (same_given u station (length items) act owner expected) ∙ y.0 in
+          let no_more : items ++ more_from station (length items) act ≡ items = ap (λ (g : Option FenceItem). items ++ option_map_or (λ i. i ∷ []) g []) none ∙ append-nil items in
+          let on : Ongoing (act_done b s act) station count items = record { becomes = becomes_same u.owner u.count u.expected station count (length items) u.kept items (fences_at (act_done b s act)) owner count_is expected kept y.1; below = o.below; fit = o.fit } in
+          subst (Ongoing (act_done b s act) station count) (sym no_more) on
       | inr y ↦
-          let gives : item_given station (length items) p ≡ Some y.item = sym (same_given u station (length items) p owner expected) ∙ y.gives in
+          let gives : item_given station (length items) act ≡ Some y.item = sym (same_given u station (length items) act owner expected) ∙ y.gives in
           let ds = items ++ y.item ∷ [] in
-          let more : items ++ more_from station (length items) p ≡ ds = ap (λ (g : Option FenceItem). items ++ option_map_or (λ i. i ∷ []) g []) gives in
+          let more : items ++ more_from station (length items) act ≡ ds = ap (λ (g : Option FenceItem). items ++ option_map_or (λ i. i ∷ []) g []) gives in
           let long : length ds ≡ length items + 1 = length_push items y.item in
-          let on : Ongoing (act_done b s p) station count ds = record {
-            becomes = becomes_same u.owner u.count (u.expected + 1) station count (length ds) (u.kept ++ y.item ∷ []) ds (fences_at (act_done b s p)) owner count_is (omega arith) (ap (λ (l : List FenceItem). l ++ y.item ∷ []) kept) y.becomes;
+          let on : Ongoing (act_done b s act) station count ds = record {
+            becomes = becomes_same u.owner u.count (u.expected + 1) station count (length ds) (u.kept ++ y.item ∷ []) ds (fences_at (act_done b s act)) owner count_is (omega arith) (ap (λ (l : List FenceItem). l ++ y.item ∷ []) kept) y.becomes;
             below = below_more u.expected (length items) u.count count (length ds) expected count_is long o.below (eqb-false (u.expected + 1) u.count y.more);
             fit = fit_push items y.item o.fit y.fits;
           } in
-          subst (Ongoing (act_done b s p) station count) (sym more) on
+          subst (Ongoing (act_done b s act) station count) (sym more) on
     ]
 
 pub record OpenSince (b : List ℕ) (done : List Act) : Type 0 where
@@ -184,15 +184,15 @@ Status b done = IsClosed (run_over b done) ⊎ OpenSince b done
 pub the_open : (b : List ℕ) (done : List Act) (u : Upload) → Status b done → fences_at (run_over b done) ≡ Open u → OpenSince b done
 the_open b done u st e = elim st [ inl closed ↦ absurd (closed u e) | inr x ↦ x ]
 
-status_step : (b : List ℕ) (done : List Act) (p : Act) → ActFits p → Status b done → Status b (done ++ p ∷ [])
-status_step b done p fits st =
+status_step : (b : List ℕ) (done : List Act) (act : Act) → ActFits act → Status b done → Status b (done ++ act ∷ [])
+status_step b done act fits st =
     let s = run_over b done in
-    let t = act_done b s p in
-    let e : run_over b (done ++ p ∷ []) ≡ t = run_snoc b done p in
-    elim (fence_act b s p fits) [
+    let t = act_done b s act in
+    let e : run_over b (done ++ act ∷ []) ≡ t = run_snoc b done act in
+    elim (fence_act b s act fits) [
       | inl x ↦ inr (record {
         before = done;
-        opening = p;
+        opening = act;
         since = [];
         station = x.station;
         count = x.count;
@@ -207,30 +207,30 @@ status_step b done p fits st =
             let x = the_open b done z.0 st z.1 in
             let cs = fence_items_from x.station 0 x.since in
             let zero_more : 0 + length cs ≡ length cs = omega arith in
-            let more : cs ++ more_from x.station (length cs) p ≡ fence_items_from x.station 0 (x.since ++ p ∷ []) = sym (from_snoc fence_item_in x.station 0 x.since p ∙ ap (λ (n : ℕ). cs ++ more_from x.station n p) zero_more) in
-            let on = step b s x.station x.count cs p z.0 x.ongoing z.1 z.2 in
+            let more : cs ++ more_from x.station (length cs) act ≡ fence_items_from x.station 0 (x.since ++ act ∷ []) = sym (from_snoc fence_item_in x.station 0 x.since act ∙ ap (λ (n : ℕ). cs ++ more_from x.station n act) zero_more) in
+            let on = step b s x.station x.count cs act z.0 x.ongoing z.1 z.2 in
             let is_open : (u : Upload) × (fences_at s ≡ Open u) = (z.0, z.1) in
             inr (record {
               before = x.before;
               opening = x.opening;
-              since = x.since ++ p ∷ [];
+              since = x.since ++ act ∷ [];
               station = x.station;
               count = x.count;
-              split = ap (λ (l : List Act). l ++ p ∷ []) x.split ∙ append_assoc x.before (x.opening ∷ x.since) (p ∷ []);
+              split = ap (λ (l : List Act). l ++ act ∷ []) x.split ∙ append_assoc x.before (x.opening ∷ x.since) (act ∷ []);
               opens = x.opens;
-              goes = goes_snoc Fence b (run_over b (x.before ++ x.opening ∷ [])) x.since p x.goes
-                  (subst (λ (r : Run). GoesOn Fence b r (p ∷ [])) (sym (run_since b done x.before x.since x.opening x.split)) (is_open, y.0, tt));
-              ongoing = subst (λ (r : Run). Ongoing r x.station x.count (fence_items_from x.station 0 (x.since ++ p ∷ []))) (sym e) (subst (Ongoing t x.station x.count) more on);
+              goes = goes_snoc Fence b (run_over b (x.before ++ x.opening ∷ [])) x.since act x.goes
+                  (subst (λ (r : Run). GoesOn Fence b r (act ∷ [])) (sym (run_since b done x.before x.since x.opening x.split)) (is_open, y.0, tt));
+              ongoing = subst (λ (r : Run). Ongoing r x.station x.count (fence_items_from x.station 0 (x.since ++ act ∷ []))) (sym e) (subst (Ongoing t x.station x.count) more on);
             })
       ]
     ]
 
-status_all : (b : List ℕ) (ps done : List Act) → AllFit ps → Status b done → Status b (done ++ ps)
+status_all : (b : List ℕ) (acts done : List Act) → AllFit acts → Status b done → Status b (done ++ acts)
 status_all b [] done fit st = subst (Status b) (sym (append-nil done)) st
-status_all b (p ∷ ps) done fit st = subst (Status b) (append_assoc done (p ∷ []) ps) (status_all b ps (done ++ p ∷ []) fit.1 (status_step b done p fit.0 st))
+status_all b (act ∷ acts) done fit st = subst (Status b) (append_assoc done (act ∷ []) acts) (status_all b acts (done ++ act ∷ []) fit.1 (status_step b done act fit.0 st))
 
 quiet_at_first : (b : List ℕ) → IsClosed (start b)
 quiet_at_first b u e = cc
 
-pub fence_status : (b : List ℕ) (ps : List Act) → AllFit ps → Status b ps
-fence_status b ps fit = status_all b ps [] fit (inl (quiet_at_first b))
+pub fence_status : (b : List ℕ) (acts : List Act) → AllFit acts → Status b acts
+fence_status b acts fit = status_all b acts [] fit (inl (quiet_at_first b))

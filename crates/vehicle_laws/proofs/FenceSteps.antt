@@ -54,7 +54,7 @@ HasFence bytes now = fence_area now ≡ fence_area bytes
 abbrev Left : List ℕ → List LineWrite → Type 0
 Left bytes ws = EachPrefix (HasFence bytes) bytes ws
 
-same_fence : (a b : List ℕ) → fence_area a ≡ fence_area b → fence_of a ≡ fence_of b
+pub same_fence : (a b : List ℕ) → fence_area a ≡ fence_area b → fence_of a ≡ fence_of b
 same_fence a b e = ap (λ (l : List ℕ). cond (bytes_eq (take 4 l) version_of_fence) (flat_map items_of (fences.figures_in 416 (drop 4 l))) []) e
 
 left_step : (bytes : List ℕ) (ws : List LineWrite) → Left bytes ws → FenceStep bytes ws

@@ -37,7 +37,7 @@ pub prefix_more : (xs ys : List Command) → IsPrefixOf xs (xs ++ ys)
 prefix_more xs ys = (ys, refl)
 
 pub prefix_then : (xs ys zs : List Command) → IsPrefixOf xs ys → IsPrefixOf ys zs → IsPrefixOf xs zs
-prefix_then xs ys zs p q = (p.0 ++ q.0, sym (append_assoc xs p.0 q.0) ∙ ap (λ (l : List Command). l ++ q.0) p.1 ∙ q.1)
+prefix_then xs ys zs act q = (act.0 ++ q.0, sym (append_assoc xs act.0 q.0) ∙ ap (λ (l : List Command). l ++ q.0) act.1 ∙ q.1)
 
 -- the mission is the old one or a prefix of these commands
 abbrev pub IsOldOrPrefix : List Command → List Command → List ℕ → Type 0
@@ -122,10 +122,10 @@ abbrev pub IsClosed : Run → Type 0
 IsClosed s = (u : Upload) → missions_at s ≢ Open u
 
 -- after an opening
-pub begun : (b : List ℕ) (r : Run) (p : Act) → IsFormatted (after b r.issued) → (x : ActBegun b r p (did_in b r p).writes (missions_at (act_done b r p))) → Ongoing b r (act_done b r p) x.station x.count []
-begun b r p f x =
+pub begun : (b : List ℕ) (r : Run) (act : Act) → IsFormatted (after b r.issued) → (x : ActBegun b r act (did_in b r act).writes (missions_at (act_done b r act))) → Ongoing b r (act_done b r act) x.station x.count []
+begun b r act f x =
     let bytes = after b r.issued in
-    let s = act_done b r p in
+    let s = act_done b r act in
     let ws = begin_writes bytes in
     let is : s.issued ≡ r.issued ++ ws = ap (λ (l : List LineWrite). r.issued ++ l) x.writes_are in
     let w = begins bytes f in
@@ -143,35 +143,35 @@ begun b r p f x =
       versioned = ap (λ (l : List ℕ). take 4 (mission_area l)) end ∙ w.versioned;
     }
 
--- one part more: the upload stays open, or ends
-pub record Step (b : List ℕ) (r s : Run) (station count : ℕ) (cs : List Command) (p : Act) : Type 0 where
-  pub held : Held b r (act_done b s p) (cs ++ more_from station (length cs) p)
-  pub then : IsClosed (act_done b s p) ⊎ Ongoing b r (act_done b s p) station count (cs ++ more_from station (length cs) p)
+-- one act more: the upload stays open, or ends
+pub record Step (b : List ℕ) (r s : Run) (station count : ℕ) (cs : List Command) (act : Act) : Type 0 where
+  pub held : Held b r (act_done b s act) (cs ++ more_from station (length cs) act)
+  pub then : IsClosed (act_done b s act) ⊎ Ongoing b r (act_done b s act) station count (cs ++ more_from station (length cs) act)
 
-same_given : (u : Upload) (station n : ℕ) (p : Act) → u.owner ≡ station → u.expected ≡ n → command_given u.owner u.expected p ≡ command_given station n p
-same_given u station n p a e = ap (λ (k : ℕ). command_given k u.expected p) a ∙ ap (λ (k : ℕ). command_given station k p) e
+same_given : (u : Upload) (station n : ℕ) (act : Act) → u.owner ≡ station → u.expected ≡ n → command_given u.owner u.expected act ≡ command_given station n act
+same_given u station n act a e = ap (λ (k : ℕ). command_given k u.expected act) a ∙ ap (λ (k : ℕ). command_given station k act) e
 
-step_off : (b : List ℕ) (r s : Run) (station count : ℕ) (cs : List Command) (p : Act) → Ongoing b r s station count cs → Off (after b s.issued) (did_in b s p).writes (missions_at (act_done b s p)) → Step b r s station count cs p
-step_off b r s station count cs p o x = record {
-  held = held_wider b r (act_done b s p) cs (cs ++ more_from station (length cs) p) (prefix_more cs (more_from station (length cs) p))
-      (held_more b r s (act_done b s p) cs (did_in b s p).writes refl o.held x.empties.stays (λ t j h. elim (x.empties.each t j h) [
-        | inl same ↦ inr ([], append-nil (mission_of (after (after b s.issued) (take j (did_in b s p).writes))) ∙ same ∙ o.mission)
+step_off : (b : List ℕ) (r s : Run) (station count : ℕ) (cs : List Command) (act : Act) → Ongoing b r s station count cs → Off (after b s.issued) (did_in b s act).writes (missions_at (act_done b s act)) → Step b r s station count cs act
+step_off b r s station count cs act o x = record {
+  held = held_wider b r (act_done b s act) cs (cs ++ more_from station (length cs) act) (prefix_more cs (more_from station (length cs) act))
+      (held_more b r s (act_done b s act) cs (did_in b s act).writes refl o.held x.empties.stays (λ t j h. elim (x.empties.each t j h) [
+        | inl same ↦ inr ([], append-nil (mission_of (after (after b s.issued) (take j (did_in b s act).writes))) ∙ same ∙ o.mission)
         | inr none ↦ inr (cs, ap (λ (l : List Command). l ++ cs) none)
       ]));
   then = inl x.closed;
 }
 
-pub step_stays : (b : List ℕ) (r s : Run) (station count : ℕ) (cs : List Command) (p : Act) (u : Upload) → Ongoing b r s station count cs → missions_at s ≡ Open u → Stays (after b s.issued) u (command_given u.owner u.expected p) (did_in b s p).writes (missions_at (act_done b s p)) → Step b r s station count cs p
-step_stays b r s station count cs p u o e x =
+pub step_stays : (b : List ℕ) (r s : Run) (station count : ℕ) (cs : List Command) (act : Act) (u : Upload) → Ongoing b r s station count cs → missions_at s ≡ Open u → Stays (after b s.issued) u (command_given u.owner u.expected act) (did_in b s act).writes (missions_at (act_done b s act)) → Step b r s station count cs act
+step_stays b r s station count cs act u o e x =
     let same : u ≡ o.upload = let both : Open u ≡ Open o.upload = sym e ∙ o.is in cc in
     let owner : u.owner ≡ station = ap (λ (v : Upload). v.owner) same ∙ o.owner in
     let expected : u.expected ≡ length cs = ap (λ (v : Upload). v.expected) same ∙ o.expected in
     let count_is : u.count ≡ count = ap (λ (v : Upload). v.count) same ∙ o.count_is in
-    let none : command_given station (length cs) p ≡ None = sym (same_given u station (length cs) p owner expected) ∙ x.none in
-    let no_more : cs ++ more_from station (length cs) p ≡ cs = ap (λ (g : Option Command). cs ++ option_map_or (λ c. c ∷ []) g []) none ∙ append-nil cs in
+    let none : command_given station (length cs) act ≡ None = sym (same_given u station (length cs) act owner expected) ∙ x.none in
+    let no_more : cs ++ more_from station (length cs) act ≡ cs = ap (λ (g : Option Command). cs ++ option_map_or (λ c. c ∷ []) g []) none ∙ append-nil cs in
     let bytes = after b s.issued in
-    let ws = (did_in b s p).writes in
-    let t = act_done b s p in
+    let ws = (did_in b s act).writes in
+    let t = act_done b s act in
     let end : after b t.issued ≡ after bytes ws = after-append b s.issued ws in
     let held : Held b r t cs = held_more b r s t cs ws refl o.held x.keeps.stays (λ l j h. inr ([], append-nil (mission_of (after bytes (take j ws))) ∙ x.keeps.same j h ∙ o.mission)) in
     let on : Ongoing b r t station count cs = record {
@@ -189,20 +189,20 @@ step_stays b r s station count cs p u o e x =
     record { held = subst (Held b r t) (sym no_more) held; then = inr (subst (Ongoing b r t station count) (sym no_more) on) }
 
 below_more : (e n c count m : ℕ) → e ≡ n → c ≡ count → m ≡ n + 1 → n < count → (e + 1 ≡ c → ⊥) → m < count
-below_more e n c count m p q r below differ = elim (cases_lt m count) [ inl less ↦ less | inr more ↦ absurd (differ (omega arith)) ]
+below_more e n c count m act q r below differ = elim (cases_lt m count) [ inl less ↦ less | inr more ↦ absurd (differ (omega arith)) ]
 
-pub step_put : (b : List ℕ) (r s : Run) (station count : ℕ) (cs : List Command) (p : Act) (u : Upload) → Ongoing b r s station count cs → missions_at s ≡ Open u → Put (after b s.issued) u (command_given u.owner u.expected p) (did_in b s p).writes (missions_at (act_done b s p)) → Step b r s station count cs p
-step_put b r s station count cs p u o e x =
+pub step_put : (b : List ℕ) (r s : Run) (station count : ℕ) (cs : List Command) (act : Act) (u : Upload) → Ongoing b r s station count cs → missions_at s ≡ Open u → Put (after b s.issued) u (command_given u.owner u.expected act) (did_in b s act).writes (missions_at (act_done b s act)) → Step b r s station count cs act
+step_put b r s station count cs act u o e x =
     let same : u ≡ o.upload = let both : Open u ≡ Open o.upload = sym e ∙ o.is in cc in
     let owner : u.owner ≡ station = ap (λ (v : Upload). v.owner) same ∙ o.owner in
     let expected : u.expected ≡ length cs = ap (λ (v : Upload). v.expected) same ∙ o.expected in
     let count_is : u.count ≡ count = ap (λ (v : Upload). v.count) same ∙ o.count_is in
     let c = x.command in
-    let gives : command_given station (length cs) p ≡ Some c = sym (same_given u station (length cs) p owner expected) ∙ x.gives in
+    let gives : command_given station (length cs) act ≡ Some c = sym (same_given u station (length cs) act owner expected) ∙ x.gives in
     let ds = cs ++ c ∷ [] in
-    let more : cs ++ more_from station (length cs) p ≡ ds = ap (λ (g : Option Command). cs ++ option_map_or (λ d. d ∷ []) g []) gives in
+    let more : cs ++ more_from station (length cs) act ≡ ds = ap (λ (g : Option Command). cs ++ option_map_or (λ d. d ∷ []) g []) gives in
     let bytes = after b s.issued in
-    let t = act_done b s p in
+    let t = act_done b s act in
     let long : length (mission_of bytes) ≡ u.expected = ap (λ (l : List Command). length l) o.mission ∙ sym expected in
     let ws = put_writes bytes u.expected c in
     let is : t.issued ≡ s.issued ++ ws = ap (λ (l : List LineWrite). s.issued ++ l) x.writes_are in
@@ -237,15 +237,15 @@ step_put b r s station count cs p u o e x =
       ];
     }
 
--- one part more, which opens no upload
-pub step : (b : List ℕ) (r s : Run) (station count : ℕ) (cs : List Command) (p : Act) → Ongoing b r s station count cs → ActFits p → OpensNone Mission b s p → Step b r s station count cs p
-step b r s station count cs p o fits alone = elim (act_effect b s p o.held.formatted fits) [
+-- one act more, which opens no upload
+pub step : (b : List ℕ) (r s : Run) (station count : ℕ) (cs : List Command) (act : Act) → Ongoing b r s station count cs → ActFits act → OpensNone Mission b s act → Step b r s station count cs act
+step b r s station count cs act o fits alone = elim (act_effect b s act o.held.formatted fits) [
   | inl x ↦ absurd (alone x.station x.count x.opens)
   | inr y ↦ elim y.1 [
-    | inl x ↦ step_off b r s station count cs p o x
+    | inl x ↦ step_off b r s station count cs act o x
     | inr z ↦ elim z.2 [
-      | inl x ↦ step_stays b r s station count cs p z.0 o z.1 x
-      | inr x ↦ step_put b r s station count cs p z.0 o z.1 x
+      | inl x ↦ step_stays b r s station count cs act z.0 o z.1 x
+      | inr x ↦ step_put b r s station count cs act z.0 o z.1 x
     ]
   ]
 ]
@@ -260,19 +260,19 @@ pub from_cons : {X : Type 0} (f : ℕ → Request → Option X) (station seq : �
 from_cons f station seq act acts = given_cons f station seq acts (said_in (f seq) station act)
 
 -- after the end of an upload no act belongs to it
-ends_there : (b : List ℕ) (r s : Run) (cs : List Command) (ps : List Act) → Held b r s cs → IsClosed s → GoesOn Mission b s ps → Held b r (all_acts b s ps) cs
+ends_there : (b : List ℕ) (r s : Run) (cs : List Command) (acts : List Act) → Held b r s cs → IsClosed s → GoesOn Mission b s acts → Held b r (all_acts b s acts) cs
 ends_there b r s cs [] h closed g = h
-ends_there b r s cs (p ∷ ps) h closed g = absurd (closed g.0.0 g.0.1)
+ends_there b r s cs (act ∷ acts) h closed g = absurd (closed g.0.0 g.0.1)
 
 -- the acts of an upload
-pub goes_on : (b : List ℕ) (r s : Run) (station count : ℕ) (cs : List Command) (ps : List Act) → Ongoing b r s station count cs → GoesOn Mission b s ps → AllFit ps → Held b r (all_acts b s ps) (cs ++ commands_from station (length cs) ps)
+pub goes_on : (b : List ℕ) (r s : Run) (station count : ℕ) (cs : List Command) (acts : List Act) → Ongoing b r s station count cs → GoesOn Mission b s acts → AllFit acts → Held b r (all_acts b s acts) (cs ++ commands_from station (length cs) acts)
 goes_on b r s station count cs [] o g fit = subst (Held b r s) (sym (append-nil cs)) o.held
-goes_on b r s station count cs (p ∷ ps) o g fit =
-    let x = step b r s station count cs p o fit.0 g.1 in
-    let m = more_from station (length cs) p in
-    let same : (cs ++ m) ++ commands_from station (length (cs ++ m)) ps ≡ cs ++ commands_from station (length cs) (p ∷ ps) =
-    append_assoc cs m (commands_from station (length (cs ++ m)) ps) ∙ ap (λ (n : ℕ). cs ++ (m ++ commands_from station n ps)) (length-append cs m) ∙ ap (λ (l : List Command). cs ++ l) (sym (from_cons command_in station (length cs) p ps)) in
+goes_on b r s station count cs (act ∷ acts) o g fit =
+    let x = step b r s station count cs act o fit.0 g.1 in
+    let m = more_from station (length cs) act in
+    let same : (cs ++ m) ++ commands_from station (length (cs ++ m)) acts ≡ cs ++ commands_from station (length cs) (act ∷ acts) =
+    append_assoc cs m (commands_from station (length (cs ++ m)) acts) ∙ ap (λ (n : ℕ). cs ++ (m ++ commands_from station n acts)) (length-append cs m) ∙ ap (λ (l : List Command). cs ++ l) (sym (from_cons command_in station (length cs) act acts)) in
     elim x.then [
-      | inl closed ↦ subst (Held b r (all_acts b (act_done b s p) ps)) same (held_wider b r (all_acts b (act_done b s p) ps) (cs ++ m) ((cs ++ m) ++ commands_from station (length (cs ++ m)) ps) (prefix_more (cs ++ m) (commands_from station (length (cs ++ m)) ps)) (ends_there b r (act_done b s p) (cs ++ m) ps x.held closed g.2))
-      | inr on ↦ subst (Held b r (all_acts b (act_done b s p) ps)) same (goes_on b r (act_done b s p) station count (cs ++ m) ps on g.2 fit.1)
+      | inl closed ↦ subst (Held b r (all_acts b (act_done b s act) acts)) same (held_wider b r (all_acts b (act_done b s act) acts) (cs ++ m) ((cs ++ m) ++ commands_from station (length (cs ++ m)) acts) (prefix_more (cs ++ m) (commands_from station (length (cs ++ m)) acts)) (ends_there b r (act_done b s act) (cs ++ m) acts x.held closed g.2))
+      | inr on ↦ subst (Held b r (all_acts b (act_done b s act) acts)) same (goes_on b r (act_done b s act) station count (cs ++ m) acts on g.2 fit.1)
     ]

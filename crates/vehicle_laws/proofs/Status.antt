@@ -19,26 +19,26 @@ use Rattle.vehicle_laws.proofs.Keeping.{formatted_then}
 use Rattle.vehicle_laws.proofs.ActEffects.{missions_at, act_effect}
 use Rattle.vehicle_laws.proofs.Held.{Held, Ongoing, Step, IsClosed, given_in, more_from, begun, step_stays, step_put, from_cons, goes_on}
 
-pub run_snoc : (b : List ℕ) (ps : List Act) (p : Act) → run_over b (ps ++ p ∷ []) ≡ act_done b (run_over b ps) p
-run_snoc b ps p = all_acts-append b (start b) ps (p ∷ [])
+pub run_snoc : (b : List ℕ) (acts : List Act) (act : Act) → run_over b (acts ++ act ∷ []) ≡ act_done b (run_over b acts) act
+run_snoc b acts act = all_acts-append b (start b) acts (act ∷ [])
 
 -- what comes up to an act, and that of the act
-pub from_snoc : {X : Type 0} (f : ℕ → Request → Option X) (station seq : ℕ) (ps : List Act) (p : Act) → given_from f station seq (ps ++ p ∷ []) ≡ given_from f station seq ps ++ given_in f station (seq + length (given_from f station seq ps)) p
-from_snoc f station seq [] p = from_cons f station seq p [] ∙ append-nil (given_in f station seq p) ∙ ap (λ (n : ℕ). given_in f station n p) (let same : seq ≡ seq + 0 = omega arith in same)
-from_snoc {X} f station seq (q ∷ ps) p =
+pub from_snoc : {X : Type 0} (f : ℕ → Request → Option X) (station seq : ℕ) (acts : List Act) (act : Act) → given_from f station seq (acts ++ act ∷ []) ≡ given_from f station seq acts ++ given_in f station (seq + length (given_from f station seq acts)) act
+from_snoc f station seq [] act = from_cons f station seq act [] ∙ append-nil (given_in f station seq act) ∙ ap (λ (n : ℕ). given_in f station n act) (let same : seq ≡ seq + 0 = omega arith in same)
+from_snoc {X} f station seq (q ∷ acts) act =
     let m = given_in f station seq q in
     let n = seq + length m in
-    let xs = given_from f station n ps in
+    let xs = given_from f station n acts in
     let long : n + length xs ≡ seq + length (m ++ xs) = omega (arith, length-append m xs) in
-    from_cons f station seq q (ps ++ p ∷ [])
-    ∙ ap (λ (l : List X). m ++ l) (from_snoc f station n ps p)
-    ∙ sym (append_assoc m xs (given_in f station (n + length xs) p))
-    ∙ ap (λ (k : ℕ). (m ++ xs) ++ given_in f station k p) long
-    ∙ ap (λ (l : List X). l ++ given_in f station (seq + length l) p) (sym (from_cons f station seq q ps))
+    from_cons f station seq q (acts ++ act ∷ [])
+    ∙ ap (λ (l : List X). m ++ l) (from_snoc f station n acts act)
+    ∙ sym (append_assoc m xs (given_in f station (n + length xs) act))
+    ∙ ap (λ (k : ℕ). (m ++ xs) ++ given_in f station k act) long
+    ∙ ap (λ (l : List X). l ++ given_in f station (seq + length l) act) (sym (from_cons f station seq q acts))
 
-pub goes_snoc : (t : MissionType) (b : List ℕ) (r : Run) (ps : List Act) (p : Act) → GoesOn t b r ps → GoesOn t b (all_acts b r ps) (p ∷ []) → GoesOn t b r (ps ++ p ∷ [])
-goes_snoc t b r [] p g h = h
-goes_snoc t b r (q ∷ ps) p g h = (g.0, g.1, goes_snoc t b (act_done b r q) ps p g.2 h)
+pub goes_snoc : (t : MissionType) (b : List ℕ) (r : Run) (acts : List Act) (act : Act) → GoesOn t b r acts → GoesOn t b (all_acts b r acts) (act ∷ []) → GoesOn t b r (acts ++ act ∷ [])
+goes_snoc t b r [] act g h = h
+goes_snoc t b r (q ∷ acts) act g h = (g.0, g.1, goes_snoc t b (act_done b r q) acts act g.2 h)
 
 -- one upload has been opened after some first acts, and these are its acts
 pub record OpenSince (b : List ℕ) (done : List Act) : Type 0 where
@@ -65,18 +65,18 @@ run_since b done before since opening e =
     ∙ ap (λ (l : List Act). run_over b l) (append_assoc before (opening ∷ []) since ∙ sym e)
 
 -- one act more of an open upload
-longer : (b : List ℕ) (done : List Act) (p : Act) (x : OpenSince b done) → ActFits p → OpensNone Mission b (run_over b done) p
-    → Step b (run_over b x.before) (run_over b done) x.station x.count (commands_from x.station 0 x.since) p → Status b (done ++ p ∷ [])
-longer b done p x fits alone y =
+longer : (b : List ℕ) (done : List Act) (act : Act) (x : OpenSince b done) → ActFits act → OpensNone Mission b (run_over b done) act
+    → Step b (run_over b x.before) (run_over b done) x.station x.count (commands_from x.station 0 x.since) act → Status b (done ++ act ∷ [])
+longer b done act x fits alone y =
     let s = run_over b done in
-    let t = act_done b s p in
-    let e : run_over b (done ++ p ∷ []) ≡ t = run_snoc b done p in
+    let t = act_done b s act in
+    let e : run_over b (done ++ act ∷ []) ≡ t = run_snoc b done act in
     let cs = commands_from x.station 0 x.since in
     let zero_more : 0 + length cs ≡ length cs = omega arith in
-    let more : cs ++ more_from x.station (length cs) p ≡ commands_from x.station 0 (x.since ++ p ∷ []) = sym (from_snoc command_in x.station 0 x.since p ∙ ap (λ (n : ℕ). cs ++ more_from x.station n p) zero_more) in
+    let more : cs ++ more_from x.station (length cs) act ≡ commands_from x.station 0 (x.since ++ act ∷ []) = sym (from_snoc command_in x.station 0 x.since act ∙ ap (λ (n : ℕ). cs ++ more_from x.station n act) zero_more) in
     let is_open : (u : Upload) × (missions_at s ≡ Open u) = (x.ongoing.upload, x.ongoing.is) in
-    let goes : GoesOn Mission b (run_over b (x.before ++ x.opening ∷ [])) (x.since ++ p ∷ []) =
-    goes_snoc Mission b (run_over b (x.before ++ x.opening ∷ [])) x.since p x.goes (subst (λ (r : Run). GoesOn Mission b r (p ∷ [])) (sym (run_since b done x.before x.since x.opening x.split)) (is_open, alone, tt)) in
+    let goes : GoesOn Mission b (run_over b (x.before ++ x.opening ∷ [])) (x.since ++ act ∷ []) =
+    goes_snoc Mission b (run_over b (x.before ++ x.opening ∷ [])) x.since act x.goes (subst (λ (r : Run). GoesOn Mission b r (act ∷ [])) (sym (run_since b done x.before x.since x.opening x.split)) (is_open, alone, tt)) in
     record {
       formatted = subst (λ (r : Run). IsFormatted (after b r.issued)) (sym e) y.held.formatted;
       one_line = λ o. subst (λ (r : Run). IsTotalInOneLine (after b r.issued)) (sym e) (y.held.one_line (x.one_line o));
@@ -85,14 +85,14 @@ longer b done p x fits alone y =
         | inr on ↦ inr (record {
           before = x.before;
           opening = x.opening;
-          since = x.since ++ p ∷ [];
+          since = x.since ++ act ∷ [];
           station = x.station;
           count = x.count;
-          split = ap (λ (l : List Act). l ++ p ∷ []) x.split ∙ append_assoc x.before (x.opening ∷ x.since) (p ∷ []);
+          split = ap (λ (l : List Act). l ++ act ∷ []) x.split ∙ append_assoc x.before (x.opening ∷ x.since) (act ∷ []);
           opens = x.opens;
           goes = goes;
           one_line = x.one_line;
-          ongoing = subst (λ (r : Run). Ongoing b (run_over b x.before) r x.station x.count (commands_from x.station 0 (x.since ++ p ∷ []))) (sym e)
+          ongoing = subst (λ (r : Run). Ongoing b (run_over b x.before) r x.station x.count (commands_from x.station 0 (x.since ++ act ∷ []))) (sym e)
               (subst (Ongoing b (run_over b x.before) t x.station x.count) more on);
         })
       ];
@@ -103,21 +103,21 @@ pub the_open : (b : List ℕ) (done : List Act) (u : Upload) → Status b done �
 the_open b done u st e = elim st.then [ inl closed ↦ absurd (closed u e) | inr x ↦ x ]
 
 -- one act more
-pub status_step : (b : List ℕ) (done : List Act) (p : Act) → ActFits p → Status b done → Status b (done ++ p ∷ [])
-status_step b done p fits st =
+pub status_step : (b : List ℕ) (done : List Act) (act : Act) → ActFits act → Status b done → Status b (done ++ act ∷ [])
+status_step b done act fits st =
     let s = run_over b done in
-    let t = act_done b s p in
+    let t = act_done b s act in
     let bytes = after b s.issued in
-    let e : run_over b (done ++ p ∷ []) ≡ t = run_snoc b done p in
-    elim (act_effect b s p st.formatted fits) [
+    let e : run_over b (done ++ act ∷ []) ≡ t = run_snoc b done act in
+    elim (act_effect b s act st.formatted fits) [
       | inl x ↦
-          let new = begun b s p st.formatted x in
+          let new = begun b s act st.formatted x in
           record {
             formatted = subst (λ (r : Run). IsFormatted (after b r.issued)) (sym e) new.held.formatted;
             one_line = λ o. subst (λ (r : Run). IsTotalInOneLine (after b r.issued)) (sym e) (new.held.one_line (st.one_line o));
             then = inr (record {
               before = done;
-              opening = p;
+              opening = act;
               since = [];
               station = x.station;
               count = x.count;
@@ -131,31 +131,31 @@ status_step b done p fits st =
       | inr y ↦ elim y.1 [
         | inl x ↦ record {
           formatted = subst (λ (r : Run). IsFormatted (after b r.issued)) (sym e)
-              (subst IsFormatted (sym (after-append b s.issued (did_in b s p).writes)) (formatted_then bytes (did_in b s p).writes x.empties.stays));
+              (subst IsFormatted (sym (after-append b s.issued (did_in b s act).writes)) (formatted_then bytes (did_in b s act).writes x.empties.stays));
           one_line = λ o. subst (λ (r : Run). IsTotalInOneLine (after b r.issued)) (sym e)
-              (subst IsTotalInOneLine (sym (after-append b s.issued (did_in b s p).writes)) ((all_writes (StaysFormatted bytes) bytes (did_in b s p).writes x.empties.stays).one_line (st.one_line o)));
+              (subst IsTotalInOneLine (sym (after-append b s.issued (did_in b s act).writes)) ((all_writes (StaysFormatted bytes) bytes (did_in b s act).writes x.empties.stays).one_line (st.one_line o)));
           then = inl (subst IsClosed (sym e) x.closed);
         }
         | inr z ↦
             let x = the_open b done z.0 st z.1 in
             let cs = commands_from x.station 0 x.since in
             elim z.2 [
-              | inl w ↦ longer b done p x fits y.0 (step_stays b (run_over b x.before) s x.station x.count cs p z.0 x.ongoing z.1 w)
-              | inr w ↦ longer b done p x fits y.0 (step_put b (run_over b x.before) s x.station x.count cs p z.0 x.ongoing z.1 w)
+              | inl w ↦ longer b done act x fits y.0 (step_stays b (run_over b x.before) s x.station x.count cs act z.0 x.ongoing z.1 w)
+              | inr w ↦ longer b done act x fits y.0 (step_put b (run_over b x.before) s x.station x.count cs act z.0 x.ongoing z.1 w)
             ]
       ]
     ]
 
 -- all acts
-pub status_all : (b : List ℕ) (ps done : List Act) → AllFit ps → Status b done → Status b (done ++ ps)
+pub status_all : (b : List ℕ) (acts done : List Act) → AllFit acts → Status b done → Status b (done ++ acts)
 status_all b [] done fit st = subst (Status b) (sym (append-nil done)) st
-status_all b (p ∷ ps) done fit st = subst (Status b) (append_assoc done (p ∷ []) ps) (status_all b ps (done ++ p ∷ []) fit.1 (status_step b done p fit.0 st))
+status_all b (act ∷ acts) done fit st = subst (Status b) (append_assoc done (act ∷ []) acts) (status_all b acts (done ++ act ∷ []) fit.1 (status_step b done act fit.0 st))
 
 quiet_at_first : (b : List ℕ) → IsClosed (start b)
 quiet_at_first b u e = cc
 
-pub status : (b : List ℕ) (ps : List Act) → IsFormatted (after b (start b).issued) → AllFit ps → Status b ps
-status b ps f fit = status_all b ps [] fit (record { formatted = f; one_line = λ o. o; then = inl (quiet_at_first b) })
+pub status : (b : List ℕ) (acts : List Act) → IsFormatted (after b (start b).issued) → AllFit acts → Status b acts
+status b acts f fit = status_all b acts [] fit (record { formatted = f; one_line = λ o. o; then = inl (quiet_at_first b) })
 
 pub fit_before : (xs ys : List Act) → AllFit (xs ++ ys) → AllFit xs
 fit_before [] ys h = tt
@@ -183,13 +183,13 @@ count_said (Said s heard) = count_asked heard.asked
 count_said _ = 0
 
 -- The opening of an upload begins it.
-pub opened_here : (b : List ℕ) (r : Run) (p : Act) (station count : ℕ) → IsFormatted (after b r.issued) → ActFits p → Opens Mission b r p station count → Ongoing b r (act_done b r p) station count []
-opened_here b r p station count f fits o = elim (act_effect b r p f fits) [
+pub opened_here : (b : List ℕ) (r : Run) (act : Act) (station count : ℕ) → IsFormatted (after b r.issued) → ActFits act → Opens Mission b r act station count → Ongoing b r (act_done b r act) station count []
+opened_here b r act station count f fits o = elim (act_effect b r act f fits) [
   | inl x ↦
       let both : says x.station x.opens.v2 x.opens.sender x.opens.number (Begin Mission x.count) ≡ says station o.v2 o.sender o.number (Begin Mission count) = sym x.opens.is ∙ o.is in
       let one : x.station ≡ station = ap who_says both in
       let two : x.count ≡ count = ap count_said both in
-      subst (λ (n : ℕ). Ongoing b r (act_done b r p) n count []) one (subst (λ (n : ℕ). Ongoing b r (act_done b r p) x.station n []) two (begun b r p f x))
+      subst (λ (n : ℕ). Ongoing b r (act_done b r act) n count []) one (subst (λ (n : ℕ). Ongoing b r (act_done b r act) x.station n []) two (begun b r act f x))
   | inr y ↦ absurd (y.0 station count o)
 ]
 

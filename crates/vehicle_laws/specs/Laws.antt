@@ -136,7 +136,8 @@ pub record LawOfLastValues : Type 0 where
       ≡ value_of_number row.kind number
 
 -- Boot leaves formatted bytes, and where it formats them itself, MIS_TOTAL lies in one line. After
--- fewer of its lines than all the next start formats them again.
+-- fewer of its lines than all the next start formats them again. None of them changes the mission
+-- or the fence.
 pub record BootFormats : Type 0 where
   pub formatted : (b : List ℕ) → length b ≡ STORAGE_BYTES → IsBytes (logical_of Param b)
       → StartsFormatted b
@@ -146,6 +147,10 @@ pub record BootFormats : Type 0 where
       → ¬ HasMagic (after b (take j (boot b)))
   pub bytes : (b : List ℕ) → length b ≡ STORAGE_BYTES → IsBytes (logical_of Param b)
       → EachPrefix (λ now. IsBytes (logical_of Param now)) b (boot b)
+  pub mission : (b : List ℕ) → length b ≡ STORAGE_BYTES
+      → EachPrefix (λ now. mission_of now ≡ mission_of b) b (boot b)
+  pub fence : (b : List ℕ) → length b ≡ STORAGE_BYTES
+      → EachPrefix (λ now. fence_of now ≡ fence_of b) b (boot b)
 
 -- After each number of lines from the start on the bytes are formatted, and MIS_TOTAL lies in one
 -- line if it did at the start.

@@ -53,7 +53,7 @@ pub fn lines_by_acts()
     ensures { LinesByActs }
 {}
 
-/// Boot leaves formatted bytes.
+/// Boot leaves formatted bytes, and changes neither the mission nor the fence.
 pub fn boot_formats()
     ensures { BootFormats }
 {}
