@@ -1,0 +1,5 @@
+use Rattle.vehicle_laws.proofs.Boot.{boot_formats}
+use Rattle.vehicle_laws.proofs.laws.boot_formats.Goals as goal
+
+pub returns : goal.returns
+returns c = boot_formats
