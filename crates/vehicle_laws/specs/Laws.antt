@@ -135,21 +135,21 @@ pub record LawOfLastValues : Type 0 where
       → params_of (current b (run_over b (before ++ act ∷ []))) row
       ≡ value_of_number row.kind number
 
--- Boot leaves formatted bytes, and where it formats them itself, MIS_TOTAL lies in one line. After
--- fewer of its lines than all the next start formats them again. None of them changes the mission
--- or the fence.
+-- Boot leaves formatted bytes, and where it formats them itself, MIS_TOTAL lies in one line; after
+-- fewer of its lines than all the next start then formats them again. None of its lines changes the
+-- mission or the fence.
 pub record BootFormats : Type 0 where
   pub formatted : (b : List ℕ) → length b ≡ STORAGE_BYTES → IsBytes (logical_of Param b)
       → StartsFormatted b
   pub in_one_line : (b : List ℕ) → length b ≡ STORAGE_BYTES → ¬ HasMagic b
       → IsTotalInOneLine (current b (start b))
-  pub unformatted : (b : List ℕ) (j : ℕ) → length b ≡ STORAGE_BYTES → j < length (boot b)
-      → ¬ HasMagic (after b (take j (boot b)))
+  pub unformatted : (b : List ℕ) (j : ℕ) → length b ≡ STORAGE_BYTES → ¬ HasMagic b
+      → j < length (boot b) → ¬ HasMagic (after b (take j (boot b)))
   pub bytes : (b : List ℕ) → length b ≡ STORAGE_BYTES → IsBytes (logical_of Param b)
       → EachPrefix (λ now. IsBytes (logical_of Param now)) b (boot b)
-  pub mission : (b : List ℕ) → length b ≡ STORAGE_BYTES
+  pub mission : (b : List ℕ) → length b ≡ STORAGE_BYTES → IsBytes (logical_of Param b)
       → EachPrefix (λ now. mission_of now ≡ mission_of b) b (boot b)
-  pub fence : (b : List ℕ) → length b ≡ STORAGE_BYTES
+  pub fence : (b : List ℕ) → length b ≡ STORAGE_BYTES → IsBytes (logical_of Param b)
       → EachPrefix (λ now. fence_of now ≡ fence_of b) b (boot b)
 
 -- After each number of lines from the start on the bytes are formatted, and MIS_TOTAL lies in one
