@@ -22,6 +22,7 @@ abbrev pub ClearsOneOrAll : Request → Type 0
 ClearsOneOrAll (Clear types) = ((t : MissionType) × (types ≡ t ∷ [])) ⊎ (types ≡ kinds)
 ClearsOneOrAll _ = Unit {0}
 
+-- the same of what is asked of either protocol
 abbrev pub AskedFits : Option Asked → Type 0
 AskedFits (Some (Parameters request)) = SettingFits request
 AskedFits (Some (Missions sender asking)) =
@@ -35,6 +36,7 @@ ActFits (Said station heard) = AskedFits heard.asked
 ActFits (Beat station) = Unit {0}
 ActFits (Stream station) = Unit {0}
 
+-- each of the acts fits
 abbrev pub AllFit : List Act → Type 0
 AllFit [] = Unit {0}
 AllFit (act ∷ acts) = ActFits act × AllFit acts

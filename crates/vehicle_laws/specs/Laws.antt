@@ -61,7 +61,8 @@ StartsFormatted b = IsFormatted (current b (start b))
 
 -- Of an upload of the mission that opened where MIS_TOTAL lay in one line: after each number of
 -- issued lines from its opening on, the mission is the one from before it, or a prefix of the
--- commands that came in it.
+-- commands that came in it. (Where the last of the acts refuses its command, it issues nothing, and
+-- the law over the acts before it says the same without that command.)
 abbrev pub LawOfMissions : Type 0
 LawOfMissions = (b : List ℕ) (before since : List Act) (opening : Act) (station count k : ℕ)
     → StartsFormatted b → IsUpload Mission b before opening since station count

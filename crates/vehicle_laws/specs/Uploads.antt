@@ -88,13 +88,13 @@ abbrev pub fence_item_in : ℕ → Request → Option FenceItem
 fence_item_in seq (Give n (ForFence (Ok item))) = if n == seq then Some item else None
 fence_item_in seq _ = None
 
--- what a request to the mission protocol has
+-- what a request to the mission protocol has, where one was made
 abbrev pub asked_in : {X : Type 0} → (Request → Option X) → Option Asked → Option X
 asked_in f (Some (Missions sender asking)) = f asking.request
 asked_in f (Some (Parameters request)) = None
 asked_in f None = None
 
--- what the station's request has in an act
+-- what the station's request in an act has
 abbrev pub said_in : {X : Type 0} → (Request → Option X) → ℕ → Act → Option X
 said_in f station (Said s heard) = if station == s then asked_in f heard.asked else None
 said_in f station (Beat s) = None
@@ -108,9 +108,10 @@ given_from f station seq (act ∷ acts) =
     option_map_or (λ x. x ∷ given_from f station (seq + 1) acts)
     (said_in (f seq) station act) (given_from f station seq acts)
 
--- the commands, or the items of a fence, that the station gives from this number on
+-- the commands that the station gives from this number on
 abbrev pub commands_from : ℕ → ℕ → List Act → List Command
 commands_from station seq acts = given_from command_in station seq acts
 
+-- the same of the items of a fence
 abbrev pub fence_items_from : ℕ → ℕ → List Act → List FenceItem
 fence_items_from station seq acts = given_from fence_item_in station seq acts
