@@ -40,7 +40,7 @@ use Rattle.mission_records.specs.Steps.{IsTotalInOneLine}
 use Rattle.mission_records.proofs.Puts.{in_one_line}
 use Rattle.mission_records.proofs.Commands.{empty_mission}
 use Rattle.fence_records.specs.Lists.{fence_of}
-use Rattle.vehicle_node.specs.Runs.{format_step, convert_step, boot_steps, boot, start}
+use Rattle.vehicle_node.specs.Runs.{convert_step, boot_steps, boot, start}
 use Rattle.vehicle_node.proofs.BootLaws as node
 use Rattle.vehicle_laws.specs.Laws.{StartsFormatted, BootFormats}
 use Rattle.vehicle_laws.proofs.FenceSteps.{same_fence}
@@ -137,7 +137,7 @@ mission_in area value = commands_in (cond (bytes_eq (take 4 area) version) (min 
 rule_leaves_mission : (b : List ℕ) (rule : Rule) (old now : List ℕ) → IsNoTotal rule → mission_of old ≡ mission_of b → AddsOne rule old now → mission_of now ≡ mission_of b
 rule_leaves_mission b rule old now apart p adds =
     let area : mission_area now ≡ mission_area old = adds.areas Mission mission_not_param in
-    let total : params_of now total_row ≡ params_of old total_row = adds.others total_row (λ is. subst (λ (t : Bool). T t) apart is) in
+    let total : params_of now total_row ≡ params_of old total_row = adds.others total_row (λ is. (let clash : true ≡ false = sym is ∙ apart in cc)) in
     ap₂ mission_in area total ∙ p
 
 -- without the magic there is no mission
