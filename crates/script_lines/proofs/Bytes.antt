@@ -1,5 +1,5 @@
 -- The first end of a line among bytes.
-use Rattle.std.proofs.Common.{◌≡◌, ◌≢◌, ◌==◌, true, ℕ, zero, suc, ◌+◌, ◌<◌, ◌≤◌, ◌-◌, length-drop, List, [], ◌∷◌, ◌++◌, length, take, drop, slice_index, Option, None, Some, IfSome, IfNone, refl, sym, ◌∙◌, ap, subst, arith, add-one}
+use Rattle.std.proofs.Common.{◌≡◌, ◌==◌, true, ℕ, zero, suc, ◌<◌, ◌≤◌, ◌-◌, length-drop, List, [], ◌∷◌, ◌++◌, length, take, drop, slice_index, Option, None, Some, IfSome, IfNone, refl, ◌∙◌, ap, arith}
 use Rattle.memchr.specs.Find.{Nowhere, NoneBefore, IsFirstByte, Passes, is_byte}
 use Rattle.script_lines.specs.Reading.{HasNoLineFeed, unread_of}
 use Rattle.script_lines.specs.Reading.{FindsTooLong}

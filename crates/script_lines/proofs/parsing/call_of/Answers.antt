@@ -1,4 +1,3 @@
-use Rattle.std.proofs.Common.{slice_index, arith}
 use Rattle.script_lines.proofs.Texts.{too_big}
 use Rattle.script_lines.proofs.parsing.call_of.Goals as goal
 

@@ -1,4 +1,4 @@
-use Rattle.std.proofs.Common.{List, ℕ, refl, subst, arith}
+use Rattle.std.proofs.Common.{List, ℕ, refl, subst}
 use Rattle.script_lines.specs.Script.{SpellsLossLater}
 use Rattle.script_lines.proofs.Texts.{is_loss, text_parts}
 use Rattle.script_lines.proofs.parsing.parse.Goals as goal

@@ -1,4 +1,4 @@
-use Rattle.std.proofs.Common.{◌≡◌, ◌≤◌, ◌-◌, ℕ, List, length, take, drop, sym, subst, arith}
+use Rattle.std.proofs.Common.{subst, arith}
 use Rattle.script_lines.specs.Reading.{unread_of, HasNoLineFeed}
 use Rattle.script_lines.specs.Reading.{FindsTooLong}
 use Rattle.script_lines.proofs.Bytes.{too_long, too_many, slice_is_unread, unread_long}

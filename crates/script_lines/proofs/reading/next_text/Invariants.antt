@@ -1,4 +1,4 @@
-use Rattle.std.proofs.Common.{◌≡◌, ◌≤◌, ◌-◌, ℕ, List, length}
+use Rattle.std.proofs.Common.{◌≤◌, ◌-◌, ℕ, List, length}
 use Rattle.script_lines.specs.Reading.{unread_of, Reads}
 use Rattle.script_lines.proofs.reading.next_text.Given as goal
 
