@@ -335,7 +335,9 @@ class AsAUser(unittest.TestCase):
 
     def items_of(self, vehicle, kind):
         """The items that the vehicle has."""
-        return missions.download(Vehicle(vehicle.port), kind)
+        station = Vehicle(vehicle.port)
+        with station.socket:
+            return missions.download(station, kind)
 
     def settled(self, vehicle):
         """Lets the vehicle store what it was sent: each event puts eight lines at least, and no change has more than 64."""
