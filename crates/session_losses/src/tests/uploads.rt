@@ -1,6 +1,6 @@
 //! A mission and a fence replaced, with a loss at each call: what was stored is the old one, none, or
 //! the new one, of a mission also a prefix of the new one.
-ghost use Rattle.std.specs.Prelude.{◌≡◌, ◌<◌, ◌≤◌, ◌∷◌, [], IfOk, OnOk, IsTrue};
+ghost use Rattle.std.specs.Prelude.{IfOk, IsTrue};
 ghost use Rattle.flash_board.specs.Kept.{peers_fit};
 
 use super::*;
@@ -46,23 +46,14 @@ fn item(kind: Kind, seq: u16, y: i32) -> Message {
     }
 }
 
-// An upload of items whose longitudes ascend by one.
-fn append_upload(feed: &mut Vec<Feed>, kind: Kind, first: i32, count: u16) -> Result<(), Fail>
-    requires fit { IsTrue (peers_fit feed.old.items) }
-    requires small { first < 100 }
-    ensures { OnOk result (IsTrue (peers_fit feed.new.items)) }
-{
-    let begin = Message::MissionCount {
+// The MISSION_COUNT that begins an upload.
+fn begin(kind: Kind, count: u16) -> Message {
+    Message::MissionCount {
         count,
         target_system: 1,
         target_component: 1,
         mission_type: number_of(kind),
-    };
-    append(feed, asked(&begin)?)?;
-    'items: for seq in 0..count {
-        append(feed, asked(&item(kind, seq, first + seq as i32))?)?;
     }
-    Ok(())
 }
 
 // One item is uploaded, and later three others in its place.
@@ -70,33 +61,41 @@ fn replacing(alloc: Global, kind: Kind) -> Result<Vec<Feed>, Fail>
     ensures { IfOk result (λ feed. IsTrue (peers_fit feed.items)) }
 {
     let mut feed = Vec::new(alloc);
-    append_upload(&mut feed, kind, 1, 1)?;
+    append(&mut feed, asked(&begin(kind, 1))?)?;
+    append(&mut feed, asked(&item(kind, 0, 1))?)?;
     append_idle(&mut feed, 2)?;
-    append_upload(&mut feed, kind, 10, 3)?;
+    append(&mut feed, asked(&begin(kind, 3))?)?;
+    append(&mut feed, asked(&item(kind, 0, 10))?)?;
+    append(&mut feed, asked(&item(kind, 1, 11))?)?;
+    append(&mut feed, asked(&item(kind, 2, 12))?)?;
     append_idle(&mut feed, 2)?;
     Ok(feed)
+}
+
+// Asks for an item.
+fn request(kind: Kind, seq: u16) -> Message {
+    Message::MissionRequestInt {
+        seq,
+        target_system: 1,
+        target_component: 1,
+        mission_type: number_of(kind),
+    }
 }
 
 // Asks how many items there are, and for the first three.
 fn downloading(alloc: Global, kind: Kind) -> Result<Vec<Feed>, Fail>
     ensures { IfOk result (λ feed. IsTrue (peers_fit feed.items)) }
 {
-    let mut feed = Vec::new(alloc);
     let list = Message::MissionRequestList {
         target_system: 1,
         target_component: 1,
         mission_type: number_of(kind),
     };
+    let mut feed = Vec::new(alloc);
     append(&mut feed, asked(&list)?)?;
-    'items: for seq in 0..3u16 {
-        let request = Message::MissionRequestInt {
-            seq,
-            target_system: 1,
-            target_component: 1,
-            mission_type: number_of(kind),
-        };
-        append(&mut feed, asked(&request)?)?;
-    }
+    append(&mut feed, asked(&request(kind, 0))?)?;
+    append(&mut feed, asked(&request(kind, 1))?)?;
+    append(&mut feed, asked(&request(kind, 2))?)?;
     Ok(feed)
 }
 
