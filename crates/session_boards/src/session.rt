@@ -52,7 +52,14 @@ fn put_frame(message: &Message, sequence: u8, into: &mut [u8]) -> u16
     ensures bound { result ≤ 80 }
 {
     let mut frame = ArrayVec::new();
-    write_frame_into(&mut frame, message, true, STATION_SYSTEM, STATION_COMPONENT, sequence);
+    write_frame_into(
+        &mut frame,
+        message,
+        true,
+        STATION_SYSTEM,
+        STATION_COMPONENT,
+        sequence,
+    );
     let len = frame.len();
     into[..len].copy_from_slice(frame.as_slice());
     len as u16
