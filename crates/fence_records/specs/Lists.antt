@@ -10,6 +10,7 @@ use Rattle.storage_lines.specs.declared.lines.TheConstants.{STORAGE_BYTES}
 use Rattle.std.specs.Int.{w32}
 use Rattle.storage_lines.specs.Numbers.{number_of}
 use Rattle.storage_lines.specs.Bytes.{IsBytes}
+use Rattle.fence_records.specs.declared.TheConstants.{FENCE_BYTES}
 use Rattle.fence_records.specs.declared.items.Kind.{Kind}
 use Rattle.fence_records.specs.declared.items.Kind.TheVariants.{Return, Vertex, Circle, Unknown}
 use Rattle.fence_records.specs.declared.items.FenceItem.{FenceItem}
@@ -63,7 +64,7 @@ figures_in (suc n) bytes =
 abbrev pub fence_of : List ℕ → List FenceItem
 fence_of bytes =
     if bytes_eq (take 4 (fence_area bytes)) version
-    then flat_map items_of (figures_in 416 (drop 4 (fence_area bytes))) else []
+    then flat_map items_of (figures_in FENCE_BYTES (drop 4 (fence_area bytes))) else []
 
 -- It is: the area holds these items and no others.
 abbrev pub FenceIsListed : Type 0
@@ -123,7 +124,7 @@ is_return_point i = i.command == 5000
 abbrev pub figure_writes : List ℕ → Option (List Figure) → Result (List LineWrite) ℕ
 figure_writes bytes None = Err 5
 figure_writes bytes (Some fs) =
-    if nat_lt 416 (length (encoded fs)) then Err 4 else Ok (fence_writes (encoded fs) bytes)
+    if nat_lt FENCE_BYTES (length (encoded fs)) then Err 4 else Ok (fence_writes (encoded fs) bytes)
 
 -- The lines that write these items; 5 where they are no fence, 4 where they don't fit.
 abbrev pub replace_writes : List ℕ → List FenceItem → Result (List LineWrite) ℕ

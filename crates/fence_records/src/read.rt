@@ -2,10 +2,13 @@
 
 ghost use Rattle.std.specs.Prelude.{◌≡◌, ◌+◌, ◌-◌, ◌*◌, ◌<◌, ◌≤◌, ◌++◌, length, take, drop, map, slice_index, List, ℕ, MatchOption, IfSome, [], ◌∷◌, if◌then◌else◌};
 ghost use Rattle.arrayvec.specs.ArrayVec.{array_vec_len};
+ghost use Rattle.storage_lines.specs.declared.lines.TheConstants.{STORAGE_BYTES};
+ghost use Rattle.fence_records.specs.declared.TheConstants.{FENCE_BYTES};
 ghost use Rattle.fence_records.specs.Write.{fence_area};
 ghost use Rattle.fence_records.specs.Lists.{fence_of};
 ghost use Rattle.fence_records.specs.Fence.{Figure, IsFigure, IsEnd, IsFence, item, items_of, record_of, point_of, points_from};
 
+use crate::FENCE_BYTES;
 use crate::items::{FenceItem, Point};
 use arrayvec::ArrayVec;
 use storage_lines::numbers::{number_of, signed_of};
@@ -77,13 +80,13 @@ fn choice(first: bool, a: u16, b: u16) -> u16
 
 /// Reads the record that the bytes begin with, appends its items, and gives its length.
 fn read_record(bytes: &[u8], items: &mut ArrayVec<FenceItem, 52>) -> Option<usize>
-    requires { 8 * array_vec_len items.old + length bytes.now ≤ 416 }
+    requires { 8 * array_vec_len items.old + length bytes.now ≤ FENCE_BYTES }
     ensures figure { MatchOption result
         (IsEnd bytes.now × (items.new.items ≡ items.old.items))
         (λ n. (f : Figure) × (IsFigure f) × (take n bytes.now ≡ record_of f)
         × (items.new.items ≡ items.old.items ++ items_of f)) }
     ensures size { IfSome result (λ n. (2 ≤ n) × (n ≤ length bytes.now)
-        × (8 * array_vec_len items.new + (length bytes.now - n) ≤ 416)) }
+        × (8 * array_vec_len items.new + (length bytes.now - n) ≤ FENCE_BYTES)) }
 {
     if bytes.is_empty() {
         return None;
@@ -124,7 +127,7 @@ fn read_record(bytes: &[u8], items: &mut ArrayVec<FenceItem, 52>) -> Option<usiz
 
 /// The items that the fence's area holds.
 fn parse_area(area: &[u8]) -> ArrayVec<FenceItem, 52>
-    requires { length area.now ≡ 416 }
+    requires { length area.now ≡ FENCE_BYTES }
     ensures { IsFence area.now result.items }
 {
     let mut items = ArrayVec::new();
@@ -141,11 +144,11 @@ fn parse_area(area: &[u8]) -> ArrayVec<FenceItem, 52>
 /// The items of the stored fence, in storage order: a vertex with its polygon's count as param1, a
 /// return point with 0.
 pub fn parse(current: &[u8]) -> ArrayVec<FenceItem, 52>
-    requires { length current.now ≡ 15360 }
+    requires { length current.now ≡ STORAGE_BYTES }
     ensures fence { IsFence (fence_area current.now) result.items }
     ensures value { result.items ≡ fence_of current.now }
 {
-    let mut area = [0; 416];
+    let mut area = [0; FENCE_BYTES];
     read(Area::Fence, 0, current, &mut area);
     parse_area(&area)
 }

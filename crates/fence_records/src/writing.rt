@@ -3,8 +3,10 @@
 ghost use Rattle.std.specs.Prelude.{◌≡◌, ◌==◌, ◌+◌, ◌*◌, ◌<◌, ◌≤◌, ◌++◌, [], ◌∷◌, ℕ, List, length, map, flat_map, MatchBool, MatchOption, MatchResult, OnErr, Some, Ok, Err};
 ghost use Rattle.arrayvec.specs.ArrayVec.{array_vec_len};
 ghost use Rattle.storage_lines.specs.declared.areas.Area.TheVariants.{Fence};
+ghost use Rattle.storage_lines.specs.declared.lines.TheConstants.{STORAGE_BYTES, BATCH_LINES};
 ghost use Rattle.storage_lines.specs.Lines.{after};
 ghost use Rattle.storage_lines.specs.Pieces.{writes_of_piece};
+ghost use Rattle.fence_records.specs.declared.TheConstants.{FENCE_BYTES};
 ghost use Rattle.fence_records.specs.declared.items.FenceItem.{FenceItem};
 ghost use Rattle.fence_records.specs.Items.{kind_of};
 ghost use Rattle.fence_records.specs.Cut.{IsRun, IsCut, IsAllowedFence};
@@ -12,6 +14,7 @@ ghost use Rattle.fence_records.specs.Fence.{Figure, ReturnPoint, Round, Polygon,
 ghost use Rattle.fence_records.specs.Write.{encoded, fence_writes};
 ghost use Rattle.fence_records.specs.Lists.{point, figure_at, figures_of, replace_writes, clear_writes};
 
+use crate::FENCE_BYTES;
 use crate::cut::run_length;
 use crate::items::{FenceItem, Kind, kind_of};
 use arrayvec::ArrayVec;
@@ -19,8 +22,8 @@ use storage_lines::numbers::{push_number, unsigned};
 use storage_lines::{Area, Batch, SplitError, split};
 
 /// Appends where the item is.
-fn push_point(item: &FenceItem, bytes: &mut ArrayVec<u8, 416>)
-    requires { array_vec_len bytes.old + 8 ≤ 416 }
+fn push_point(item: &FenceItem, bytes: &mut ArrayVec<u8, FENCE_BYTES>)
+    requires { array_vec_len bytes.old + 8 ≤ FENCE_BYTES }
     ensures items { bytes.new.items ≡ bytes.old.items ++ point_bytes (point item.now) }
     ensures len { array_vec_len bytes.new ≡ array_vec_len bytes.old + 8 }
 {
@@ -29,8 +32,8 @@ fn push_point(item: &FenceItem, bytes: &mut ArrayVec<u8, 416>)
 }
 
 /// Appends where the items are.
-fn push_points(items: &[FenceItem], bytes: &mut ArrayVec<u8, 416>)
-    requires { array_vec_len bytes.old + 8 * length items.now ≤ 416 }
+fn push_points(items: &[FenceItem], bytes: &mut ArrayVec<u8, FENCE_BYTES>)
+    requires { array_vec_len bytes.old + 8 * length items.now ≤ FENCE_BYTES }
     ensures items { bytes.new.items ≡
         bytes.old.items ++ flat_map point_bytes (map point items.now) }
     ensures len { array_vec_len bytes.new ≡ array_vec_len bytes.old + 8 * length items.now }
@@ -41,7 +44,7 @@ fn push_points(items: &[FenceItem], bytes: &mut ArrayVec<u8, 416>)
 }
 
 /// Appends the record of a return point, where it leaves room for the end mark.
-fn push_return_point(item: &FenceItem, bytes: &mut ArrayVec<u8, 416>) -> bool
+fn push_return_point(item: &FenceItem, bytes: &mut ArrayVec<u8, FENCE_BYTES>) -> bool
     requires { array_vec_len bytes.old ≤ 415 }
     ensures record { MatchBool result
         (bytes.new.items ≡ bytes.old.items ++ record_of (ReturnPoint (point item.now)))
@@ -57,7 +60,7 @@ fn push_return_point(item: &FenceItem, bytes: &mut ArrayVec<u8, 416>) -> bool
 }
 
 /// Appends the record of a circle, where it leaves room for the end mark.
-fn push_circle(item: &FenceItem, bytes: &mut ArrayVec<u8, 416>) -> bool
+fn push_circle(item: &FenceItem, bytes: &mut ArrayVec<u8, FENCE_BYTES>) -> bool
     requires { array_vec_len bytes.old ≤ 415 }
     ensures record { MatchBool result
         (bytes.new.items ≡ bytes.old.items
@@ -75,7 +78,7 @@ fn push_circle(item: &FenceItem, bytes: &mut ArrayVec<u8, 416>) -> bool
 }
 
 /// Appends the record of a polygon with these vertices, where it leaves room for the end mark.
-fn push_polygon(inside: bool, items: &[FenceItem], bytes: &mut ArrayVec<u8, 416>) -> bool
+fn push_polygon(inside: bool, items: &[FenceItem], bytes: &mut ArrayVec<u8, FENCE_BYTES>) -> bool
     requires room { array_vec_len bytes.old ≤ 415 }
     requires few { length items.now ≤ 51 }
     ensures record { (pattern : ℕ) → MatchBool result
@@ -95,7 +98,7 @@ fn push_polygon(inside: bool, items: &[FenceItem], bytes: &mut ArrayVec<u8, 416>
 
 /// Appends the record of a circle, a return point or a polygon, where it leaves room for the end
 /// mark.
-fn push_record(run: &[FenceItem], bytes: &mut ArrayVec<u8, 416>) -> bool
+fn push_record(run: &[FenceItem], bytes: &mut ArrayVec<u8, FENCE_BYTES>) -> bool
     requires run { IsRun run.now }
     requires room { array_vec_len bytes.old ≤ 415 }
     ensures record { (i : FenceItem) (others : List FenceItem) → run.now ≡ i ∷ others →
@@ -115,7 +118,7 @@ fn push_record(run: &[FenceItem], bytes: &mut ArrayVec<u8, 416>) -> bool
 }
 
 /// Appends the records of the items, where they leave room for the end mark.
-fn push_figures(items: &[FenceItem], bytes: &mut ArrayVec<u8, 416>) -> bool
+fn push_figures(items: &[FenceItem], bytes: &mut ArrayVec<u8, FENCE_BYTES>) -> bool
     requires cut { IsCut items.now }
     requires room { array_vec_len bytes.old ≤ 415 }
     ensures records { (fs : List Figure) → figures_of (length items.now) items.now ≡ Some fs →
@@ -141,14 +144,14 @@ fn push_figures(items: &[FenceItem], bytes: &mut ArrayVec<u8, 416>) -> bool
 
 /// The version, the records of the items and the end mark, or None where the area has no room for
 /// them.
-fn encode(items: &[FenceItem]) -> Option<ArrayVec<u8, 416>>
+fn encode(items: &[FenceItem]) -> Option<ArrayVec<u8, FENCE_BYTES>>
     requires { IsCut items.now }
     ensures { (fs : List Figure) → figures_of (length items.now) items.now ≡ Some fs →
         MatchOption result
-        (416 < length (encoded fs))
+        (FENCE_BYTES < length (encoded fs))
         (λ bytes. bytes.items ≡ encoded fs) }
 {
-    let mut bytes = ArrayVec::<u8, 416>::new();
+    let mut bytes = ArrayVec::<u8, FENCE_BYTES>::new();
     bytes.push(0xEB);
     bytes.push(0);
     bytes.push(0);
@@ -162,10 +165,10 @@ fn encode(items: &[FenceItem]) -> Option<ArrayVec<u8, 416>>
 
 /// Appends the writes that put the bytes in the area.
 fn put(at: u16, bytes: &[u8], current: &[u8], batch: &mut Batch)
-    requires size { length current.now ≡ 15360 }
-    requires inside { at + length bytes.now ≤ 416 }
+    requires size { length current.now ≡ STORAGE_BYTES }
+    requires inside { at + length bytes.now ≤ FENCE_BYTES }
     requires room { array_vec_len batch.old
-        + length (writes_of_piece Fence at bytes.now (after current.now batch.old.items)) ≤ 64 }
+        + length (writes_of_piece Fence at bytes.now (after current.now batch.old.items)) ≤ BATCH_LINES }
     ensures { batch.new.items ≡ batch.old.items
         ++ writes_of_piece Fence at bytes.now (after current.now batch.old.items) }
 {
@@ -179,7 +182,7 @@ fn put(at: u16, bytes: &[u8], current: &[u8], batch: &mut Batch)
 /// Gives the writes that replace the stored fence by these items; 4 (MAV_MISSION_NO_SPACE) exactly
 /// where the version, the records and the end mark exceed the 416 bytes of the area.
 pub fn write(current: &[u8], items: &[FenceItem], batch: &mut Batch) -> Result<(), u8>
-    requires size { length current.now ≡ 15360 }
+    requires size { length current.now ≡ STORAGE_BYTES }
     requires allowed { IsAllowedFence items.now }
     requires empty { batch.old.items ≡ [] }
     ensures writes { MatchResult result
@@ -199,8 +202,8 @@ pub fn write(current: &[u8], items: &[FenceItem], batch: &mut Batch) -> Result<(
 /// Gives the writes of the encoded fence: the first line with an end behind the version, the other
 /// lines, and the first line whole. A loss between them leaves the old fence, none, or the new one.
 fn put_encoded(bytes: &[u8], current: &[u8], batch: &mut Batch)
-    requires size { length current.now ≡ 15360 }
-    requires fits { length bytes.now ≤ 416 }
+    requires size { length current.now ≡ STORAGE_BYTES }
+    requires fits { length bytes.now ≤ FENCE_BYTES }
     requires empty { batch.old.items ≡ [] }
     ensures { batch.new.items ≡ fence_writes bytes.now current.now }
 {
@@ -212,8 +215,8 @@ fn put_encoded(bytes: &[u8], current: &[u8], batch: &mut Batch)
 
 /// Appends the write that clears the fence, where it changes a line: an end behind the version.
 pub fn clear(current: &[u8], batch: &mut Batch)
-    requires size { length current.now ≡ 15360 }
-    requires room { array_vec_len batch.old + 1 ≤ 64 }
+    requires size { length current.now ≡ STORAGE_BYTES }
+    requires room { array_vec_len batch.old + 1 ≤ BATCH_LINES }
     ensures { batch.new.items ≡
         batch.old.items ++ clear_writes (after current.now batch.old.items) }
 {
