@@ -1,3 +1,4 @@
 pub mod EntryLemmas
 pub mod PutLemmas
 pub mod StoreLaws
+pub mod ErrorLemmas

@@ -29,7 +29,7 @@ use entry::bytes_of;
 use flash_traits::{Board, Fault, Region};
 use moves::switch;
 use puts::{put_armed, put_unarmed};
-use sector_switch::{Alone, Images, RecoverError, Spilled, recover};
+use sector_switch::{Alone, Images, RecoverError, Spilled, SwitchError, recover};
 use std::alloc::Global;
 use std::marker::Model;
 use std::mem::replace;
@@ -80,6 +80,41 @@ impl From<Fault> for PutError {
 
     fn from(kind: Fault) -> PutError {
         PutError::Fault(kind)
+    }
+}
+
+impl From<SwitchError> for PutError {
+    ghost use Rattle.block_store.specs.Steps.Errors.{puts_not};
+
+    ghost from_gives = { λ switch e. e ≡ puts_not switch };
+
+    fn from(switch: SwitchError) -> PutError {
+        match switch {
+            SwitchError::Fault(kind) => PutError::Fault(kind),
+            SwitchError::Worn { count } => PutError::Worn { count },
+        }
+    }
+}
+
+impl From<RecoverError> for OpenError {
+    ghost use Rattle.block_store.specs.Steps.Errors.{opens_not};
+
+    ghost from_gives = { λ recover e. e ≡ opens_not recover };
+
+    fn from(recover: RecoverError) -> OpenError {
+        match recover {
+            RecoverError::Fault(kind) => OpenError::Fault(kind),
+            RecoverError::Foreign {
+                region,
+                offset,
+                word,
+            } => OpenError::Foreign {
+                region,
+                offset,
+                word,
+            },
+            RecoverError::Worn { count } => OpenError::Worn { count },
+        }
     }
 }
 
@@ -159,25 +194,11 @@ impl BlockStore {
         let Ok(mut images) = Images::new(alloc) else {
             return Err(OpenError::Memory);
         };
-        match recover(board, &mut images) {
-            Ok(alone) => Ok(BlockStore {
-                state: State::Alone(alone),
-                images,
-            }),
-            Err(RecoverError::Fault(kind)) => Err(OpenError::Fault(kind)),
-            Err(
-                RecoverError::Foreign {
-                    region,
-                    offset,
-                    word,
-                },
-            ) => Err(OpenError::Foreign {
-                region,
-                offset,
-                word,
-            }),
-            Err(RecoverError::Worn { count }) => Err(OpenError::Worn { count }),
-        }
+        let alone = recover(board, &mut images)?;
+        Ok(BlockStore {
+            state: State::Alone(alone),
+            images,
+        })
     }
 
     /// The storage bytes that the image stands for, 15,360.

@@ -9,11 +9,12 @@ ghost use Rattle.flash_traits.specs.Budget.{header_bytes, copy_bytes, chunks};
 ghost use Rattle.sector_image.specs.Losses.{KeepsBytes};
 ghost use Rattle.sector_image.specs.Fits.{FitsAlone, FitsSpilled, free_of, left_chunks};
 ghost use Rattle.sector_switch.specs.States.{taken_of, marked_from, spilled_from};
-ghost use Rattle.block_store.specs.Refusals.{OnFault, OnWorn, OnNoRoom, IsWornWith};
+ghost use Rattle.block_store.specs.Refusals.{OnWorn, IsWornWith};
+ghost use Rattle.block_store.specs.Steps.Calls.{OnlyPrograms, FindsRoom};
 
 use crate::PutError;
 use flash_traits::{Board, Fault};
-use sector_switch::{Alone, Images, Spilled, SwitchError};
+use sector_switch::{Alone, Images, Spilled};
 
 /// Marks home full, and the other sector in use. A loss inside leaves the bytes of before.
 pub(crate) fn spill<B: Board>(
@@ -27,9 +28,7 @@ pub(crate) fn spill<B: Board>(
     ensures kept { IfOk result (λ spilled. spilled ≡ spilled_from (marked_from alone)) }
     ensures left { IfOk result (λ spilled. left_chunks spilled images.new ≤ chunks) }
     ensures changes { Changes B.Board board.old board.new (KeepsBytes 0) (KeepsBytes 0) }
-    ensures erases { ErasesNothing B.Board board.old board.new }
-    ensures cause { HasCause Flash (B.faults board.old) (B.faults board.new) result }
-    ensures kind { IfErr result (λ kind. kind ≡ Flash) }
+    ensures calls { OnlyPrograms B.Board board.old result board.new }
 {
     let marked = alone.spill(board)?;
     let spilled = marked.open(board, images)?;
@@ -50,21 +49,15 @@ pub(crate) fn switch<B: Board>(
         ≤ free_of alone) }
     ensures guard { IfOk result (λ alone. alone.guard ≡ spilled.guard + 2) }
     ensures changes { Changes B.Board board.old board.new (KeepsBytes 2) (KeepsBytes 2) }
-    ensures never_full { IfErr result (λ e. OnNoRoom e (λ room. ⊥)) }
     ensures worn { IfErr result (λ e. OnWorn e (λ count. (count ≡ GUARD_HALFWORDS)
         × (spilled.guard ≡ GUARD_HALFWORDS))) }
     ensures worn_copied { IfErr result (λ e. OnWorn e
         (λ count. IsWornWith B.Board board.new images.new (free_of spilled))) }
     ensures used_up { spilled.guard ≡ GUARD_HALFWORDS → IfOk result (λ _. ⊥) }
-    ensures fault { IfErr result (λ e. OnFault e (λ kind. (kind ≡ Flash)
-        × Rose (B.faults board.old Flash) (B.faults board.new Flash))) }
-    ensures counts { (k : Fault) → B.faults board.old k ≤ B.faults board.new k }
+    ensures calls { FindsRoom B.Board board.old result board.new }
 {
-    match spilled.switch(board, images) {
-        Ok(alone) => Ok(alone),
-        Err(SwitchError::Fault(kind)) => Err(PutError::Fault(kind)),
-        Err(SwitchError::Worn { count }) => Err(PutError::Worn { count }),
-    }
+    let alone = spilled.switch(board, images)?;
+    Ok(alone)
 }
 
 /// From home alone to the other sector alone. A loss inside leaves the bytes of before.
@@ -81,15 +74,12 @@ pub(crate) fn turn<B: Board>(
     ensures room { IfOk result (λ next. copy_bytes ≤ free_of next) }
     ensures guard { IfOk result (λ next. next.guard ≡ alone.guard + 2) }
     ensures changes { Changes B.Board board.old board.new (KeepsBytes 2) (KeepsBytes 2) }
-    ensures never_full { IfErr result (λ e. OnNoRoom e (λ room. ⊥)) }
     ensures worn { IfErr result (λ e. OnWorn e (λ count. (count ≡ GUARD_HALFWORDS)
         × (alone.guard ≡ GUARD_HALFWORDS))) }
     ensures worn_copied { IfErr result (λ e. OnWorn e
         (λ count. IsWornWith B.Board board.new images.new (free_of alone))) }
     ensures used_up { alone.guard ≡ GUARD_HALFWORDS → IfOk result (λ _. ⊥) }
-    ensures fault { IfErr result (λ e. OnFault e (λ kind. (kind ≡ Flash)
-        × Rose (B.faults board.old Flash) (B.faults board.new Flash))) }
-    ensures counts { (k : Fault) → B.faults board.old k ≤ B.faults board.new k }
+    ensures calls { FindsRoom B.Board board.old result board.new }
 {
     let spilled = spill(alone, board, images)?;
     switch(spilled, board, images)

@@ -15,7 +15,8 @@ ghost use Rattle.sector_image.specs.Fits.{FitsAlone};
 ghost use Rattle.block_store.specs.Store.{FitsState, in_one_sector, in_both_sectors, guard_in, room_in, free_in, spare_in, lacks_in, switch_leaves_in, home_free_in};
 ghost use Rattle.block_store.specs.Steps.Inside.{state_of, IsInside, due_in};
 ghost use Rattle.block_store.specs.Steps.Entries.{PutsEntry, MayPutEntry};
-ghost use Rattle.block_store.specs.Refusals.{OnFault, OnWorn, OnNoRoom, IsWornWith};
+ghost use Rattle.block_store.specs.Steps.Calls.{OnlyPrograms, FindsRoom};
+ghost use Rattle.block_store.specs.Refusals.{OnWorn, IsWornWith};
 
 use crate::moves::{spill, switch, turn};
 use crate::{PutError, State};
@@ -48,9 +49,7 @@ fn go_on<B: Board>(
     ensures spare { IfOk result (λ next. spare_in (state_of state) images.old
         ≤ spare_in (state_of next) images.new) }
     ensures changes { Changes B.Board board.old board.new (KeepsBytes 0) (KeepsBytes 0) }
-    ensures erases { ErasesNothing B.Board board.old board.new }
-    ensures cause { HasCause Flash (B.faults board.old) (B.faults board.new) result }
-    ensures kind { IfErr result (λ kind. kind ≡ Flash) }
+    ensures calls { OnlyPrograms B.Board board.old result board.new }
 {
     match state {
         State::Alone(alone) => {
@@ -89,7 +88,6 @@ fn free_home<B: Board>(
     ensures changes { Changes B.Board board.old board.new
         (KeepsBytes (due_in (state_of state) size)) (KeepsBytes (due_in (state_of state) size)) }
     ensures erases { due_in (state_of state) size ≡ 0 → ErasesNothing B.Board board.old board.new }
-    ensures never_full { IfErr result (λ e. OnNoRoom e (λ room. ⊥)) }
     ensures worn { IfErr result (λ e. OnWorn e (λ count. (count ≡ GUARD_HALFWORDS)
         × (guard_in (state_of state) ≡ GUARD_HALFWORDS)
         × IsTrue (lacks_in (state_of state) size))) }
@@ -97,9 +95,7 @@ fn free_home<B: Board>(
         (λ count. IsWornWith B.Board board.new images.new (home_free_in (state_of state)))) }
     ensures used_up { IsTrue (lacks_in (state_of state) size)
         → guard_in (state_of state) ≡ GUARD_HALFWORDS → IfOk result (λ _. ⊥) }
-    ensures fault { IfErr result (λ e. OnFault e (λ kind. (kind ≡ Flash)
-        × Rose (B.faults board.old Flash) (B.faults board.new Flash))) }
-    ensures counts { (k : Fault) → B.faults board.old k ≤ B.faults board.new k }
+    ensures calls { FindsRoom B.Board board.old result board.new }
 {
     match state {
         State::Alone(alone) => {
@@ -143,9 +139,7 @@ fn append<B: Board>(
         ≤ room_in (state_of next) images.new + 2 + length bytes.now) }
     ensures changes { Changes B.Board board.old board.new (MayPut first bytes.now)
         (ByResult result (Puts first bytes.now) (MayPut first bytes.now)) }
-    ensures erases { ErasesNothing B.Board board.old board.new }
-    ensures cause { HasCause Flash (B.faults board.old) (B.faults board.new) result }
-    ensures kind { IfErr result (λ kind. kind ≡ Flash) }
+    ensures calls { OnlyPrograms B.Board board.old result board.new }
 {
     match state {
         State::Alone(alone) => {
@@ -188,9 +182,7 @@ pub(crate) fn put_armed<B: Board>(
         ≤ spare_in (state_of next) images.new + 2 + length bytes.now) }
     ensures changes { Changes B.Board board.old board.new (MayPutEntry 0 first bytes.now)
         (ByResult result (PutsEntry 0 first bytes.now) (MayPutEntry 0 first bytes.now)) }
-    ensures erases { ErasesNothing B.Board board.old board.new }
-    ensures cause { HasCause Flash (B.faults board.old) (B.faults board.new) result }
-    ensures kind { IfErr result (λ kind. kind ≡ Flash) }
+    ensures calls { OnlyPrograms B.Board board.old result board.new }
 {
     let ready = go_on(state, board, images, 2 + bytes.len() as u32)?;
     let next = append(ready, board, images, first, bytes)?;
@@ -227,7 +219,6 @@ pub(crate) fn put_unarmed<B: Board>(
         (MayPutEntry (due_in (state_of state) (2 + length bytes.now)) first bytes.now)) }
     ensures erases { due_in (state_of state) (2 + length bytes.now) ≡ 0
         → ErasesNothing B.Board board.old board.new }
-    ensures never_full { IfErr result (λ e. OnNoRoom e (λ room. ⊥)) }
     ensures worn { IfErr result (λ e. OnWorn e (λ count. (count ≡ GUARD_HALFWORDS)
         × (guard_in (state_of state) ≡ GUARD_HALFWORDS)
         × IsTrue (lacks_in (state_of state) (2 + length bytes.now)))) }
@@ -235,9 +226,7 @@ pub(crate) fn put_unarmed<B: Board>(
         (λ count. IsWornWith B.Board board.new images.new (home_free_in (state_of state)))) }
     ensures used_up { IsTrue (lacks_in (state_of state) (2 + length bytes.now))
         → guard_in (state_of state) ≡ GUARD_HALFWORDS → IfOk result (λ _. ⊥) }
-    ensures fault { IfErr result (λ e. OnFault e (λ kind. (kind ≡ Flash)
-        × Rose (B.faults board.old Flash) (B.faults board.new Flash))) }
-    ensures counts { (k : Fault) → B.faults board.old k ≤ B.faults board.new k }
+    ensures calls { FindsRoom B.Board board.old result board.new }
 {
     let home = free_home(state, board, images, 2 + bytes.len() as u32)?;
     let next = append(State::Alone(home), board, images, first, bytes)?;
