@@ -1,0 +1,105 @@
+#!/usr/bin/env python3
+"""Compares the documents with the repository: documents.py
+
+Quotes are word for word what the sources say (tools/quotes.py). Each link leads to a file. In docs/MAP.md each file is
+there and has the functions that are named with it. In the README of each crate each function of the table has the
+clauses that stand beside it. Wherever a document names a clause, a law or a wrong body of a crate, the crate has it.
+"""
+import os
+import re
+import sys
+import unittest
+
+TOP = os.path.join(os.path.dirname(os.path.abspath(__file__)), "..")
+sys.path.insert(0, os.path.join(TOP, "tools"))
+sys.dont_write_bytecode = True
+import quotes  # noqa: E402
+import sources  # noqa: E402
+
+LINK = re.compile(r"\]\(([^)#\s]+)(?:#[^)]*)?\)")
+NAME = r"[A-Za-z_][\w:]*"
+# "`crate`, `function`, clauses `one` and `two`", and "`crate`, law `name`"
+CLAUSES = re.compile(rf"`(\w+)`, `({NAME})`, clauses? ((?:`\w+`(?: \([^)]*\))?(?:, | and )?)+)")
+LAW = re.compile(rf"`(\w+)`, law `({NAME})`")
+# "(wrong bodies: `crate`, one and two; `crate`, three)"
+WRONG_BODIES = re.compile(r"wrong bod(?:y|ies): ([^)]*)\)")
+# a place in a list of docs/MAP.md: a file, or a function
+PLACE = re.compile(rf"`({NAME}(?:/[\w./]+)?)`")
+
+
+def prose(document):
+    """A document on one line, without what it quotes."""
+    return re.sub(r"\s+", " ", re.sub(r"```.*?```", "", sources.text_of(document), flags=re.S))
+
+
+def items(document):
+    """The items of the numbered lists of a document, each on one line."""
+    found = re.findall(r"^\d+\. (.*\n(?:   .*\n)*)", sources.text_of(document), re.M)
+    return [re.sub(r"\s+", " ", item) for item in found]
+
+
+def rows(document):
+    """The rows of the tables in a document that begin with a function: what stands in the first two columns."""
+    return re.findall(r"^\| (`.*?`) \| (.*?) \|", sources.text_of(document), re.M)
+
+
+def names(text):
+    """What stands in backticks."""
+    return re.findall(r"`([^`]+)`", text)
+
+
+class Documents(unittest.TestCase):
+    def test_quotes_are_what_the_sources_say(self):
+        for document in quotes.documents():
+            with self.subTest(document):
+                self.assertTrue(quotes.compare(document, False))
+
+    def test_each_link_leads_to_a_file(self):
+        for document in quotes.documents():
+            for link in LINK.findall(sources.text_of(document)):
+                if "://" not in link:
+                    with self.subTest(f"{document}: {link}"):
+                        self.assertTrue(os.path.exists(os.path.join(TOP, os.path.dirname(document), link)))
+
+    def test_each_place_on_the_map_is_there(self):
+        for item in items("docs/MAP.md"):
+            places = PLACE.findall(item)
+            files = [place for place in places if "/" in place]
+            known = [sources.functions(f"crates/{file}") for file in files]
+            for function in (place for place in places if "/" not in place):
+                with self.subTest(f"{function}, in {' '.join(files)}"):
+                    self.assertTrue(any(function in functions for functions in known))
+
+    def test_each_clause_that_a_document_names_is_there(self):
+        for document in quotes.documents():
+            text = prose(document)
+            for crate, function, clauses in CLAUSES.findall(text):
+                with self.subTest(f"{document}: {crate} {function} {clauses}"):
+                    self.assertLessEqual(set(names(clauses)), sources.clauses_of(crate, function) or set())
+            for crate, law in LAW.findall(text):
+                with self.subTest(f"{document}: {crate} {law}"):
+                    self.assertEqual(sources.clauses_of(crate, law), {""})
+
+    def test_each_wrong_body_is_there(self):
+        for document in quotes.documents():
+            for named in WRONG_BODIES.findall(prose(document)):
+                for part in named.split(";"):
+                    crate, *edits = re.findall(r"\w+", part.replace(" and ", " "))
+                    for edit in edits:
+                        with self.subTest(f"{document}: {crate} {edit}"):
+                            self.assertTrue(os.path.exists(f"{TOP}/crates/{crate}/must-fail/{edit}.edit"))
+
+    def test_each_row_of_a_crate_has_its_clauses(self):
+        for crate in sorted(os.listdir(os.path.join(TOP, "crates"))):
+            document = f"crates/{crate}/README.md"
+            with self.subTest(document):
+                self.assertTrue(os.path.exists(os.path.join(TOP, document)))
+            for functions, clauses in rows(document):
+                labels = set().union(*(sources.clauses_of(crate, name) or {None} for name in names(functions)))
+                with self.subTest(f"{document}: {functions} {clauses}"):
+                    self.assertNotIn(None, labels)
+                    self.assertLessEqual(set(names(clauses)), labels)
+
+
+if __name__ == "__main__":
+    unittest.main()
