@@ -34,7 +34,7 @@ def prose(document):
 
 def items(document):
     """The items of the numbered lists of a document, each on one line."""
-    found = re.findall(r"^\d+\. (.*\n(?:   .*\n)*)", sources.text_of(document), re.M)
+    found = re.findall(r"^\d+\. (.*\n(?:   +\S.*\n)*)", sources.text_of(document), re.M)
     return [re.sub(r"\s+", " ", item) for item in found]
 
 
