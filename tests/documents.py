@@ -2,8 +2,8 @@
 """Compares the documents with the repository: documents.py
 
 Quotes are word for word what the sources say (tools/quotes.py). Each link leads to a file. In docs/MAP.md each file is
-there and has the functions that are named with it. In the README of each crate each function of the table has the
-clauses that stand beside it. Wherever a document names a clause, a law or a wrong body of a crate, the crate has it.
+there and has the functions that are named with it. In the README of each crate each function has the clauses that
+stand beside it in parentheses. Wherever a document names a clause, a law or a wrong body of a crate, the crate has it.
 """
 import os
 import re
@@ -38,9 +38,15 @@ def items(document):
     return [re.sub(r"\s+", " ", item) for item in found]
 
 
-def rows(document):
-    """The rows of the tables in a document that begin with a function: what stands in the first two columns."""
-    return re.findall(r"^\| (`.*?`) \| (.*?) \|", sources.text_of(document), re.M)
+def points(document):
+    """The points of a document that begin with functions: these, the clauses in parentheses after them, and the laws."""
+    for point in re.findall(r"^- (.*\n(?:  \S.*\n)*)", sources.text_of(document), re.M):
+        point = re.sub(r"\s+", " ", point)
+        if found := re.match(rf"((?:`{NAME}`(?:, )?)+): ", point):
+            rest = point[found.end():]
+            clauses = re.findall(r"\(((?:`\w+`(?:, )?)+)[;)]", rest)
+            laws = re.findall(r"[(;] ?laws? ((?:`\w+`(?:, )?)+)\)", rest)
+            yield names(found[1]), names(" ".join(clauses)), names(" ".join(laws))
 
 
 def names(text):
@@ -89,16 +95,15 @@ class Documents(unittest.TestCase):
                         with self.subTest(f"{document}: {crate} {edit}"):
                             self.assertTrue(os.path.exists(f"{TOP}/crates/{crate}/must-fail/{edit}.edit"))
 
-    def test_each_row_of_a_crate_has_its_clauses(self):
+    def test_each_crate_says_what_it_proves(self):
         for crate in sorted(os.listdir(os.path.join(TOP, "crates"))):
             document = f"crates/{crate}/README.md"
             with self.subTest(document):
                 self.assertTrue(os.path.exists(os.path.join(TOP, document)))
-            for functions, clauses in rows(document):
-                labels = set().union(*(sources.clauses_of(crate, name) or {None} for name in names(functions)))
-                with self.subTest(f"{document}: {functions} {clauses}"):
-                    self.assertNotIn(None, labels)
-                    self.assertLessEqual(set(names(clauses)), labels)
+            for functions, clauses, laws in points(document):
+                with self.subTest(f"{document}: {' '.join(functions)}"):
+                    self.assertNotIn(None, [sources.clauses_of(crate, name) for name in functions + laws])
+                    self.assertLessEqual(set(clauses), set().union(*(sources.clauses_of(crate, name) for name in functions)))
 
 
 if __name__ == "__main__":
