@@ -16,7 +16,7 @@ sys.dont_write_bytecode = True
 import quotes  # noqa: E402
 import sources  # noqa: E402
 
-LINK = re.compile(r"\]\(([^)#\s]+)(?:#[^)]*)?\)")
+LINK = re.compile(r"(?:\]\(|^\[[^\]^]+\]: )([^)#\s]+)", re.M)
 NAME = r"[A-Za-z_][\w:]*"
 # "`crate`, `function`, clauses `one` and `two`", and "`crate`, law `name`"
 CLAUSES = re.compile(rf"`(\w+)`, `({NAME})`, clauses? ((?:`\w+`(?: \([^)]*\))?(?:, | and )?)+)")
