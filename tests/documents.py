@@ -2,8 +2,9 @@
 """Compares the documents with the repository: documents.py
 
 Quotes are word for word what the sources say (tools/quotes.py). Each link leads to a file. In docs/MAP.md each file is
-there and has the functions that are named with it. In the README of each crate each function has the clauses that
-stand beside it in parentheses. Wherever a document names a clause, a law or a wrong body of a crate, the crate has it.
+there and has the functions that are named with it, and in docs/DEFINITIONS.md each crate has its definitions. In the
+README of each crate each function has the clauses that stand beside it in parentheses. Wherever a document names a
+clause, a law or a wrong body of a crate, the crate has it.
 """
 import os
 import re
@@ -18,6 +19,9 @@ import sources  # noqa: E402
 
 LINK = re.compile(r"(?:\]\(|^\[[^\]^]+\]: )([^)#\s]+)", re.M)
 NAME = r"[A-Za-z_][\w:]*"
+POINT = re.compile(r"^- (.*\n(?:  \S.*\n)*)", re.M)
+SECTION = re.compile(r"^(?=[a-z_]+(?: and [a-z_]+)?(?: \(.*\))?:$)", re.M)
+ITEM = re.compile(r"^\d+\. (.*\n(?:   +\S.*\n)*)", re.M)
 # "`crate`, `function`, clauses `one` and `two`", and "`crate`, law `name`"
 CLAUSES = re.compile(rf"`(\w+)`, `({NAME})`, clauses? ((?:`\w+`(?: \([^)]*\))?(?:, | and )?)+)")
 LAW = re.compile(rf"`(\w+)`, law `({NAME})`")
@@ -32,16 +36,22 @@ def prose(document):
     return re.sub(r"\s+", " ", re.sub(r"```.*?```", "", sources.text_of(document), flags=re.S))
 
 
-def items(document):
-    """The items of the numbered lists of a document, each on one line."""
-    found = re.findall(r"^\d+\. (.*\n(?:   +\S.*\n)*)", sources.text_of(document), re.M)
-    return [re.sub(r"\s+", " ", item) for item in found]
+def joined(points):
+    """Each point on one line."""
+    return [re.sub(r"\s+", " ", point) for point in points]
+
+
+def definitions():
+    """The definitions of docs/DEFINITIONS.md, each with the crates under which it stands."""
+    for section in SECTION.split(sources.text_of("docs/DEFINITIONS.md")):
+        crates = re.findall(r"[a-z]+_[a-z_]+", section.split("\n")[0].split("(")[0])
+        for point in joined(POINT.findall(section)) if crates else []:
+            yield from ((crates, name) for name in names(point.split(":")[0]))
 
 
 def points(document):
-    """The points of a document that begin with functions: these, the clauses in parentheses after them, and the laws."""
-    for point in re.findall(r"^- (.*\n(?:  \S.*\n)*)", sources.text_of(document), re.M):
-        point = re.sub(r"\s+", " ", point)
+    """The points of a document that begin with functions: these, the clauses in parentheses behind, and the laws."""
+    for point in joined(POINT.findall(sources.text_of(document))):
         if found := re.match(rf"((?:`{NAME}`(?:, )?)+): ", point):
             rest = point[found.end():]
             clauses = re.findall(r"\(((?:`\w+`(?:, )?)+)[;)]", rest)
@@ -68,7 +78,7 @@ class Documents(unittest.TestCase):
                         self.assertTrue(os.path.exists(os.path.join(TOP, os.path.dirname(document), link)))
 
     def test_each_place_on_the_map_is_there(self):
-        for item in items("docs/MAP.md"):
+        for item in joined(ITEM.findall(sources.text_of("docs/MAP.md"))):
             places = PLACE.findall(item)
             files = [place for place in places if "/" in place]
             known = [sources.functions(f"crates/{file}") for file in files]
@@ -85,6 +95,11 @@ class Documents(unittest.TestCase):
             for crate, law in LAW.findall(text):
                 with self.subTest(f"{document}: {crate} {law}"):
                     self.assertEqual(sources.clauses_of(crate, law), {""})
+
+    def test_each_definition_is_there(self):
+        for crates, name in definitions():
+            with self.subTest(f"{' '.join(crates)}: {name}"):
+                self.assertTrue(any(sources.defines(crate, name) for crate in crates))
 
     def test_each_wrong_body_is_there(self):
         for document in quotes.documents():
@@ -103,7 +118,8 @@ class Documents(unittest.TestCase):
             for functions, clauses, laws in points(document):
                 with self.subTest(f"{document}: {' '.join(functions)}"):
                     self.assertNotIn(None, [sources.clauses_of(crate, name) for name in functions + laws])
-                    self.assertLessEqual(set(clauses), set().union(*(sources.clauses_of(crate, name) for name in functions)))
+                    known = set().union(*(sources.clauses_of(crate, name) for name in functions))
+                    self.assertLessEqual(set(clauses), known)
 
 
 if __name__ == "__main__":

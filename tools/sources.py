@@ -74,11 +74,18 @@ def functions(file):
     return found
 
 
-def files_of(crate):
-    """The code of a crate, each file named from the top of the repository."""
-    folder = os.path.join(TOP, "crates", crate, "src")
+def files_of(crate, folder="src"):
+    """The files of code of a crate, or those of its specs/, each named from the top of the repository."""
     return sorted(os.path.relpath(os.path.join(path, name), TOP)
-                  for path, _, names in os.walk(folder) for name in names if name.endswith(".rt"))
+                  for path, _, names in os.walk(os.path.join(TOP, "crates", crate, folder))
+                  for name in names if name.endswith((".rt", ".antt")))
+
+
+def defines(crate, name):
+    """A crate's specs/ define the name, or a trait of the crate has it as a ghost member."""
+    ghost = re.compile(rf"^    ghost {name}:", re.M)
+    return (any(definition(file, name) for file in files_of(crate, "specs"))
+            or any(ghost.search(text_of(file)) for file in files_of(crate)))
 
 
 def clauses_of(crate, function):
