@@ -601,11 +601,13 @@ class AsAUser(unittest.TestCase):
                              "the vehicle has no parameter RTL_ALT_\n")
             self.ended(vehicle)
 
-    def test_the_readme_shows_what_the_program_prints(self):
-        with open(os.path.join(TOP, "README.md"), encoding="utf-8") as text:
-            shown = re.findall(r"^    \$ ((?:tools/station\.py|\./zuddrin) .*)\n((?:    (?!\$ ).*\n)*)", text.read(), re.M)
-        if not any(command.startswith("tools/station.py") for command, _ in shown):
-            self.skipTest("README.md shows no session")
+    def test_the_documents_show_what_the_program_prints(self):
+        shown = []
+        for document in ("README.md", os.path.join("docs", "USING.md")):
+            shown += re.findall(r"^    \$ ((?:tools/station\.py|\./zuddrin) .*)\n((?:    (?!\$ ).*\n)*)",
+                                content_of(os.path.join(TOP, document)), re.M)
+        for program in ("tools/station.py", "./zuddrin"):
+            self.assertTrue(any(command.startswith(program) for command, _ in shown))
         with self.served(sector=131_072) as vehicle:
             vehicle.ready()
             for command, output in shown:

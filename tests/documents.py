@@ -1,0 +1,126 @@
+#!/usr/bin/env python3
+"""Compares the documents with the repository: documents.py
+
+Quotes are word for word what the sources say (tools/quotes.py). Each link leads to a file. In docs/MAP.md each file is
+there and has the functions that are named with it, and in docs/DEFINITIONS.md each crate has its definitions. In the
+README of each crate each function has the clauses that stand beside it in parentheses. Wherever a document names a
+clause, a law or a wrong body of a crate, the crate has it.
+"""
+import os
+import re
+import sys
+import unittest
+
+TOP = os.path.join(os.path.dirname(os.path.abspath(__file__)), "..")
+sys.path.insert(0, os.path.join(TOP, "tools"))
+sys.dont_write_bytecode = True
+import quotes  # noqa: E402
+import sources  # noqa: E402
+
+LINK = re.compile(r"(?:\]\(|^\[[^\]^]+\]: )([^)#\s]+)", re.M)
+NAME = r"[A-Za-z_][\w:]*"
+POINT = re.compile(r"^- (.*\n(?:  \S.*\n)*)", re.M)
+SECTION = re.compile(r"^(?=[a-z_]+(?: and [a-z_]+)?(?: \(.*\))?:$)", re.M)
+ITEM = re.compile(r"^\d+\. (.*\n(?:   +\S.*\n)*)", re.M)
+# "`crate`, `function`, clauses `one` and `two`", and "`crate`, law `name`"
+CLAUSES = re.compile(rf"`(\w+)`, `({NAME})`, clauses? ((?:`\w+`(?: \([^)]*\))?(?:, | and )?)+)")
+LAW = re.compile(rf"`(\w+)`, law `({NAME})`")
+# "(wrong bodies: `crate`, one and two; `crate`, three)"
+WRONG_BODIES = re.compile(r"wrong bod(?:y|ies): ([^)]*)\)")
+# a place in a list of docs/MAP.md: a file, or a function
+PLACE = re.compile(rf"`({NAME}(?:/[\w./]+)?)`")
+
+
+def prose(document):
+    """A document on one line, without what it quotes."""
+    return re.sub(r"\s+", " ", re.sub(r"```.*?```", "", sources.text_of(document), flags=re.S))
+
+
+def joined(points):
+    """Each point on one line."""
+    return [re.sub(r"\s+", " ", point) for point in points]
+
+
+def definitions():
+    """The definitions of docs/DEFINITIONS.md, each with the crates under which it stands."""
+    for section in SECTION.split(sources.text_of("docs/DEFINITIONS.md")):
+        crates = re.findall(r"[a-z]+_[a-z_]+", section.split("\n")[0].split("(")[0])
+        for point in joined(POINT.findall(section)) if crates else []:
+            yield from ((crates, name) for name in names(point.split(":")[0]))
+
+
+def points(document):
+    """The points of a document that begin with functions: these, the clauses in parentheses behind, and the laws."""
+    for point in joined(POINT.findall(sources.text_of(document))):
+        if found := re.match(rf"((?:`{NAME}`(?:, )?)+): ", point):
+            rest = point[found.end():]
+            clauses = re.findall(r"\(((?:`\w+`(?:, )?)+)[;)]", rest)
+            laws = re.findall(r"[(;] ?laws? ((?:`\w+`(?:, )?)+)\)", rest)
+            yield names(found[1]), names(" ".join(clauses)), names(" ".join(laws))
+
+
+def names(text):
+    """What stands in backticks."""
+    return re.findall(r"`([^`]+)`", text)
+
+
+class Documents(unittest.TestCase):
+    def test_quotes_are_what_the_sources_say(self):
+        for document in quotes.documents():
+            with self.subTest(document):
+                self.assertTrue(quotes.compare(document, False))
+
+    def test_each_link_leads_to_a_file(self):
+        for document in quotes.documents():
+            for link in LINK.findall(sources.text_of(document)):
+                if "://" not in link:
+                    with self.subTest(f"{document}: {link}"):
+                        self.assertTrue(os.path.exists(os.path.join(TOP, os.path.dirname(document), link)))
+
+    def test_each_place_on_the_map_is_there(self):
+        for item in joined(ITEM.findall(sources.text_of("docs/MAP.md"))):
+            places = PLACE.findall(item)
+            files = [place for place in places if "/" in place]
+            known = [sources.functions(f"crates/{file}") for file in files]
+            for function in (place for place in places if "/" not in place):
+                with self.subTest(f"{function}, in {' '.join(files)}"):
+                    self.assertTrue(any(function in functions for functions in known))
+
+    def test_each_clause_that_a_document_names_is_there(self):
+        for document in quotes.documents():
+            text = prose(document)
+            for crate, function, clauses in CLAUSES.findall(text):
+                with self.subTest(f"{document}: {crate} {function} {clauses}"):
+                    self.assertLessEqual(set(names(clauses)), sources.clauses_of(crate, function) or set())
+            for crate, law in LAW.findall(text):
+                with self.subTest(f"{document}: {crate} {law}"):
+                    self.assertEqual(sources.clauses_of(crate, law), {""})
+
+    def test_each_definition_is_there(self):
+        for crates, name in definitions():
+            with self.subTest(f"{' '.join(crates)}: {name}"):
+                self.assertTrue(any(sources.defines(crate, name) for crate in crates))
+
+    def test_each_wrong_body_is_there(self):
+        for document in quotes.documents():
+            for named in WRONG_BODIES.findall(prose(document)):
+                for part in named.split(";"):
+                    crate, *edits = re.findall(r"\w+", part.replace(" and ", " "))
+                    for edit in edits:
+                        with self.subTest(f"{document}: {crate} {edit}"):
+                            self.assertTrue(os.path.exists(f"{TOP}/crates/{crate}/must-fail/{edit}.edit"))
+
+    def test_each_crate_says_what_it_proves(self):
+        for crate in sorted(os.listdir(os.path.join(TOP, "crates"))):
+            document = f"crates/{crate}/README.md"
+            with self.subTest(document):
+                self.assertTrue(os.path.exists(os.path.join(TOP, document)))
+            for functions, clauses, laws in points(document):
+                with self.subTest(f"{document}: {' '.join(functions)}"):
+                    self.assertNotIn(None, [sources.clauses_of(crate, name) for name in functions + laws])
+                    known = set().union(*(sources.clauses_of(crate, name) for name in functions))
+                    self.assertLessEqual(set(clauses), known)
+
+
+if __name__ == "__main__":
+    unittest.main()
