@@ -1,3 +1,4 @@
+pub mod Orders
 pub mod Vehicle
 pub mod Acts
 pub mod Replies
