@@ -23,7 +23,8 @@ use mav_messages::{Message, Replies, Sender, To};
 use param_records::SET_LINES;
 use param_tree::{Table, vehicle_table};
 use replies::{reply, row_value};
-use requests::{PARAMETERS, is_vehicle, row_named, row_of};
+pub use requests::is_vehicle;
+use requests::{PARAMETERS, row_named, row_of};
 use setting::set_row;
 use std::marker::Model;
 use storage_lines::Batch;
@@ -117,6 +118,7 @@ fn answer_set(
         × ((next_rows : List ℕ)
         → IsAnswered (did current.now allowed next_rows station asked)
         next_rows batch.new.items replies.new.items) }
+    ensures within { (limit : ℕ) → allowed ≡ Some limit → length batch.new.items ≤ limit }
     ensures inside { All (λ write. write.line < LINES) batch.new.items }
     ensures few { length batch.new.items ≤ SET_LINES }
     ensures magic { HasMagic current.now
@@ -148,6 +150,7 @@ pub fn answer(
     ensures answered { (asked : Option Request) × Asks message.now asked
         × IsAnswered (did current.now allowed state.old from.station asked)
         state.new batch.new.items replies.new.items }
+    ensures within { (limit : ℕ) → allowed ≡ Some limit → length batch.new.items ≤ limit }
     ensures inside { All (λ write. write.line < LINES) batch.new.items }
     ensures few { length batch.new.items ≤ SET_LINES }
     ensures magic { HasMagic current.now

@@ -88,6 +88,7 @@ pub fn set_row(
     requires batch { batch.old.items ≡ [] }
     ensures value { IfSome (slice_get vehicle_rows index)
         (λ row. IsSet current.now allowed row index bits batch.new.items result) }
+    ensures within { (limit : ℕ) → allowed ≡ Some limit → length batch.new.items ≤ limit }
     ensures inside { All (λ write. write.line < LINES) batch.new.items }
     ensures few { length batch.new.items ≤ SET_LINES }
     ensures magic { HasMagic current.now

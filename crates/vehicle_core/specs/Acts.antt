@@ -53,10 +53,6 @@ by_missions vehicle station d = record {
   need = Nothing;
 }
 
--- the lines that are written count where the vehicle is armed
-abbrev pub counted : Did → Did
-counted d = record d { vehicle = issues d.vehicle d.writes }
-
 -- what is done at a command, and how it is answered
 abbrev pub ordered : Vehicle → ℕ → Target → ℕ → Order → Did
 ordered vehicle station target command order = record {
@@ -73,13 +69,17 @@ ordered vehicle station target command order = record {
 abbrev pub asked_of : ℕ → List ℕ → Vehicle → ℕ → Option Asked → Did
 asked_of budget bytes vehicle station None = nothing vehicle
 asked_of budget bytes vehicle station (Some (Parameters request)) =
-    counted (by_parameters vehicle
-    (parameters.answered bytes (allowed_of budget vehicle) vehicle.next_rows station request))
+    by_parameters vehicle
+    (parameters.answered bytes (allowed_of budget vehicle) vehicle.next_rows station request)
 asked_of budget bytes vehicle station (Some (Missions sender asking)) =
-    counted (by_missions vehicle station
-    (missions.did bytes (allowed_of budget vehicle) vehicle.missions station sender (Some asking)))
+    by_missions vehicle station
+    (missions.did bytes (allowed_of budget vehicle) vehicle.missions station sender (Some asking))
 asked_of budget bytes vehicle station (Some (Orders sender command order)) =
     ordered vehicle station sender command order
+
+-- the lines that are written count where the vehicle is armed
+abbrev pub counted : Did → Did
+counted d = record d { vehicle = issues d.vehicle d.writes }
 
 -- what is told at an idle turn to a station that was heard
 abbrev pub beaten : Vehicle → ℕ → missions.Did → Did
@@ -91,8 +91,8 @@ beaten vehicle station d = record (by_missions vehicle station d) {
 -- What the vehicle does at an act, over these storage bytes, where so many lines may be issued while
 -- armed. Stations that weren't heard are told nothing.
 unfoldable pub did : ℕ → List ℕ → Vehicle → Act → Did
-did budget bytes vehicle (Said station heard) = asked_of budget bytes
-    (hears vehicle station heard.v2) station heard.asked
+did budget bytes vehicle (Said station heard) =
+    counted (asked_of budget bytes (hears vehicle station heard.v2) station heard.asked)
 did budget bytes vehicle (Beat station) =
     if is_heard vehicle station
     then beaten vehicle station (missions.idle vehicle.missions station)
