@@ -1,8 +1,9 @@
 -- What acts make of the lines since arming, and what they acknowledge.
-use Rattle.std.proofs.Common.{◌≡◌, ◌⊎◌, ℕ, ◌+◌, ◌-◌, ◌≤◌, true, false, cond, List, [], ◌∷◌, length, refl, sym, ◌∙◌, ap, subst, arith, Option, Some, None, option_map}
-use Rattle.std.specs.Prelude.{map, All, IsTrue, nat_lt}
+use Rattle.std.proofs.Common.{◌≡◌, ℕ, ◌+◌, ◌-◌, ◌≤◌, List, [], ◌∷◌, length, refl, sym, subst, arith, Option, Some, None, option_map}
+use Rattle.std.specs.Prelude.{map, All, IsTrue}
 use Rattle.std.proofs.lemmas.Bool.{cond_both}
 use Rattle.std.proofs.lemmas.Bool.Decides.{nat_tests}
+use Rattle.std.proofs.lemmas.List.Elements.{All-nil, All-cons}
 use Rattle.storage_lines.specs.declared.lines.LineWrite.{LineWrite}
 use Rattle.param_service.specs.Requests as parameter_requests
 use Rattle.param_service.specs.Requests.{Show, ShowAll, Set}
@@ -11,10 +12,10 @@ use Rattle.param_service.specs.Service.{Shown, set_writes}
 use Rattle.param_service.specs.Budget.{exceeds, allowed_writes}
 use Rattle.mission_service.specs.Service as missions
 use Rattle.mission_service.proofs.Limits.{did_within}
-use Rattle.vehicle_core.specs.Orders.{Need, Nothing, FlushAll, Order, Flush, Arm, Disarm, Deny, Refuse, result_of, need_of, armed_after}
+use Rattle.vehicle_core.specs.Orders.{Need, Nothing, FlushAll, Order, Flush, Arm, Disarm, Deny, Refuse, need_of, armed_after}
 use Rattle.vehicle_core.specs.Vehicle.{Vehicle, Asked, Parameters, Missions, Orders, Told, tells_value, tells_of_missions, is_heard, hears, allowed_of, is_storage_acknowledgement}
-use Rattle.vehicle_core.specs.Acts.{Act, Said, Beat, Stream, Did, SinceArming, did, nothing, by_parameters, by_missions, ordered, asked_of, counted, beaten}
-use Rattle.vehicle_core.specs.Laws.{IsAccepted, FlushesAlone}
+use Rattle.vehicle_core.specs.Acts.{Act, Said, Beat, Stream, Did, SinceArming, did, nothing, by_parameters, asked_of, counted, beaten}
+use Rattle.vehicle_core.specs.Laws.{FlushesAlone}
 
 -- lines are counted, and they are within what is allowed
 counts : (budget : ℕ) (armed : Option ℕ) (writes : List LineWrite) → ((limit : ℕ) → option_map (λ since. budget - since) armed ≡ Some limit → length writes ≤ limit)
@@ -97,27 +98,30 @@ abbrev Acknowledges : Need → Told → Type 0
 Acknowledges need told = IsTrue (is_storage_acknowledgement told.content) → need ≡ FlushAll
 
 values_none : (need : Need) (shown : List Shown) → All (Acknowledges need) (map tells_value shown)
-values_none need [] = tt
-values_none need (s ∷ shown) = (λ h. cc, values_none need shown)
+values_none need [] = All-nil (Acknowledges need)
+values_none need (s ∷ shown) = All-cons (Acknowledges need) (tells_value s) (map tells_value shown) (λ h. cc) (values_none need shown)
 
 missions_none : (need : Need) (station : ℕ) (told : List missions.Told) → All (Acknowledges need) (map (tells_of_missions station) told)
-missions_none need station [] = tt
-missions_none need station (t ∷ told) = (λ h. cc, missions_none need station told)
+missions_none need station [] = All-nil (Acknowledges need)
+missions_none need station (t ∷ told) = All-cons (Acknowledges need) (tells_of_missions station t) (map (tells_of_missions station) told) (λ h. cc) (missions_none need station told)
+
+one_told : (need : Need) (told : Told) → Acknowledges need told → All (Acknowledges need) (told ∷ [])
+one_told need told h = All-cons (Acknowledges need) told [] h (All-nil (Acknowledges need))
 
 asked_acknowledges : (budget : ℕ) (bytes : List ℕ) (vehicle : Vehicle) (station : ℕ) (asked : Option Asked) → All (Acknowledges (asked_of budget bytes vehicle station asked).need) (asked_of budget bytes vehicle station asked).told
-asked_acknowledges budget bytes vehicle station None = tt
+asked_acknowledges budget bytes vehicle station None = All-nil (Acknowledges Nothing)
 asked_acknowledges budget bytes vehicle station (Some (Parameters request)) = values_none _ _
 asked_acknowledges budget bytes vehicle station (Some (Missions sender asking)) = missions_none _ station _
-asked_acknowledges budget bytes vehicle station (Some (Orders sender command Flush)) = (λ h. refl, tt)
-asked_acknowledges budget bytes vehicle station (Some (Orders sender command Arm)) = (λ h. refl, tt)
-asked_acknowledges budget bytes vehicle station (Some (Orders sender command Disarm)) = (λ h. refl, tt)
-asked_acknowledges budget bytes vehicle station (Some (Orders sender command Deny)) = (λ h. cc, tt)
-asked_acknowledges budget bytes vehicle station (Some (Orders sender command Refuse)) = (λ h. cc, tt)
+asked_acknowledges budget bytes vehicle station (Some (Orders sender command Flush)) = one_told FlushAll _ (λ h. refl)
+asked_acknowledges budget bytes vehicle station (Some (Orders sender command Arm)) = one_told FlushAll _ (λ h. refl)
+asked_acknowledges budget bytes vehicle station (Some (Orders sender command Disarm)) = one_told FlushAll _ (λ h. refl)
+asked_acknowledges budget bytes vehicle station (Some (Orders sender command Deny)) = one_told Nothing _ (λ h. cc)
+asked_acknowledges budget bytes vehicle station (Some (Orders sender command Refuse)) = one_told Nothing _ (λ h. cc)
 
 pub did_acknowledges : (budget : ℕ) (bytes : List ℕ) (vehicle : Vehicle) (act : Act) → All (λ told. IsTrue (is_storage_acknowledgement told.content) → (did budget bytes vehicle act).need ≡ FlushAll) (did budget bytes vehicle act).told
 unfolding did
 did_acknowledges budget bytes vehicle (Said station heard) = asked_acknowledges budget bytes (hears vehicle station heard.v2) station heard.asked
 did_acknowledges budget bytes vehicle (Beat station) =
-    cond_both (is_heard vehicle station) (beaten vehicle station (missions.idle vehicle.missions station)) (nothing vehicle) (λ (d : Did). All (Acknowledges d.need) d.told) (λ x. (λ h. cc, missions_none Nothing station _)) (λ x. tt)
+    cond_both (is_heard vehicle station) (beaten vehicle station (missions.idle vehicle.missions station)) (nothing vehicle) (λ (d : Did). All (Acknowledges d.need) d.told) (λ x. All-cons (Acknowledges Nothing) _ _ (λ h. cc) (missions_none Nothing station _)) (λ x. All-nil (Acknowledges Nothing))
 did_acknowledges budget bytes vehicle (Stream station) =
-    cond_both (is_heard vehicle station) (by_parameters vehicle (parameters.streamed bytes vehicle.next_rows station)) (nothing vehicle) (λ (d : Did). All (Acknowledges d.need) d.told) (λ x. values_none Nothing _) (λ x. tt)
+    cond_both (is_heard vehicle station) (by_parameters vehicle (parameters.streamed bytes vehicle.next_rows station)) (nothing vehicle) (λ (d : Did). All (Acknowledges d.need) d.told) (λ x. values_none Nothing _) (λ x. All-nil (Acknowledges Nothing))

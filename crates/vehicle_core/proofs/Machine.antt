@@ -1,5 +1,5 @@
 -- The parts of an event, as the crate's calls do them.
-use Rattle.std.proofs.Common.{◌≡◌, ℕ, ◌<◌, Bool, true, false, cond, List, [], ◌∷◌, length, get_or, refl, sym, ◌∙◌, ap, subst, Option, Some, None, option_map}
+use Rattle.std.proofs.Common.{◌≡◌, ℕ, ◌+◌, ◌<◌, Bool, true, false, cond, List, [], ◌∷◌, length, get_or, refl, sym, ◌∙◌, ap, ap₂, subst, arith, Option, Some, None, option_map}
 use Rattle.std.specs.Prelude.{map, slice_get, slice_set}
 use Rattle.std.specs.Option.{option_map_or}
 use Rattle.std.proofs.lemmas.List.{map-set}
@@ -18,10 +18,10 @@ use Rattle.mission_service.specs.declared.uploads.Target.{Target}
 use Rattle.mission_service.specs.Requests as asking
 use Rattle.mission_service.specs.Service as missions
 use Rattle.mission_service.specs.Replies as answering
-use Rattle.vehicle_core.specs.Orders.{Nothing, VehicleCommand, command_of}
+use Rattle.vehicle_core.specs.Orders.{Need, Nothing, VehicleCommand, command_of}
 use Rattle.vehicle_core.specs.Inside.{stations_of, view_of}
 use Rattle.vehicle_core.specs.Vehicle.{Vehicle, StationState, Asked, Parameters, Missions, one_of, orders_for, Alive, tells_value, tells_of_missions, is_heard, is_armed, speaks_v2, hears, allowed_of, issues}
-use Rattle.vehicle_core.specs.Acts.{Did, heard_as, Said, Beat, Stream, did, nothing, by_parameters, by_missions, beaten, asked_of, counted}
+use Rattle.vehicle_core.specs.Acts.{Did, heard_as, Said, Beat, Stream, did, nothing, by_parameters, by_missions, beaten, ordered, asked_of, counted}
 use Rattle.vehicle_core.specs.Replies.{AreRepliesOf, IsAnswered, Tells}
 
 -- a station inside, as it is seen
@@ -143,6 +143,34 @@ served_by_missions budget bytes allowed inner next_rows old new armed vehicle st
     let same : allowed ≡ allowed_of budget inside = is ∙ ap (allowed_of budget) (sym view) in
     let here = subst (λ (a : Option ℕ). answering.IsAnswered (missions.did bytes a old station sender request) station new writes replies) same answered in
     follows_missions _ inside station (missions.did bytes (allowed_of budget inside) old station sender request) new writes replies e here
+
+none_since : (armed : Option ℕ) → option_map (λ since. since + length {A = LineWrite} []) armed ≡ armed
+none_since None = refl
+none_since (Some since) = ap Some (let e : since + length {A = LineWrite} [] ≡ since = omega arith in e)
+
+-- none is issued, and so nothing changes
+issues-none : (vehicle : Vehicle) → issues vehicle [] ≡ vehicle
+issues-none vehicle = ap (λ (a : Option ℕ). record vehicle { armed = a }) (none_since vehicle.armed)
+
+-- what was done for a station that was heard, and the lines that are counted then
+pub said : (budget : ℕ) (bytes : List ℕ) (inner : List Inner) (next_rows : List ℕ) (m : uploads.Missions) (armed : Option ℕ) (vehicle : Vehicle) (station : ℕ) (v2 : Bool) (asked : Option Asked) (served now : Vehicle) (writes : List LineWrite) (replies : List Reply) (need : Need) →
+    view_of inner next_rows m armed ≡ vehicle → IsAnswered (asked_of budget bytes (view_of (slice_set inner station (record { heard = true; v2 = v2 })) next_rows m armed) station asked) served writes replies need → now ≡ issues served writes →
+    IsAnswered (did budget bytes vehicle (Said station (heard_as v2 asked))) now writes replies need
+said budget bytes inner next_rows m armed vehicle station v2 asked served now writes replies need view answered count =
+    let heard = view_of (slice_set inner station (record { heard = true; v2 = v2 })) next_rows m armed in
+    let d = asked_of budget bytes heard station asked in
+    let e : did budget bytes vehicle (Said station (heard_as v2 asked)) ≡ counted d =
+    did-said budget bytes vehicle station v2 asked ∙ ap (λ (v : Vehicle). counted (asked_of budget bytes v station asked)) (marked inner next_rows m armed vehicle station v2 view) in
+    let all : IsAnswered (counted d) now writes replies need = record { state = count ∙ ap₂ issues answered.state answered.lines; lines = answered.lines; told = answered.told; needed = answered.needed } in
+    subst (λ (x : Did). IsAnswered x now writes replies need) (sym e) all
+
+-- a command of a station
+pub obeyed : (budget : ℕ) (bytes : List ℕ) (inner : List Inner) (next_rows : List ℕ) (m : uploads.Missions) (armed : Option ℕ) (vehicle : Vehicle) (station : ℕ) (v2 : Bool) (sender : Target) (command : VehicleCommand) (now : Vehicle) (writes : List LineWrite) (replies : List Reply) (need : Need) →
+    view_of inner next_rows m armed ≡ vehicle → writes ≡ [] → IsAnswered (ordered (view_of (slice_set inner station (record { heard = true; v2 = v2 })) next_rows m armed) station sender command.number command.order) now [] replies need →
+    IsAnswered (did budget bytes vehicle (Said station (heard_as v2 (Some (orders_for sender command))))) now writes replies need
+obeyed budget bytes inner next_rows m armed vehicle station v2 sender command now writes replies need view empty answered =
+    let all = said budget bytes inner next_rows m armed vehicle station v2 (Some (orders_for sender command)) now now [] replies need view answered (sym (issues-none now)) in
+    subst (λ (ws : List LineWrite). IsAnswered (did budget bytes vehicle (Said station (heard_as v2 (Some (orders_for sender command))))) now ws replies need) (sym empty) all
 
 pub streams : (budget : ℕ) (bytes : List ℕ) (inner : List Inner) (old next_rows : List ℕ) (m : uploads.Missions) (armed : Option ℕ) (vehicle : Vehicle) (station : ℕ) (replies : List Reply) → view_of inner old m armed ≡ vehicle → is_heard vehicle station ≡ true →
     next_rows ≡ (parameters.streamed bytes old station).next_rows → showing.AreRepliesOf (parameters.streamed bytes old station).shown replies → IsAnswered (did budget bytes vehicle (Stream station)) (view_of inner next_rows m armed) [] replies Nothing

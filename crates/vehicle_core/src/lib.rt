@@ -18,10 +18,10 @@ mod laws;
 mod orders;
 
 pub use laws::{acknowledges, asks_one_thing, counts_lines};
-pub use orders::Need;
-use orders::{Order, VehicleCommand, acknowledgement, command_of, need_of};
 use mav_messages::{Message, Replies, Reply, Sender, To};
 use mission_service::MissionState;
+pub use orders::Need;
+use orders::{Order, VehicleCommand, acknowledgement, command_of, need_of};
 use param_service::{ParamState, stream};
 use std::marker::Model;
 use storage_lines::Batch;

@@ -41,7 +41,7 @@ pub enum Need {
 
 /// What a command orders: to flush all lines, to arm or to disarm. A parameter that isn't known is
 /// denied, and a command that isn't known is refused.
-#[derive(Clone, Copy, Debug, PartialEq, Eq, Drop)]
+#[derive(Clone, Copy, Drop)]
 pub enum Order {
     Flush,
     Arm,
