@@ -1,8 +1,11 @@
 //! What no clause says: worked turns.
-ghost use Rattle.std.specs.Prelude.{◌<◌};
+ghost use Rattle.std.specs.Prelude.{◌≡◌, ◌<◌, []};
 
 use crate::*;
-use storage_lines::STORAGE_BYTES;
+use storage_lines::{STORAGE_BYTES, apply};
+
+/// The budget of the smallest sectors.
+const BUDGET: u32 = 47;
 
 /// A station asks for the list, in a frame of this version.
 fn ask(core: &mut Core, station: u8, version_two: bool)
@@ -19,6 +22,7 @@ fn ask(core: &mut Core, station: u8, version_two: bool)
     };
     core.message(
         &[0; STORAGE_BYTES],
+        BUDGET,
         from,
         version_two,
         &request,
@@ -98,6 +102,7 @@ fn asks_for_the_next_item_of_an_upload_again(rt: HostRuntime) {
     let mut replies = Replies::new();
     core.message(
         &[0; STORAGE_BYTES],
+        BUDGET,
         from,
         true,
         &count,
@@ -123,4 +128,141 @@ fn asks_for_the_next_item_of_an_upload_again(rt: HostRuntime) {
             _ => assert!(rt; false),
         }
     }
+}
+
+/// COMMAND_LONG of station 5 with this first parameter.
+fn command(core: &mut Core, number: u16, param1: u32, replies: &mut Replies) -> Need
+    requires { replies.old.items ≡ [] }
+{
+    let from = Sender {
+        station: 5,
+        system: 255,
+        component: 190,
+    };
+    let order = Message::CommandLong {
+        param1,
+        param2: 0,
+        param3: 0,
+        param4: 0,
+        param5: 0,
+        param6: 0,
+        param7: 0,
+        command: number,
+        target_system: 1,
+        target_component: 1,
+        confirmation: 0,
+    };
+    core.message(
+        &[0; STORAGE_BYTES],
+        BUDGET,
+        from,
+        true,
+        &order,
+        &mut Batch::new(),
+        replies,
+    )
+}
+
+#[test]
+fn answers_commands(rt: HostRuntime) {
+    let mut core = Core::new();
+    for (number, param1, result, armed) in [
+        (245, 0x3F80_0000, 0, false),
+        (245, 0, 2, false),
+        (400, 0x3F80_0000, 0, true),
+        (400, 0x4000_0000, 2, true),
+        (246, 0x3F80_0000, 3, true),
+        (400, 0x8000_0000, 0, false),
+        (400, 0x3F80_0000, 0, true),
+        (400, 0, 0, false),
+    ] {
+        let mut replies = Replies::new();
+        let need = command(&mut core, number, param1, &mut replies);
+        assert_eq!(rt; need == Need::FlushAll, result == 0, "at {number} {param1}");
+        assert_eq!(rt; core.armed(), armed, "at {number} {param1}");
+        assert_eq!(rt; replies.len(), 1);
+        assert!(rt; matches!(replies[0].to, To::Station(5)));
+        match replies[0].message {
+            Message::CommandAck {
+                command,
+                result: answer,
+                progress,
+                result_param2,
+                target_system,
+                target_component,
+            } => {
+                assert_eq!(rt; (command, answer), (number, result), "at {number} {param1}");
+                assert_eq!(rt; (progress, result_param2), (0, 0));
+                assert_eq!(rt; (target_system, target_component), (255, 190));
+            }
+            _ => assert!(rt; false),
+        }
+    }
+}
+
+#[test]
+fn tells_that_it_is_armed(rt: HostRuntime) {
+    let mut core = Core::new();
+    command(&mut core, 400, 0x3F80_0000, &mut Replies::new());
+    let mut replies = Replies::new();
+    core.idle(5, &mut replies);
+    assert_eq!(rt; replies.len(), 1);
+    match replies[0].message {
+        Message::Heartbeat {
+            base_mode,
+            system_status,
+            ..
+        } => assert_eq!(rt; (base_mode, system_status), (129, 4)),
+        _ => assert!(rt; false),
+    }
+}
+
+/// PARAM_SET of FS_THR_ENABLE by station 5, applied to the storage: the pattern that is shown.
+fn set_failsafe(core: &mut Core, bytes: &mut [u8; STORAGE_BYTES], bits: u32) -> Option<u32> {
+    let from = Sender {
+        station: 5,
+        system: 255,
+        component: 190,
+    };
+    let set = Message::ParamSet {
+        param_value: bits,
+        target_system: 1,
+        target_component: 1,
+        param_id: *b"FS_THR_ENABLE\0\0\0",
+        param_type: 2,
+    };
+    let mut batch = Batch::new();
+    let mut replies = Replies::new();
+    core.message(bytes, BUDGET, from, true, &set, &mut batch, &mut replies);
+    for write in batch.as_slice() {
+        apply(write, bytes);
+    }
+    match replies.first().copied()?.message {
+        Message::ParamValue { param_value, .. } => Some(param_value),
+        _ => None,
+    }
+}
+
+#[test]
+fn shows_the_old_value_once_the_budget_is_spent(rt: HostRuntime) {
+    let mut core = Core::new();
+    // The storage is formatted, and FS_THR_ENABLE is 0.
+    let mut bytes = [0; STORAGE_BYTES];
+    bytes[..8].copy_from_slice(&[0x50, 0x41, 6, 0, 0x14, 0x42, 0, 0]);
+    bytes[8..16].copy_from_slice(&[0, 0, 3, 1, 0, 0, 0, 0xFF]);
+    bytes[16..24].copy_from_slice(&[0xFF, 0x3F, 0, 0, 0, 0, 0, 0]);
+    command(&mut core, 400, 0x3F80_0000, &mut Replies::new());
+    for change in 1..=47u32 {
+        let bits = if change % 2 == 1 { 0x3F80_0000 } else { 0 };
+        assert_eq!(rt;
+            set_failsafe(&mut core, &mut bytes, bits),
+            Some(bits),
+            "at {change}"
+        );
+    }
+    // Arming again doesn't set the count back, and disarming does.
+    command(&mut core, 400, 0x3F80_0000, &mut Replies::new());
+    assert_eq!(rt; set_failsafe(&mut core, &mut bytes, 0), Some(0x3F80_0000));
+    command(&mut core, 400, 0, &mut Replies::new());
+    assert_eq!(rt; set_failsafe(&mut core, &mut bytes, 0), Some(0));
 }

@@ -1,5 +1,7 @@
 pub mod LawsBelow
 pub mod RunLaws
+pub mod Orders
+pub mod Acknowledging
 pub mod Readings
 pub mod At
 pub mod Passing

@@ -1,4 +1,5 @@
 //! What holds of every reading of events, and of boot.
+ghost use Rattle.vehicle_node.specs.Arming.{OrdersDecide};
 ghost use Rattle.vehicle_node.specs.Boot.{BootFormats};
 ghost use Rattle.vehicle_node.specs.Laws.{FramesAreRead, EventsAreRead, EventsAreReadOnce};
 
@@ -31,4 +32,9 @@ pub fn events_are_read_once()
 /// Boot leaves a parameter storage that is formatted.
 pub fn boot_formats()
     ensures { BootFormats }
+{}
+
+/// The orders that are heard decide whether the machine is armed, and what it needs.
+pub fn orders_decide()
+    ensures { OrdersDecide }
 {}
