@@ -412,17 +412,18 @@ class AsAUser(unittest.TestCase):
                     self.ended(vehicle)
 
     def test_a_mission_that_was_uploaded_is_whole_once_a_later_frame_was_answered(self):
-        new = [Item(16, 3, x=473977420, y=85455970 + number, z=20.0) for number in range(3)]
-        with self.served() as vehicle:
-            station = vehicle.station()
-            self.assertEqual(self.begin(station, MISSION, new, len(new)), 0)
-            ask(station, mavlink.request_read(1, version=2))
-            vehicle.process.kill()
-            vehicle.process.wait(timeout=30)
-        with self.served() as vehicle:
-            vehicle.ready()
-            self.assertEqual(self.items_of(vehicle, MISSION), new)
-            self.ended(vehicle)
+        for ended_by in (signal.SIGKILL, signal.SIGTERM, signal.SIGINT):
+            new = [Item(16, 3, x=473977420, y=85455970 + number, z=10.0 + ended_by) for number in range(3)]
+            with self.served() as vehicle:
+                station = vehicle.station()
+                self.assertEqual(self.begin(station, MISSION, new, len(new)), 0)
+                ask(station, mavlink.request_read(1, version=2))
+                vehicle.process.send_signal(ended_by)
+                vehicle.process.wait(timeout=30)
+            with self.served() as vehicle:
+                vehicle.ready()
+                self.assertEqual(self.items_of(vehicle, MISSION), new)
+                self.ended(vehicle)
 
     def test_a_second_station_is_denied_while_one_uploads(self):
         denied = "denied: another station uploads"

@@ -47,8 +47,12 @@ def is_locked(name):
 
 def why_not_opened(name, is_served):
     """Why an image of this name can't be opened."""
-    if not os.path.isfile(name):
+    if os.path.isdir(name):
+        return f"{name} is a folder"
+    if not os.path.exists(name):
         return f"{name} isn't there; ./serve makes an image, and so does ./zuddrin format"
+    if not os.path.isfile(name):
+        return f"{name} is no file that holds an image"
     if os.path.getsize(name) not in map(image.image_bytes, image.SECTOR_SIZES):
         return f"{name} has {os.path.getsize(name):,} bytes; an image has {LENGTHS}"
     if not os.access(name, os.R_OK | os.W_OK if is_served else os.R_OK):

@@ -11,6 +11,8 @@ use std::test::Fail;
 use vehicle_node::{Node, NodeError};
 
 mod boot;
+mod noise;
+mod prefixes;
 mod uploads;
 
 // A formatted image of 16,384-byte sectors: sector 0 in use, sector 1 available.

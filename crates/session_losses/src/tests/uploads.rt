@@ -7,7 +7,7 @@ use super::*;
 
 // What is uploaded. The items of an upload differ in their longitude alone.
 #[derive(Clone, Copy)]
-enum Kind {
+pub(super) enum Kind {
     /// Waypoints at 30.48 metres above home.
     Mission,
     /// Circles of 100 metres to stay inside.
@@ -22,7 +22,7 @@ fn number_of(kind: Kind) -> u8 {
 }
 
 // An item of an upload.
-fn item(kind: Kind, seq: u16, y: i32) -> Message {
+pub(super) fn item(kind: Kind, seq: u16, y: i32) -> Message {
     let (command, frame, param1, z) = match kind {
         Kind::Mission => (16, 3, 0, 0x41F3_D70A),
         Kind::Fence => (5003, 0, 0x42C8_0000, 0),
@@ -47,7 +47,7 @@ fn item(kind: Kind, seq: u16, y: i32) -> Message {
 }
 
 // The MISSION_COUNT that begins an upload.
-fn begin(kind: Kind, count: u16) -> Message {
+pub(super) fn begin(kind: Kind, count: u16) -> Message {
     Message::MissionCount {
         count,
         target_system: 1,
@@ -73,9 +73,18 @@ fn replacing(alloc: Global, kind: Kind) -> Result<Vec<Feed>, Fail>
 }
 
 // Asks for an item.
-fn request(kind: Kind, seq: u16) -> Message {
+pub(super) fn request(kind: Kind, seq: u16) -> Message {
     Message::MissionRequestInt {
         seq,
+        target_system: 1,
+        target_component: 1,
+        mission_type: number_of(kind),
+    }
+}
+
+// Asks how many items there are.
+pub(super) fn request_list(kind: Kind) -> Message {
+    Message::MissionRequestList {
         target_system: 1,
         target_component: 1,
         mission_type: number_of(kind),
@@ -86,13 +95,8 @@ fn request(kind: Kind, seq: u16) -> Message {
 fn downloading(alloc: Global, kind: Kind) -> Result<Vec<Feed>, Fail>
     ensures { IfOk result (λ feed. IsTrue (peers_fit feed.items)) }
 {
-    let list = Message::MissionRequestList {
-        target_system: 1,
-        target_component: 1,
-        mission_type: number_of(kind),
-    };
     let mut feed = Vec::new(alloc);
-    append(&mut feed, asked(&list)?)?;
+    append(&mut feed, asked(&request_list(kind))?)?;
     append(&mut feed, asked(&request(kind, 0))?)?;
     append(&mut feed, asked(&request(kind, 1))?)?;
     append(&mut feed, asked(&request(kind, 2))?)?;

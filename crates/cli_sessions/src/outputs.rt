@@ -1,0 +1,68 @@
+//! Each command with each call of its output failing in turn: what is printed is cut short and never
+//! goes on, and a served image has all that was done. A source that fails is never asked.
+use byteorder::{ByteOrder, LittleEndian};
+use flash_board::{Feed, MemBoard, MemSink, MemSource};
+use std::alloc::Global;
+use std::test::Fail;
+use storage_cli::{Status, run};
+
+// The status of a command, what it printed, and the image that it left.
+#[derive(Drop)]
+struct Ended {
+    status: Status,
+    text: Vec<u8>,
+    image: Vec<u8>,
+}
+
+// A command whose output fails at the call with this number, and whose input always does.
+fn command(alloc: Global, words: &[&str], image: &[u8], failing: u32) -> Result<Ended, Fail> {
+    let mut board = MemBoard::new(alloc, image, &[Feed::Idle, Feed::Idle], &[])?;
+    let mut input = MemSource::new(alloc, &[], &[0])?;
+    let mut out = MemSink::new(alloc, 20_000, &[failing])?;
+    let status = run(alloc, words, &mut board, &mut input, &mut out);
+    Ok(Ended {
+        status,
+        text: Vec::from_slice(alloc, out.bytes())?,
+        image: board.image(alloc)?,
+    })
+}
+
+fn fresh_image(alloc: Global) -> Result<Vec<u8>, Fail> {
+    let mut image = vec![in alloc; 0xFFu8; 49_152]?;
+    LittleEndian::write_u16_into(&[0x5BFE, 0x5168], &mut image[..4]);
+    LittleEndian::write_u16_into(&[0x5BFF, 0x5168], &mut image[16_384..16_388]);
+    Ok(image)
+}
+
+#[test]
+fn a_failing_output_cuts_the_text_and_loses_nothing(rt: HostRuntime) -> Result<(), Fail> {
+    let alloc = rt.alloc();
+    let image = fresh_image(alloc)?;
+    let cases: [(&[&str], u8); 6] = [
+        (&["serve", "a"], 0),
+        (&["serve", "a", "--turns", "2"], 8),
+        (&["dump", "a"], 0),
+        (&["report", "a"], 0),
+        (&["format", "a", "--port", "7"], 1),
+        (&["format", "a"], 0),
+    ];
+    for (words, status) in cases {
+        let whole = command(alloc, words, &image, u32::MAX)?;
+        assert_eq!(rt; whole.status, Status(status));
+        let mut stopped = true;
+        for failing in 0..1_000 {
+            let ended = command(alloc, words, &image, failing)?;
+            assert!(rt; whole.text.starts_with(ended.text.as_slice()));
+            assert!(rt; ended.image.as_slice() == whole.image.as_slice());
+            if ended.status == whole.status {
+                assert_eq!(rt; ended.text.as_slice(), whole.text.as_slice());
+                stopped = false;
+                break;
+            }
+            assert_eq!(rt; ended.status, Status(10));
+            assert!(rt; ended.text.len() < whole.text.len());
+        }
+        assert!(rt; !stopped, "{}", words.len());
+    }
+    Ok(())
+}
