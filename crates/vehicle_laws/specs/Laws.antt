@@ -165,8 +165,8 @@ pub record BootFormats : Type 0 where
 -- After each number of lines from the start on the bytes are formatted, and MIS_TOTAL lies in one
 -- line if it did at the start.
 abbrev pub StaysInOneLine : Type 0
-StaysInOneLine = (budget : ℕ) (b : List ℕ) (acts : List Act) (k : ℕ) → StartsFormatted b → AllFit acts
-    → length (boot b) ≤ k
+StaysInOneLine = (budget : ℕ) (b : List ℕ) (acts : List Act) (k : ℕ)
+    → StartsFormatted b → AllFit acts → length (boot b) ≤ k
     → StaysFormatted (current b (start b)) (after b (take k (run_over budget b acts).issued))
 
 -- The first k lines of a run end within those of one act: they are the lines of the acts before it

@@ -11,8 +11,7 @@ use Rattle.vehicle_core.specs.declared.orders.Order.{Order}
 use Rattle.vehicle_core.specs.declared.orders.Order.TheVariants.{Flush, Arm, Disarm, Deny, Refuse}
 use Rattle.vehicle_core.specs.Orders.{armed_after, need_of}
 use Rattle.vehicle_core.specs.Vehicle.{Vehicle, Content, Asked, Parameters, Missions, Orders, Told, tells_value, tells_of_missions, is_heard, is_armed, hears, is_storage_acknowledgement}
-use Rattle.vehicle_core.specs.Acts.{Act, Said, Beat, Stream, Did, did, nothing, by_parameters, beaten, asked_of}
-use Rattle.vehicle_core.specs.Acts.{counted as lines_counted}
+use Rattle.vehicle_core.specs.Acts.{Act, Said, Beat, Stream, Did, did, nothing, by_parameters, beaten, asked_of, lines_counted}
 use Rattle.vehicle_node.specs.Frames.{Machine, Answer, Delivery, acknowledged, told_to, deliveries, deliveries_of, numbered, counted}
 use Rattle.vehicle_node.specs.Arming.{order_asked, need_in, armed_by, is_armed_after, is_armed_after_all, IsArmedThroughout, IsArmedOnce, NoneFlushes, OrdersDecide}
 
