@@ -3,8 +3,8 @@ use Rattle.std.proofs.Common.{◌≡◌, ℕ, ◌+◌, ◌≤◌, min, max, List
 use Rattle.vehicle_core.specs.Acts.{Act}
 use Rattle.vehicle_node.specs.Frames.{Answer, acknowledged, deliveries}
 use Rattle.vehicle_node.specs.Runs.{Run, did_in, take_act, act_done, all_acts, event_done, start, run_from, run_of}
-use Rattle.vehicle_node.specs.Laws.{FloorsByEvents}
-use Rattle.vehicle_node.proofs.RunLaws.{run_of_push, Front, Extends, extends_all, answers_in}
+use Rattle.vehicle_node.specs.Laws.{FlooredByEvent, FloorsByEvents}
+use Rattle.vehicle_node.proofs.RunLaws.{run_of_push, all_acts_floor, extends_all, answers_in}
 use Rattle.vehicle_node.proofs.Acknowledging.{acknowledged-append, acknowledged_most}
 
 -- no storage acknowledgement is counted after more lines than were issued
@@ -37,21 +37,17 @@ all_counted : (budget : ℕ) (b : List ℕ) (events : List (List Act)) → Count
 unfolding run_of
 all_counted budget b events = run_counted budget b (start b) events (record { issued = omega arith; floor = omega arith })
 
-own_alone : (issued floor before own both : ℕ) → before ≤ floor → both ≡ max before own → min issued (max floor both + 8) ≡ min issued (max floor own + 8)
-own_alone issued floor before own both le is = omega arith
+own_alone : (issued now floor before own both : ℕ) → now ≡ floor → before ≤ floor → both ≡ max before own → min issued (max now both + 8) ≡ min issued (max floor own + 8)
+own_alone issued now floor before own both same le is = omega arith
 
 pub floors_by_events : FloorsByEvents
 floors_by_events budget b events acts =
     let r = run_of budget b events in
-    let c = all_counted budget b events in
     let x = extends_all budget b r acts in
     let now = all_acts budget b r acts in
-    let push = run_of_push budget b events acts in
-    record {
+    subst (λ (s : Run). FlooredByEvent r s) (sym (run_of_push budget b events acts)) (record {
       answers = x.answers.rest;
-      whole = x.answers.whole ∙ sym (ap (λ (s : Run). s.answers) push);
-      floor = ap (λ (s : Run). s.floor) push
-          ∙ own_alone (length now.issued) r.floor (acknowledged r.answers) (acknowledged x.answers.rest) (acknowledged now.answers) c.floor
-          (ap acknowledged (sym x.answers.whole) ∙ acknowledged-append r.answers x.answers.rest)
-          ∙ ap (λ (n : ℕ). min n (max r.floor (acknowledged x.answers.rest) + 8)) (sym (ap (λ (s : Run). length s.issued) push));
-    }
+      whole = x.answers.whole;
+      floor = own_alone (length now.issued) now.floor r.floor (acknowledged r.answers) (acknowledged x.answers.rest) (acknowledged now.answers) (all_acts_floor budget b r acts) (all_counted budget b events).floor
+          (ap acknowledged (sym x.answers.whole) ∙ acknowledged-append r.answers x.answers.rest);
+    })

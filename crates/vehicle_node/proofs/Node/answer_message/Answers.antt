@@ -24,7 +24,7 @@ answer-requires-clause-room g c =
     let flag = c.if-was_armed.armed in
     let over : flag ≡ (was && is) = elim c.if-was_armed.branch [
       | then-was_armed w ↦ both_armed was is flag w.if-was_armed.true w.armed-is
-      | else-was_armed w ↦ not_armed was is flag w.if-was_armed.false w.armed-is
+      | else-was_armed w ↦ not_armed was is flag w.if-was_armed.false (w.armed-is ∙ w.if-was_armed.false)
     ] in
     message_room g.B.Board c.args.board.now c.self.inside c.args.self.now flag c.message-need.new.self c.message-need.new.batch.items c.message-need.result c.self.view_is c.requires.fits c.message-need.ensures.within
     (over ∙ both_flags was is (is_armed c.self.inside.core) (is_armed c.message-need.new.self) c.armed-was_armed.ensures c.armed-is_armed.ensures)
@@ -43,7 +43,7 @@ returns-clause-done g c =
     let flag = c.if-was_armed.armed in
     let over : flag ≡ (was && is) = elim c.if-was_armed.branch [
       | then-was_armed w ↦ both_armed was is flag w.if-was_armed.true w.armed-is
-      | else-was_armed w ↦ not_armed was is flag w.if-was_armed.false w.armed-is
+      | else-was_armed w ↦ not_armed was is flag w.if-was_armed.false (w.armed-is ∙ w.if-was_armed.false)
     ] in (
       a.0,
       a.1,
