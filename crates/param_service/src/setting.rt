@@ -72,8 +72,8 @@ fn set_without_limit(
     }
 }
 
-/// Sets a row to the value of a pattern where it may be set and can be, and no more lines are needed
-/// than may be issued, and gives the value that it then has.
+/// Sets a row to the value of a pattern where it may be set and can be, and where no more lines are
+/// needed than may be issued, and gives the value that it then has.
 pub fn set_row(
     table: &Table<240>,
     current: &[u8],

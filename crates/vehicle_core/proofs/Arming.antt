@@ -14,10 +14,10 @@ use Rattle.mission_service.specs.Service as missions
 use Rattle.mission_service.proofs.Limits.{did_within}
 use Rattle.vehicle_core.specs.Orders.{Need, Nothing, FlushAll, Order, Flush, Arm, Disarm, Deny, Refuse, need_of, armed_after}
 use Rattle.vehicle_core.specs.Vehicle.{Vehicle, Asked, Parameters, Missions, Orders, Told, tells_value, tells_of_missions, is_heard, hears, allowed_of, is_storage_acknowledgement}
-use Rattle.vehicle_core.specs.Acts.{Act, Said, Beat, Stream, Did, SinceArming, did, nothing, by_parameters, asked_of, counted, beaten}
+use Rattle.vehicle_core.specs.Acts.{Act, Said, Beat, Stream, Did, SinceArming, did, nothing, by_parameters, asked_of, lines_counted, beaten}
 use Rattle.vehicle_core.specs.Laws.{FlushesAlone}
 
--- lines are counted, and they are within what is allowed
+-- lines are lines_counted, and they are within what is allowed
 counts : (budget : ℕ) (armed : Option ℕ) (writes : List LineWrite) → ((limit : ℕ) → option_map (λ since. budget - since) armed ≡ Some limit → length writes ≤ limit)
     → SinceArming budget armed (option_map (λ since. since + length writes) armed) writes Nothing
 counts budget None writes within = tt
@@ -28,7 +28,7 @@ stays : (budget : ℕ) (armed : Option ℕ) → SinceArming budget armed armed [
 stays budget None = tt
 stays budget (Some since) = (omega arith, λ h. h)
 
--- a command, whose lines are counted too
+-- a command, whose lines are lines_counted too
 orders : (budget : ℕ) (armed : Option ℕ) (order : Order) → SinceArming budget armed (option_map (λ since. since + length {A = LineWrite} []) (armed_after order armed)) [] (need_of order)
 orders budget None Flush = tt
 orders budget None Arm = (omega arith, refl, refl)
@@ -52,7 +52,7 @@ parameters_within bytes allowed next_rows station (Set index number) limit is =
     subst (λ (a : Option ℕ). length (allowed_writes a (set_writes bytes index number)) ≤ limit) (sym is) (set_within limit (set_writes bytes index number))
 
 asked_counts : (budget : ℕ) (bytes : List ℕ) (vehicle : Vehicle) (station : ℕ) (asked : Option Asked) →
-    SinceArming budget vehicle.armed (counted (asked_of budget bytes vehicle station asked)).vehicle.armed (asked_of budget bytes vehicle station asked).writes (asked_of budget bytes vehicle station asked).need
+    SinceArming budget vehicle.armed (lines_counted (asked_of budget bytes vehicle station asked)).vehicle.armed (asked_of budget bytes vehicle station asked).writes (asked_of budget bytes vehicle station asked).need
 asked_counts budget bytes vehicle station None = counts budget vehicle.armed [] (λ limit is. omega arith)
 asked_counts budget bytes vehicle station (Some (Parameters request)) =
     counts budget vehicle.armed _ (λ limit is. parameters_within bytes (allowed_of budget vehicle) vehicle.next_rows station request limit is)
@@ -75,7 +75,7 @@ did_counts budget bytes vehicle (Stream station) =
 not_flushed : (d : Did) → Nothing ≡ FlushAll → FlushesAlone d
 not_flushed d clash = cc
 
-asked_alone : (budget : ℕ) (bytes : List ℕ) (vehicle : Vehicle) (station : ℕ) (asked : Option Asked) → (asked_of budget bytes vehicle station asked).need ≡ FlushAll → FlushesAlone (counted (asked_of budget bytes vehicle station asked))
+asked_alone : (budget : ℕ) (bytes : List ℕ) (vehicle : Vehicle) (station : ℕ) (asked : Option Asked) → (asked_of budget bytes vehicle station asked).need ≡ FlushAll → FlushesAlone (lines_counted (asked_of budget bytes vehicle station asked))
 asked_alone budget bytes vehicle station None h = not_flushed _ h
 asked_alone budget bytes vehicle station (Some (Parameters request)) h = not_flushed _ h
 asked_alone budget bytes vehicle station (Some (Missions sender asking)) h = not_flushed _ h

@@ -21,7 +21,7 @@ use Rattle.mission_service.specs.Replies as answering
 use Rattle.vehicle_core.specs.Orders.{Need, Nothing, VehicleCommand, command_of}
 use Rattle.vehicle_core.specs.Inside.{stations_of, view_of}
 use Rattle.vehicle_core.specs.Vehicle.{Vehicle, StationState, Asked, Parameters, Missions, one_of, orders_for, Alive, tells_value, tells_of_missions, is_heard, is_armed, speaks_v2, hears, allowed_of, issues}
-use Rattle.vehicle_core.specs.Acts.{Did, heard_as, Said, Beat, Stream, did, nothing, by_parameters, by_missions, beaten, ordered, asked_of, counted}
+use Rattle.vehicle_core.specs.Acts.{Did, heard_as, Said, Beat, Stream, did, nothing, by_parameters, by_missions, beaten, ordered, asked_of, lines_counted}
 use Rattle.vehicle_core.specs.Replies.{AreRepliesOf, IsAnswered, Tells}
 
 -- a station inside, as it is seen
@@ -74,7 +74,7 @@ no_command sender message a b none =
     ap (λ (o : Option VehicleCommand). one_of a (one_of b (option_map (orders_for sender) o))) none ∙ ap (one_of a) (one_of-none b)
 
 pub did-said : (budget : ℕ) (bytes : List ℕ) (vehicle : Vehicle) (station : ℕ) (v2 : Bool) (asked : Option Asked) →
-    did budget bytes vehicle (Said station (heard_as v2 asked)) ≡ counted (asked_of budget bytes (hears vehicle station v2) station asked)
+    did budget bytes vehicle (Said station (heard_as v2 asked)) ≡ lines_counted (asked_of budget bytes (hears vehicle station v2) station asked)
 unfolding did
 did-said budget bytes vehicle station v2 asked = refl
 
@@ -152,16 +152,16 @@ none_since (Some since) = ap Some (let e : since + length {A = LineWrite} [] ≡
 issues-none : (vehicle : Vehicle) → issues vehicle [] ≡ vehicle
 issues-none vehicle = ap (λ (a : Option ℕ). record vehicle { armed = a }) (none_since vehicle.armed)
 
--- what was done for a station that was heard, and the lines that are counted then
+-- what was done for a station that was heard, and the lines that are lines_counted then
 pub said : (budget : ℕ) (bytes : List ℕ) (inner : List Inner) (next_rows : List ℕ) (m : uploads.Missions) (armed : Option ℕ) (vehicle : Vehicle) (station : ℕ) (v2 : Bool) (asked : Option Asked) (served now : Vehicle) (writes : List LineWrite) (replies : List Reply) (need : Need) →
     view_of inner next_rows m armed ≡ vehicle → IsAnswered (asked_of budget bytes (view_of (slice_set inner station (record { heard = true; v2 = v2 })) next_rows m armed) station asked) served writes replies need → now ≡ issues served writes →
     IsAnswered (did budget bytes vehicle (Said station (heard_as v2 asked))) now writes replies need
 said budget bytes inner next_rows m armed vehicle station v2 asked served now writes replies need view answered count =
     let heard = view_of (slice_set inner station (record { heard = true; v2 = v2 })) next_rows m armed in
     let d = asked_of budget bytes heard station asked in
-    let e : did budget bytes vehicle (Said station (heard_as v2 asked)) ≡ counted d =
-    did-said budget bytes vehicle station v2 asked ∙ ap (λ (v : Vehicle). counted (asked_of budget bytes v station asked)) (marked inner next_rows m armed vehicle station v2 view) in
-    let all : IsAnswered (counted d) now writes replies need = record { state = count ∙ ap₂ issues answered.state answered.lines; lines = answered.lines; told = answered.told; needed = answered.needed } in
+    let e : did budget bytes vehicle (Said station (heard_as v2 asked)) ≡ lines_counted d =
+    did-said budget bytes vehicle station v2 asked ∙ ap (λ (v : Vehicle). lines_counted (asked_of budget bytes v station asked)) (marked inner next_rows m armed vehicle station v2 view) in
+    let all : IsAnswered (lines_counted d) now writes replies need = record { state = count ∙ ap₂ issues answered.state answered.lines; lines = answered.lines; told = answered.told; needed = answered.needed } in
     subst (λ (x : Did). IsAnswered x now writes replies need) (sym e) all
 
 -- a command of a station

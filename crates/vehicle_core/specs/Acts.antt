@@ -65,7 +65,7 @@ ordered vehicle station target command order = record {
   need = need_of order;
 }
 
--- what is done for a station that was heard, where so many lines may be issued while armed
+-- what is done for a station that was heard
 abbrev pub asked_of : ℕ → List ℕ → Vehicle → ℕ → Option Asked → Did
 asked_of budget bytes vehicle station None = nothing vehicle
 asked_of budget bytes vehicle station (Some (Parameters request)) =
@@ -78,8 +78,8 @@ asked_of budget bytes vehicle station (Some (Orders sender command order)) =
     ordered vehicle station sender command order
 
 -- the lines that are written count where the vehicle is armed
-abbrev pub counted : Did → Did
-counted d = record d { vehicle = issues d.vehicle d.writes }
+abbrev pub lines_counted : Did → Did
+lines_counted d = record d { vehicle = issues d.vehicle d.writes }
 
 -- what is told at an idle turn to a station that was heard
 abbrev pub beaten : Vehicle → ℕ → missions.Did → Did
@@ -88,11 +88,11 @@ beaten vehicle station d = record (by_missions vehicle station d) {
       ∷ map (tells_of_missions station) d.told;
 }
 
--- What the vehicle does at an act, over these storage bytes, where so many lines may be issued while
--- armed. Stations that weren't heard are told nothing.
+-- What the vehicle does at an act, over these storage bytes. Where it is armed, no more lines may be
+-- issued than the budget says. Stations that weren't heard are told nothing.
 unfoldable pub did : ℕ → List ℕ → Vehicle → Act → Did
 did budget bytes vehicle (Said station heard) =
-    counted (asked_of budget bytes (hears vehicle station heard.v2) station heard.asked)
+    lines_counted (asked_of budget bytes (hears vehicle station heard.v2) station heard.asked)
 did budget bytes vehicle (Beat station) =
     if is_heard vehicle station
     then beaten vehicle station (missions.idle vehicle.missions station)
@@ -102,9 +102,10 @@ did budget bytes vehicle (Stream station) =
     then by_parameters vehicle (parameters.streamed bytes vehicle.next_rows station)
     else nothing vehicle
 
--- What an act makes of the lines since arming. An armed vehicle counts the lines that are written,
--- and stays within the budget where it was. It is armed with no line since, and armed or disarmed
--- where nothing is written and all lines are flushed before that is told.
+-- What an act makes of the number of lines since arming. While the vehicle is armed it rises by the
+-- lines that are written, and stays within the budget where it was. Where the vehicle is armed or
+-- disarmed, nothing is written, and all lines are flushed before that is told; where it is armed, no
+-- line was issued since.
 abbrev pub SinceArming : ℕ → Option ℕ → Option ℕ → List LineWrite → Need → Type 0
 SinceArming budget None None writes need = Unit {0}
 SinceArming budget None (Some now) writes need = (now ≡ 0) × (writes ≡ []) × (need ≡ FlushAll)

@@ -12,6 +12,7 @@ use Rattle.param_records.specs.Changes.{set_pieces, is_full}
 use Rattle.param_records.specs.Steps.{records_in_storage, IsKept}
 use Rattle.param_service.specs.Requests as parameters
 use Rattle.param_service.specs.Requests.{Show, ShowAll, Set}
+use Rattle.param_service.specs.Budget.{exceeds, allowed_writes}
 use Rattle.param_service.specs.Service as parameter_service
 use Rattle.param_service.specs.Service.{is_total, writes_for, set_writes, streamed}
 use Rattle.mission_commands.specs.declared.commands.Command.{Command}
@@ -28,7 +29,7 @@ use Rattle.mission_service.specs.Requests.{Begin, Asking, operation_cancelled}
 use Rattle.mission_service.specs.Service as service
 use Rattle.mission_service.specs.Service.{Told, idled, idle, idle_turns, answered}
 use Rattle.mission_service.specs.declared.replies.Content.TheVariants.{Next, Answer}
-use Rattle.vehicle_core.specs.Vehicle.{Vehicle, Asked, Parameters, Missions, Content, Parameter, Alive, OfMissions, Told as VehicleTold, is_heard, tells_of_missions}
+use Rattle.vehicle_core.specs.Vehicle.{Vehicle, Asked, Parameters, Missions, Orders, Content, Parameter, Alive, OfMissions, Acknowledged, Told as VehicleTold, is_heard, tells_of_missions, allowed_of}
 use Rattle.vehicle_core.specs.Acts.{Act, Said, Beat, Stream, Did, did, heard_as, nothing, by_parameters, beaten}
 use Rattle.vehicle_node.specs.Frames.{Machine, Delivery, deliveries, counted, counted_all}
 use Rattle.vehicle_node.specs.Runs.{Run, did_in, take_act, act_done}
@@ -57,11 +58,16 @@ setting_keeps : (bytes : List ℕ) (index number : ℕ) (o : Option Var) → IsF
 setting_keeps bytes index number None f is kept = keeps_none bytes f
 setting_keeps bytes index number (Some row) f is kept = row_keeps bytes index number row f is kept
 
-parameters_keep : (bytes next_rows : List ℕ) (station : ℕ) (request : parameters.Request) → IsFormatted bytes → SettingFits request → Keeps bytes (parameter_service.answered bytes next_rows station request).writes
-parameters_keep bytes next_rows station (Show index) f fits = keeps_none bytes f
-parameters_keep bytes next_rows station ShowAll f fits = keeps_none bytes f
-parameters_keep bytes next_rows station (Set index None) f fits = keeps_none bytes f
-parameters_keep bytes next_rows station (Set index (Some number)) f fits = setting_keeps bytes index number (slice_get vehicle_rows index) f refl fits
+-- lines that are allowed
+allowed_keeps : (bytes : List ℕ) (allowed : Option ℕ) (ws : List LineWrite) → IsFormatted bytes → Keeps bytes ws → Keeps bytes (allowed_writes allowed ws)
+allowed_keeps bytes allowed ws f keeps = cond_both (exceeds allowed ws) [] ws (Keeps bytes) (λ t. keeps_none bytes f) (λ t. keeps)
+
+parameters_keep : (bytes : List ℕ) (allowed : Option ℕ) (next_rows : List ℕ) (station : ℕ) (request : parameters.Request) → IsFormatted bytes → SettingFits request → Keeps bytes (parameter_service.answered bytes allowed next_rows station request).writes
+parameters_keep bytes allowed next_rows station (Show index) f fits = keeps_none bytes f
+parameters_keep bytes allowed next_rows station ShowAll f fits = keeps_none bytes f
+parameters_keep bytes allowed next_rows station (Set index None) f fits = allowed_keeps bytes allowed [] f (keeps_none bytes f)
+parameters_keep bytes allowed next_rows station (Set index (Some number)) f fits =
+    allowed_keeps bytes allowed (set_writes bytes index (Some number)) f (setting_keeps bytes index number (slice_get vehicle_rows index) f refl fits)
 
 -- the command that the station gives with this number in an act, if it does
 abbrev pub command_given : ℕ → ℕ → Act → Option Command
@@ -72,10 +78,10 @@ abbrev pub missions_at : Run → Uploads
 missions_at r = uploads_at Mission r
 
 -- An act opens an upload of a mission.
-pub record ActBegun (b : List ℕ) (r : Run) (act : Act) (writes : List LineWrite) (now : Uploads) : Type 0 where
+pub record ActBegun (budget : ℕ) (b : List ℕ) (r : Run) (act : Act) (writes : List LineWrite) (now : Uploads) : Type 0 where
   pub station : ℕ
   pub count : ℕ
-  pub opens : Opens Mission b r act station count
+  pub opens : Opens budget Mission b r act station count
   pub writes_are : writes ≡ begin_writes (after b r.issued)
   pub upload : Upload
   pub now_is : now ≡ Open upload
@@ -111,19 +117,20 @@ asked_of (Said s heard) = heard.asked
 asked_of (Beat s) = None
 asked_of (Stream s) = None
 
-abbrev ActEffect : List ℕ → Run → Act → Did → Type 0
-ActEffect b r act d = Effect (ActBegun b r act (did_in b r act).writes d.vehicle.missions.mission) (OpensNone Mission b r act) (after b r.issued) (missions_at r) (λ u. command_given u.owner u.expected act) d.writes d.vehicle.missions.mission
+abbrev ActEffect : ℕ → List ℕ → Run → Act → Did → Type 0
+ActEffect budget b r act d = Effect (ActBegun budget b r act (did_in budget b r act).writes d.vehicle.missions.mission) (OpensNone budget Mission b r act) (after b r.issued) (missions_at r) (λ u. command_given u.owner u.expected act) d.writes d.vehicle.missions.mission
 
 -- nothing is given
-silent : (b : List ℕ) (r : Run) (s : ℕ) (v : Bool) (asked : Option Asked) (ws : List LineWrite) → Keeps (after b r.issued) ws → ((u : Upload) → command_given u.owner u.expected (Said s (heard_as v asked)) ≡ None) → OpensNone Mission b r (Said s (heard_as v asked))
-    → Effect (ActBegun b r (Said s (heard_as v asked)) (did_in b r (Said s (heard_as v asked))).writes (missions_at r)) (OpensNone Mission b r (Said s (heard_as v asked))) (after b r.issued) (missions_at r) (λ u. command_given u.owner u.expected (Said s (heard_as v asked))) ws (missions_at r)
-silent b r s v asked ws k n alone = unchanged _ _ (after b r.issued) (missions_at r) (λ u. command_given u.owner u.expected (Said s (heard_as v asked))) ws (missions_at r) refl k n alone
+silent : (budget : ℕ) (b : List ℕ) (r : Run) (s : ℕ) (v : Bool) (asked : Option Asked) (ws : List LineWrite) → Keeps (after b r.issued) ws → ((u : Upload) → command_given u.owner u.expected (Said s (heard_as v asked)) ≡ None) → OpensNone budget Mission b r (Said s (heard_as v asked))
+    → Effect (ActBegun budget b r (Said s (heard_as v asked)) (did_in budget b r (Said s (heard_as v asked))).writes (missions_at r)) (OpensNone budget Mission b r (Said s (heard_as v asked))) (after b r.issued) (missions_at r) (λ u. command_given u.owner u.expected (Said s (heard_as v asked))) ws (missions_at r)
+silent budget b r s v asked ws k n alone = unchanged _ _ (after b r.issued) (missions_at r) (λ u. command_given u.owner u.expected (Said s (heard_as v asked))) ws (missions_at r) refl k n alone
 
 -- the first content asks for an item
 abbrev content_next : Content → Bool
 content_next (OfMissions t) = is_next t.content
 content_next (Parameter index value) = false
-content_next Alive = false
+content_next (Alive armed) = false
+content_next (Acknowledged target command result) = false
 
 abbrev told_next : List VehicleTold → Bool
 told_next [] = false
@@ -144,17 +151,21 @@ not_opened t s v sender asking told n m w to number alone is h =
     alone m same (sym (same_next s told) ∙ ap told_next h)
 
 -- what is done for a station that was heard
-said_effect : (b : List ℕ) (r : Run) (s : ℕ) (v : Bool) (asked : Option Asked) → IsFormatted (after b r.issued) → AskedFits asked → ActEffect b r (Said s (heard_as v asked)) (did_in b r (Said s (heard_as v asked)))
+said_effect : (budget : ℕ) (b : List ℕ) (r : Run) (s : ℕ) (v : Bool) (asked : Option Asked) → IsFormatted (after b r.issued) → AskedFits asked → ActEffect budget b r (Said s (heard_as v asked)) (did_in budget b r (Said s (heard_as v asked)))
 unfolding did
-said_effect b r s v None f fits = silent b r s v None [] (keeps_none (after b r.issued) f) (λ u. cond_none (u.owner == s)) (λ n m o. let clash = ap asked_of o.is in cc)
-said_effect b r s v (Some (Parameters request)) f fits =
-    silent b r s v (Some (Parameters request)) (parameter_service.answered (after b r.issued) r.machine.vehicle.next_rows s request).writes
-    (parameters_keep (after b r.issued) r.machine.vehicle.next_rows s request f fits) (λ u. cond_none (u.owner == s)) (λ n m o. let clash = ap asked_of o.is in cc)
-said_effect b r s v (Some (Missions sender asking)) f fits =
+said_effect budget b r s v None f fits = silent budget b r s v None [] (keeps_none (after b r.issued) f) (λ u. cond_none (u.owner == s)) (λ n m o. let clash = ap asked_of o.is in cc)
+said_effect budget b r s v (Some (Parameters request)) f fits =
+    let allowed = allowed_of budget r.machine.vehicle in
+    silent budget b r s v (Some (Parameters request)) (parameter_service.answered (after b r.issued) allowed r.machine.vehicle.next_rows s request).writes
+    (parameters_keep (after b r.issued) allowed r.machine.vehicle.next_rows s request f fits) (λ u. cond_none (u.owner == s)) (λ n m o. let clash = ap asked_of o.is in cc)
+said_effect budget b r s v (Some (Orders sender command order)) f fits =
+    silent budget b r s v (Some (Orders sender command order)) [] (keeps_none (after b r.issued) f) (λ u. cond_none (u.owner == s)) (λ n m o. let clash = ap asked_of o.is in cc)
+said_effect budget b r s v (Some (Missions sender asking)) f fits =
     let bytes = after b r.issued in
+    let allowed = allowed_of budget r.machine.vehicle in
     let from = from_station s sender asking in
     let m = r.machine.vehicle.missions in
-    let d = answered bytes None m from asking.request in
+    let d = answered bytes allowed m from asking.request in
     effect_map (Begun bytes from asking.request d.told d.writes d.missions.mission) _ (NotBegun from asking.request d.told) _ bytes (missions_at r) (λ u. command_given u.owner u.expected (Said s (heard_as v (Some (Missions sender asking))))) d.writes d.missions.mission
     (λ x. record {
       station = s;
@@ -176,32 +187,32 @@ said_effect b r s v (Some (Missions sender asking)) f fits =
       few = x.few;
     })
     (λ alone n m o. not_opened Mission s v sender asking d.told n m o.v2 o.sender o.number alone o.is o.told)
-    (effect bytes None m.mission m.fence from asking.request f fits.0)
+    (effect bytes allowed m.mission m.fence from asking.request f fits.0)
 
 -- what an act does
-done_effect : (b : List ℕ) (r : Run) (act : Act) → IsFormatted (after b r.issued) → ActFits act → ActEffect b r act (did_in b r act)
+done_effect : (budget : ℕ) (b : List ℕ) (r : Run) (act : Act) → IsFormatted (after b r.issued) → ActFits act → ActEffect budget b r act (did_in budget b r act)
 unfolding did
-done_effect b r (Said s heard) f fits = said_effect b r s heard.v2 heard.asked f fits
-done_effect b r (Beat s) f fits =
+done_effect budget b r (Said s heard) f fits = said_effect budget b r s heard.v2 heard.asked f fits
+done_effect budget b r (Beat s) f fits =
     let vehicle = r.machine.vehicle in
-    cond_both (is_heard vehicle s) (beaten vehicle s (idle vehicle.missions s)) (nothing vehicle) (ActEffect b r (Beat s))
+    cond_both (is_heard vehicle s) (beaten vehicle s (idle vehicle.missions s)) (nothing vehicle) (ActEffect budget b r (Beat s))
     (λ t. beat_effect _ _ (after b r.issued) (missions_at r) s f (λ n m o. let clash = o.is in cc))
     (λ t. unchanged _ _ (after b r.issued) (missions_at r) (λ u. None) [] (missions_at r) refl (keeps_none (after b r.issued) f) (λ u. refl) (λ n m o. let clash = o.is in cc))
-done_effect b r (Stream s) f fits =
+done_effect budget b r (Stream s) f fits =
     let vehicle = r.machine.vehicle in
     let d = by_parameters vehicle (streamed (after b r.issued) vehicle.next_rows s) in
-    let same = unchanged (ActBegun b r (Stream s) (did_in b r (Stream s)).writes (missions_at r)) (OpensNone Mission b r (Stream s)) (after b r.issued) (missions_at r) (λ u. None) [] (missions_at r) refl (keeps_none (after b r.issued) f) (λ u. refl) (λ n m o. let clash = o.is in cc) in
-    cond_both (is_heard vehicle s) d (nothing vehicle) (ActEffect b r (Stream s)) (λ t. same) (λ t. same)
+    let same = unchanged (ActBegun budget b r (Stream s) (did_in budget b r (Stream s)).writes (missions_at r)) (OpensNone budget Mission b r (Stream s)) (after b r.issued) (missions_at r) (λ u. None) [] (missions_at r) refl (keeps_none (after b r.issued) f) (λ u. refl) (λ n m o. let clash = o.is in cc) in
+    cond_both (is_heard vehicle s) d (nothing vehicle) (ActEffect budget b r (Stream s)) (λ t. same) (λ t. same)
 
 vehicle_counted : (machine : Machine) (ds : List Delivery) → (counted_all machine ds).vehicle ≡ machine.vehicle
 vehicle_counted machine [] = refl
 vehicle_counted machine (d ∷ ds) = vehicle_counted (counted machine d) ds
 
 -- the state after an act is that of what was done
-pub vehicle_after : (b : List ℕ) (r : Run) (act : Act) → (act_done b r act).machine.vehicle ≡ (did_in b r act).vehicle
-vehicle_after b r act = vehicle_counted (take_act b r act).machine (deliveries (did_in b r act).vehicle (did_in b r act).told)
+pub vehicle_after : (budget : ℕ) (b : List ℕ) (r : Run) (act : Act) → (act_done budget b r act).machine.vehicle ≡ (did_in budget b r act).vehicle
+vehicle_after budget b r act = vehicle_counted (take_act budget b r act).machine (deliveries (did_in budget b r act).vehicle (did_in budget b r act).told)
 
-pub act_effect : (b : List ℕ) (r : Run) (act : Act) → IsFormatted (after b r.issued) → ActFits act
-    → Effect (ActBegun b r act (did_in b r act).writes (missions_at (act_done b r act))) (OpensNone Mission b r act) (after b r.issued) (missions_at r) (λ u. command_given u.owner u.expected act) (did_in b r act).writes (missions_at (act_done b r act))
-act_effect b r act f fits = subst (λ (v : Vehicle). Effect (ActBegun b r act (did_in b r act).writes v.missions.mission) (OpensNone Mission b r act) (after b r.issued) (missions_at r) (λ u. command_given u.owner u.expected act) (did_in b r act).writes v.missions.mission)
-    (sym (vehicle_after b r act)) (done_effect b r act f fits)
+pub act_effect : (budget : ℕ) (b : List ℕ) (r : Run) (act : Act) → IsFormatted (after b r.issued) → ActFits act
+    → Effect (ActBegun budget b r act (did_in budget b r act).writes (missions_at (act_done budget b r act))) (OpensNone budget Mission b r act) (after b r.issued) (missions_at r) (λ u. command_given u.owner u.expected act) (did_in budget b r act).writes (missions_at (act_done budget b r act))
+act_effect budget b r act f fits = subst (λ (v : Vehicle). Effect (ActBegun budget b r act (did_in budget b r act).writes v.missions.mission) (OpensNone budget Mission b r act) (after b r.issued) (missions_at r) (λ u. command_given u.owner u.expected act) (did_in budget b r act).writes v.missions.mission)
+    (sym (vehicle_after budget b r act)) (done_effect budget b r act f fits)

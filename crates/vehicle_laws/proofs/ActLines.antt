@@ -25,7 +25,7 @@ use Rattle.mission_service.specs.Service as service
 use Rattle.mission_service.specs.declared.replies.Content.TheVariants.{Answer, Next}
 use Rattle.param_service.specs.Budget.{exceeds}
 use Rattle.mission_service.specs.Service.{accepted, denied, no_space, invalid_sequence, From, Taken, only, does, is_anothers, opened, clear_writes, any_anothers, all_quiet, cleared, begun, is_last, if_allowed, command_lines, taken, took, given_to, answered}
-use Rattle.vehicle_core.specs.Vehicle.{Vehicle, Asked, Parameters, Missions as AskedMissions, is_heard, hears}
+use Rattle.vehicle_core.specs.Vehicle.{Vehicle, Asked, Parameters, Missions as AskedMissions, Orders, is_heard, hears, allowed_of}
 use Rattle.vehicle_core.specs.Acts.{Act, Said, Beat, Stream, Did, did, nothing, by_parameters, asked_of, beaten}
 use Rattle.mission_service.specs.Asked.{RequestFits}
 use Rattle.vehicle_laws.specs.Rows.{total_to_set, row_asked, row_of_act}
@@ -152,17 +152,20 @@ pub record OfActs (P : Option ℕ → List LineWrite → Type 0) (bytes : List �
   pub of_row : (index : ℕ) → OfRow (P (Some index)) bytes index
   pub of_missions : OfMissions (λ request. P (total_to_set request)) bytes m
 
-said_lines : (P : Option ℕ → List LineWrite → Type 0) (bytes : List ℕ) (vehicle : Vehicle) (s : ℕ) (asked : Option Asked) → OfActs P bytes vehicle.missions → AskedFits asked → P (row_asked asked) (asked_of bytes vehicle s asked).writes
-said_lines P bytes vehicle s None o fits = o.none None
-said_lines P bytes vehicle s (Some (Parameters (Show index))) o fits = o.none None
-said_lines P bytes vehicle s (Some (Parameters ShowAll)) o fits = o.none None
-said_lines P bytes vehicle s (Some (Parameters (Set index number))) o fits = setting_lines (P (Some index)) bytes index number (o.of_row index) fits
-said_lines P bytes vehicle s (Some (AskedMissions sender asking)) o fits =
-    request_lines (λ request. P (total_to_set request)) bytes None vehicle.missions (from_station s sender asking) asking.request o.of_missions fits.0 fits.1
+said_lines : (P : Option ℕ → List LineWrite → Type 0) (budget : ℕ) (bytes : List ℕ) (vehicle : Vehicle) (s : ℕ) (asked : Option Asked) → OfActs P bytes vehicle.missions → AskedFits asked → P (row_asked asked) (asked_of budget bytes vehicle s asked).writes
+said_lines P budget bytes vehicle s None o fits = o.none None
+said_lines P budget bytes vehicle s (Some (Parameters (Show index))) o fits = o.none None
+said_lines P budget bytes vehicle s (Some (Parameters ShowAll)) o fits = o.none None
+said_lines P budget bytes vehicle s (Some (Parameters (Set index number))) o fits =
+    let ws = set_writes bytes index number in
+    cond_both (exceeds (allowed_of budget vehicle) ws) [] ws (P (Some index)) (λ t. o.none (Some index)) (λ t. setting_lines (P (Some index)) bytes index number (o.of_row index) fits)
+said_lines P budget bytes vehicle s (Some (Orders sender command order)) o fits = o.none None
+said_lines P budget bytes vehicle s (Some (AskedMissions sender asking)) o fits =
+    request_lines (λ request. P (total_to_set request)) bytes (allowed_of budget vehicle) vehicle.missions (from_station s sender asking) asking.request o.of_missions fits.0 fits.1
 
 -- the lines of an act
-pub act_lines : (P : Option ℕ → List LineWrite → Type 0) (bytes : List ℕ) (vehicle : Vehicle) (act : Act) → OfActs P bytes vehicle.missions → ActFits act → P (row_of_act act) (did bytes vehicle act).writes
+pub act_lines : (P : Option ℕ → List LineWrite → Type 0) (budget : ℕ) (bytes : List ℕ) (vehicle : Vehicle) (act : Act) → OfActs P bytes vehicle.missions → ActFits act → P (row_of_act act) (did budget bytes vehicle act).writes
 unfolding did
-act_lines P bytes vehicle (Said s heard) o fits = said_lines P bytes (hears vehicle s heard.v2) s heard.asked o fits
-act_lines P bytes vehicle (Beat s) o fits = cond_both (is_heard vehicle s) (beaten vehicle s (service.idle vehicle.missions s)) (nothing vehicle) (λ (d : Did). P None d.writes) (λ t. o.none None) (λ t. o.none None)
-act_lines P bytes vehicle (Stream s) o fits = cond_both (is_heard vehicle s) (by_parameters vehicle (streamed bytes vehicle.next_rows s)) (nothing vehicle) (λ (d : Did). P None d.writes) (λ t. o.none None) (λ t. o.none None)
+act_lines P budget bytes vehicle (Said s heard) o fits = said_lines P budget bytes (hears vehicle s heard.v2) s heard.asked o fits
+act_lines P budget bytes vehicle (Beat s) o fits = cond_both (is_heard vehicle s) (beaten vehicle s (service.idle vehicle.missions s)) (nothing vehicle) (λ (d : Did). P None d.writes) (λ t. o.none None) (λ t. o.none None)
+act_lines P budget bytes vehicle (Stream s) o fits = cond_both (is_heard vehicle s) (by_parameters vehicle (streamed bytes vehicle.next_rows s)) (nothing vehicle) (λ (d : Did). P None d.writes) (λ t. o.none None) (λ t. o.none None)

@@ -24,7 +24,7 @@ use Rattle.mission_service.specs.declared.replies.Content.{Content}
 use Rattle.mission_service.specs.declared.replies.Content.TheVariants.{Answer, Next, Total, MissionItem, FencePart}
 use Rattle.param_service.specs.Budget.{exceeds}
 use Rattle.mission_service.specs.Service.{Told, From, Taken as TakenItem, tells, only, is_last, if_allowed, command_lines, taken, took, told_after, given_to, accepted, denied, invalid_sequence, no_space}
-use Rattle.vehicle_core.specs.Vehicle.{Asked, Missions, tells_of_missions, Content as VehicleContent, Parameter, Alive, OfMissions, Told as VehicleTold}
+use Rattle.vehicle_core.specs.Vehicle.{Asked, Missions, tells_of_missions, allowed_of, Content as VehicleContent, Parameter, Alive, OfMissions, Acknowledged, Told as VehicleTold}
 use Rattle.vehicle_core.specs.Acts.{Act, Said, did}
 use Rattle.vehicle_node.specs.Runs.{Run, did_in}
 use Rattle.vehicle_laws.specs.Uploads.{run_over, says, Opens, OpensNone, GoesOn, commands_from, command_in}
@@ -111,7 +111,8 @@ last_given bytes limit (Open w) fence u from seq stored e fits own =
 abbrev pub content_zero : VehicleContent → Bool
 content_zero (OfMissions t) = is_zero t.content
 content_zero (Parameter index value) = false
-content_zero Alive = false
+content_zero (Alive armed) = false
+content_zero (Acknowledged target command result) = false
 
 abbrev pub told_zero : List VehicleTold → Bool
 told_zero [] = false
@@ -121,15 +122,16 @@ pub same_zero : (s : ℕ) (told : List Told) → told_zero (map (tells_of_missio
 same_zero s [] = refl
 same_zero s (x ∷ xs) = refl
 
-last_act : (b : List ℕ) (r : Run) (u : Upload) (v : Bool) (target : Target) (number seq : ℕ) (stored : Result Command ℕ) → missions_at r ≡ Open u → RequestFits (Give seq (ForMission stored))
-    → told_zero (did_in b r (says u.owner v target number (Give seq (ForMission stored)))).told ≡ true → LastPut (after b r.issued) u seq stored (did_in b r (says u.owner v target number (Give seq (ForMission stored)))).writes
+last_act : (budget : ℕ) (b : List ℕ) (r : Run) (u : Upload) (v : Bool) (target : Target) (number seq : ℕ) (stored : Result Command ℕ) → missions_at r ≡ Open u → RequestFits (Give seq (ForMission stored))
+    → told_zero (did_in budget b r (says u.owner v target number (Give seq (ForMission stored)))).told ≡ true → LastPut (after b r.issued) u seq stored (did_in budget b r (says u.owner v target number (Give seq (ForMission stored)))).writes
 unfolding did
-last_act b r u v target number seq stored e fits zero =
+last_act budget b r u v target number seq stored e fits zero =
     let bytes = after b r.issued in
     let m = r.machine.vehicle.missions in
     let from : From = record { station = u.owner; target = target; number = number } in
-    let d = given_to bytes None m from Mission seq (ForMission stored) m.mission in
-    last_given bytes None m.mission m.fence u from seq stored e fits refl (sym (same_zero u.owner d.told) ∙ zero)
+    let allowed = allowed_of budget r.machine.vehicle in
+    let d = given_to bytes allowed m from Mission seq (ForMission stored) m.mission in
+    last_given bytes allowed m.mission m.fence u from seq stored e fits refl (sym (same_zero u.owner d.told) ∙ zero)
 
 abbrev pub gives_item : Request → Bool
 gives_item (Give seq given) = true
@@ -144,19 +146,19 @@ is_given (Said s heard) = asks_to_take heard.asked
 is_given _ = false
 
 -- an act that gives an item opens no upload
-pub gives_not_opens : (t : MissionType) (b : List ℕ) (r : Run) (act : Act) (s : ℕ) (v : Bool) (target : Target) (number seq : ℕ) (given : Given) → act ≡ says s v target number (Give seq given) → OpensNone t b r act
-gives_not_opens t b r act s v target number seq given e n m o = let clash : true ≡ false = ap is_given (sym e ∙ o.is) in cc
+pub gives_not_opens : (budget : ℕ) (t : MissionType) (b : List ℕ) (r : Run) (act : Act) (s : ℕ) (v : Bool) (target : Target) (number seq : ℕ) (given : Given) → act ≡ says s v target number (Give seq given) → OpensNone budget t b r act
+gives_not_opens budget t b r act s v target number seq given e n m o = let clash : true ≡ false = ap is_given (sym e ∙ o.is) in cc
 
 mission_given : (g : Given) → type_of_given g ≡ Mission → (stored : Result Command ℕ) × (g ≡ ForMission stored)
 mission_given (ForMission stored) e = (stored, refl)
 mission_given (ForFence stored) e = absurd (let clash : Fence ≡ Mission = e in cc)
 
 pub law_of_uploads : LawOfUploads
-law_of_uploads b acts last u f fit ends =
-    let s = run_over b acts in
+law_of_uploads budget b acts last u f fit ends =
+    let s = run_over budget b acts in
     let bytes = after b s.issued in
-    let st = status b acts f (fit_before acts (last ∷ []) fit) in
-    let x = the_open b acts u st ends.was_open in
+    let st = status budget b acts f (fit_before acts (last ∷ []) fit) in
+    let x = the_open budget b acts u st ends.was_open in
     let o = x.ongoing in
     let same : u ≡ o.upload = let two : Open u ≡ Open o.upload = sym ends.was_open ∙ o.is in cc in
     let owner : u.owner ≡ x.station = ap (λ (w : Upload). w.owner) same ∙ o.owner in
@@ -168,8 +170,8 @@ law_of_uploads b acts last u f fit ends =
     let said : Act = says u.owner ends.v2 ends.sender ends.number (Give ends.seq (ForMission stored)) in
     let is : last ≡ said = ends.is ∙ ap (λ (g : Given). says u.owner ends.v2 ends.sender ends.number (Give ends.seq g)) chosen.1 in
     let fits : ActFits said = subst ActFits is (fit_since acts (last ∷ []) fit).0 in
-    let zero : told_zero (did_in b s said).told ≡ true = ap (λ (act : Act). told_zero (did_in b s act).told) (sym is) ∙ ap told_zero ends.told in
-    let lp = last_act b s u ends.v2 ends.sender ends.number ends.seq stored ends.was_open fits.0 zero in
+    let zero : told_zero (did_in budget b s said).told ≡ true = ap (λ (act : Act). told_zero (did_in budget b s act).told) (sym is) ∙ ap told_zero ends.told in
+    let lp = last_act budget b s u ends.v2 ends.sender ends.number ends.seq stored ends.was_open fits.0 zero in
     let c = lp.command in
     let seq_is : (ends.seq == length cs) ≡ true = ap (λ (n : ℕ). ends.seq == n) (sym expected) ∙ lp.next in
     let own : (x.station == u.owner) ≡ true = eq-eqb x.station u.owner (sym owner) in
@@ -189,15 +191,15 @@ law_of_uploads b acts last u f fit ends =
     let ws = put_writes bytes u.expected c in
     let w0 = puts bytes c o.held.formatted o.versioned storable (omega (arith, o.below, o.few, long, expected)) (λ g. lp.room (subst (λ (n : ℕ). IsFull (records_in_storage bytes) total_row (n + 1)) long g)) in
     let w : Puts c bytes ws = subst (λ (n : ℕ). Puts c bytes (put_writes bytes n c)) long w0 in
-    let end : after b (run_over b (acts ++ last ∷ [])).issued ≡ after bytes ws =
-    ap (λ (r : Run). after b r.issued) (run_snoc b acts last)
-    ∙ after-append b s.issued (did_in b s last).writes
-    ∙ ap (λ (act : Act). after bytes (did_in b s act).writes) is
+    let end : after b (run_over budget b (acts ++ last ∷ [])).issued ≡ after bytes ws =
+    ap (λ (r : Run). after b r.issued) (run_snoc budget b acts last)
+    ∙ after-append b s.issued (did_in budget b s last).writes
+    ∙ ap (λ (act : Act). after bytes (did_in budget b s act).writes) is
     ∙ ap (λ (l : List LineWrite). after bytes l) lp.writes_are in
-    let alone = gives_not_opens Mission b s last u.owner ends.v2 ends.sender ends.number ends.seq ends.given ends.is in
-    let goes : GoesOn Mission b (run_over b (x.before ++ x.opening ∷ [])) (x.since ++ last ∷ []) =
-    goes_snoc Mission b (run_over b (x.before ++ x.opening ∷ [])) x.since last x.goes
-    (subst (λ (r : Run). GoesOn Mission b r (last ∷ [])) (sym (run_since b acts x.before x.since x.opening x.split)) ((u, ends.was_open), alone, tt)) in
+    let alone = gives_not_opens budget Mission b s last u.owner ends.v2 ends.sender ends.number ends.seq ends.given ends.is in
+    let goes : GoesOn budget Mission b (run_over budget b (x.before ++ x.opening ∷ [])) (x.since ++ last ∷ []) =
+    goes_snoc budget Mission b (run_over budget b (x.before ++ x.opening ∷ [])) x.since last x.goes
+    (subst (λ (r : Run). GoesOn budget Mission b r (last ∷ [])) (sym (run_since budget b acts x.before x.since x.opening x.split)) ((u, ends.was_open), alone, tt)) in
     let all_fit : AllFit (x.before ++ x.opening ∷ (x.since ++ last ∷ [])) =
     subst AllFit (ap (λ (l : List Act). l ++ last ∷ []) x.split ∙ append_assoc x.before (x.opening ∷ x.since) (last ∷ [])) fit in
     let last_one : u.expected + 1 ≡ u.count = eqb-true (u.expected + 1) u.count lp.last in
@@ -207,7 +209,7 @@ law_of_uploads b acts last u f fit ends =
       since = x.since;
       split = x.split;
       upload = record {
-        opens = subst (λ (n : ℕ). Opens Mission b (run_over b x.before) x.opening u.owner n) (sym count_is) (subst (λ (n : ℕ). Opens Mission b (run_over b x.before) x.opening n x.count) (sym owner) x.opens);
+        opens = subst (λ (n : ℕ). Opens budget Mission b (run_over budget b x.before) x.opening u.owner n) (sym count_is) (subst (λ (n : ℕ). Opens budget Mission b (run_over budget b x.before) x.opening n x.count) (sym owner) x.opens);
         goes_on = goes;
         fit = all_fit;
       };

@@ -20,6 +20,7 @@ use Rattle.mission_service.specs.Service as service
 use Rattle.mission_service.specs.declared.replies.Content.TheVariants.{Answer, Next}
 use Rattle.param_service.specs.Budget.{exceeds}
 use Rattle.mission_service.specs.Service.{Told, From, Taken as TakenItem, tells, only, is_last, if_allowed, taken, took, told_after, given_to, accepted, denied, invalid_sequence, no_space}
+use Rattle.vehicle_core.specs.Vehicle.{allowed_of}
 use Rattle.vehicle_core.specs.Acts.{Act, did}
 use Rattle.vehicle_node.specs.Runs.{Run, did_in}
 use Rattle.vehicle_laws.specs.Uploads.{run_over, says, Opens, GoesOn, fence_items_from, fence_item_in}
@@ -98,27 +99,28 @@ last_given bytes limit mission (Open w) u from seq stored e fits own =
     (λ t. other_answer bytes w seq stored (only from m (Answer invalid_sequence)) refl)
     (λ t. last_taken bytes limit mission w from seq stored fits (not-false (seq == w.expected) t)))))
 
-last_act : (b : List ℕ) (r : Run) (u : Upload) (v : Bool) (target : Target) (number seq : ℕ) (stored : Result FenceItem ℕ) → fences_at r ≡ Open u → RequestFits (Give seq (ForFence stored))
-    → told_zero (did_in b r (says u.owner v target number (Give seq (ForFence stored)))).told ≡ true → LastWritten (after b r.issued) u seq stored (did_in b r (says u.owner v target number (Give seq (ForFence stored)))).writes
+last_act : (budget : ℕ) (b : List ℕ) (r : Run) (u : Upload) (v : Bool) (target : Target) (number seq : ℕ) (stored : Result FenceItem ℕ) → fences_at r ≡ Open u → RequestFits (Give seq (ForFence stored))
+    → told_zero (did_in budget b r (says u.owner v target number (Give seq (ForFence stored)))).told ≡ true → LastWritten (after b r.issued) u seq stored (did_in budget b r (says u.owner v target number (Give seq (ForFence stored)))).writes
 unfolding did
-last_act b r u v target number seq stored e fits zero =
+last_act budget b r u v target number seq stored e fits zero =
     let bytes = after b r.issued in
     let m = r.machine.vehicle.missions in
     let from : From = record { station = u.owner; target = target; number = number } in
-    let d = given_to bytes None m from Fence seq (ForFence stored) m.fence in
-    last_given bytes None m.mission m.fence u from seq stored e fits refl (sym (same_zero u.owner d.told) ∙ zero)
+    let allowed = allowed_of budget r.machine.vehicle in
+    let d = given_to bytes allowed m from Fence seq (ForFence stored) m.fence in
+    last_given bytes allowed m.mission m.fence u from seq stored e fits refl (sym (same_zero u.owner d.told) ∙ zero)
 
 fence_given : (g : Given) → type_of_given g ≡ Fence → (stored : Result FenceItem ℕ) × (g ≡ ForFence stored)
 fence_given (ForFence stored) e = (stored, refl)
 fence_given (ForMission stored) e = absurd (let clash : Mission ≡ Fence = e in cc)
 
 pub law_of_fence_uploads : LawOfFenceUploads
-law_of_fence_uploads b acts last u size fit ends =
+law_of_fence_uploads budget b acts last u size fit ends =
     let replaced = fences_are_replaced in
-    let s = run_over b acts in
+    let s = run_over budget b acts in
     let bytes = after b s.issued in
-    let st = fence_status b acts (fit_before acts (last ∷ []) fit) in
-    let x = the_open b acts u st ends.was_open in
+    let st = fence_status budget b acts (fit_before acts (last ∷ []) fit) in
+    let x = the_open budget b acts u st ends.was_open in
     let o = x.ongoing in
     let now = o.becomes in
     let same : u ≡ now.upload = let two : Open u ≡ Open now.upload = sym ends.was_open ∙ now.now_is in cc in
@@ -132,8 +134,8 @@ law_of_fence_uploads b acts last u size fit ends =
     let said : Act = says u.owner ends.v2 ends.sender ends.number (Give ends.seq (ForFence stored)) in
     let is : last ≡ said = ends.is ∙ ap (λ (g : Given). says u.owner ends.v2 ends.sender ends.number (Give ends.seq g)) chosen.1 in
     let fits : ActFits said = subst ActFits is (fit_since acts (last ∷ []) fit).0 in
-    let zero : told_zero (did_in b s said).told ≡ true = ap (λ (act : Act). told_zero (did_in b s act).told) (sym is) ∙ ap told_zero ends.told in
-    let lp = last_act b s u ends.v2 ends.sender ends.number ends.seq stored ends.was_open fits.0 zero in
+    let zero : told_zero (did_in budget b s said).told ≡ true = ap (λ (act : Act). told_zero (did_in budget b s act).told) (sym is) ∙ ap told_zero ends.told in
+    let lp = last_act budget b s u ends.v2 ends.sender ends.number ends.seq stored ends.was_open fits.0 zero in
     let i = lp.item in
     let good : IsFenceItem i = subst (λ (r : Result FenceItem ℕ). GivenFits (ForFence r)) lp.stored_is fits.0 in
     let seq_is : (ends.seq == length items) ≡ true = ap (λ (n : ℕ). ends.seq == n) (sym expected) ∙ lp.next in
@@ -149,17 +151,17 @@ law_of_fence_uploads b acts last u size fit ends =
     ∙ ap (λ (n : ℕ). items ++ more_from x.station n last) zero_more
     ∙ ap (λ (g : Option FenceItem). items ++ option_map_or (λ d. d ∷ []) g []) gives in
     let more_own : fence_items_from u.owner 0 (x.since ++ last ∷ []) ≡ items ++ i ∷ [] = ap (λ (n : ℕ). fence_items_from n 0 (x.since ++ last ∷ [])) owner ∙ more in
-    let ws = (did_in b s said).writes in
+    let ws = (did_in budget b s said).writes in
     let written : replace_writes bytes (items ++ i ∷ []) ≡ Ok ws = ap (λ (l : List FenceItem). replace_writes bytes (l ++ i ∷ [])) (sym kept) ∙ lp.writes_are in
     let whole = replaced bytes (items ++ i ∷ []) ws (length-after b s.issued ∙ size) (fit_push items i o.fit good) written in
-    let end : after b (run_over b (acts ++ last ∷ [])).issued ≡ after bytes ws =
-    ap (λ (r : Run). after b r.issued) (run_snoc b acts last)
-    ∙ after-append b s.issued (did_in b s last).writes
-    ∙ ap (λ (act : Act). after bytes (did_in b s act).writes) is in
-    let alone = gives_not_opens Fence b s last u.owner ends.v2 ends.sender ends.number ends.seq ends.given ends.is in
-    let goes : GoesOn Fence b (run_over b (x.before ++ x.opening ∷ [])) (x.since ++ last ∷ []) =
-    goes_snoc Fence b (run_over b (x.before ++ x.opening ∷ [])) x.since last x.goes
-    (subst (λ (r : Run). GoesOn Fence b r (last ∷ [])) (sym (run_since b acts x.before x.since x.opening x.split)) ((u, ends.was_open), alone, tt)) in
+    let end : after b (run_over budget b (acts ++ last ∷ [])).issued ≡ after bytes ws =
+    ap (λ (r : Run). after b r.issued) (run_snoc budget b acts last)
+    ∙ after-append b s.issued (did_in budget b s last).writes
+    ∙ ap (λ (act : Act). after bytes (did_in budget b s act).writes) is in
+    let alone = gives_not_opens budget Fence b s last u.owner ends.v2 ends.sender ends.number ends.seq ends.given ends.is in
+    let goes : GoesOn budget Fence b (run_over budget b (x.before ++ x.opening ∷ [])) (x.since ++ last ∷ []) =
+    goes_snoc budget Fence b (run_over budget b (x.before ++ x.opening ∷ [])) x.since last x.goes
+    (subst (λ (r : Run). GoesOn budget Fence b r (last ∷ [])) (sym (run_since budget b acts x.before x.since x.opening x.split)) ((u, ends.was_open), alone, tt)) in
     let all_fit : AllFit (x.before ++ x.opening ∷ (x.since ++ last ∷ [])) =
     subst AllFit (ap (λ (l : List Act). l ++ last ∷ []) x.split ∙ append_assoc x.before (x.opening ∷ x.since) (last ∷ [])) fit in
     let last_one : u.expected + 1 ≡ u.count = eqb-true (u.expected + 1) u.count lp.last in
@@ -169,7 +171,7 @@ law_of_fence_uploads b acts last u size fit ends =
       since = x.since;
       split = x.split;
       upload = record {
-        opens = subst (λ (n : ℕ). Opens Fence b (run_over b x.before) x.opening u.owner n) (sym count_is) (subst (λ (n : ℕ). Opens Fence b (run_over b x.before) x.opening n x.count) (sym owner) x.opens);
+        opens = subst (λ (n : ℕ). Opens budget Fence b (run_over budget b x.before) x.opening u.owner n) (sym count_is) (subst (λ (n : ℕ). Opens budget Fence b (run_over budget b x.before) x.opening n x.count) (sym owner) x.opens);
         goes_on = goes;
         fit = all_fit;
       };

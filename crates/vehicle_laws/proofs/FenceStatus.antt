@@ -14,7 +14,7 @@ use Rattle.mission_service.specs.Requests as missions
 use Rattle.mission_service.specs.Requests.{Begin, Asking, operation_cancelled}
 use Rattle.mission_service.specs.Service.{Told, idled, idle, idle_turns, answered}
 use Rattle.mission_service.specs.declared.replies.Content.TheVariants.{Next, Answer}
-use Rattle.vehicle_core.specs.Vehicle.{Vehicle, Asked, Parameters, Missions, is_heard, tells_of_missions}
+use Rattle.vehicle_core.specs.Vehicle.{Vehicle, Asked, Parameters, Missions, Orders, is_heard, tells_of_missions, allowed_of}
 use Rattle.vehicle_core.specs.Acts.{Act, Said, Beat, Stream, Did, did, heard_as, nothing, by_parameters, beaten}
 use Rattle.vehicle_node.specs.Runs.{Run, did_in, act_done, start}
 use Rattle.vehicle_laws.specs.Uploads.{run_over, uploads_at, says, Opens, OpensNone, GoesOn, fence_items_from, fence_item_in, said_in}
@@ -34,10 +34,10 @@ abbrev pub item_given : ℕ → ℕ → Act → Option FenceItem
 item_given station seq act = said_in (fence_item_in seq) station act
 
 -- An act opens an upload of a fence.
-pub record ActOpens (b : List ℕ) (r : Run) (act : Act) (now : Uploads) : Type 0 where
+pub record ActOpens (budget : ℕ) (b : List ℕ) (r : Run) (act : Act) (now : Uploads) : Type 0 where
   pub station : ℕ
   pub count : ℕ
-  pub opens : Opens Fence b r act station count
+  pub opens : Opens budget Fence b r act station count
   pub becomes : Becomes station count 0 [] now
   pub some : 0 < count
 
@@ -61,23 +61,25 @@ beat_effect B N (Open u) station alone =
     (λ t. inr (alone, inl (λ v e. cc)))
     (λ t. inr (alone, inr (u, refl, inl (refl, record { upload = record u { idle = u.idle + 1 }; now_is = refl; owner_is = refl; count_is = refl; expected_is = refl; kept_is = refl })))))
 
-abbrev ActEffect : List ℕ → Run → Act → Did → Type 0
-ActEffect b r act d = FenceEffect (ActOpens b r act d.vehicle.missions.fence) (OpensNone Fence b r act) (fences_at r) (λ u. item_given u.owner u.expected act) d.vehicle.missions.fence
+abbrev ActEffect : ℕ → List ℕ → Run → Act → Did → Type 0
+ActEffect budget b r act d = FenceEffect (ActOpens budget b r act d.vehicle.missions.fence) (OpensNone budget Fence b r act) (fences_at r) (λ u. item_given u.owner u.expected act) d.vehicle.missions.fence
 
-silent : (b : List ℕ) (r : Run) (s : ℕ) (v : Bool) (asked : Option Asked) → ((u : Upload) → item_given u.owner u.expected (Said s (heard_as v asked)) ≡ None) → OpensNone Fence b r (Said s (heard_as v asked))
-    → FenceEffect (ActOpens b r (Said s (heard_as v asked)) (fences_at r)) (OpensNone Fence b r (Said s (heard_as v asked))) (fences_at r) (λ u. item_given u.owner u.expected (Said s (heard_as v asked))) (fences_at r)
-silent b r s v asked n alone = unmoved _ _ (fences_at r) (λ u. item_given u.owner u.expected (Said s (heard_as v asked))) (fences_at r) refl n alone
+silent : (budget : ℕ) (b : List ℕ) (r : Run) (s : ℕ) (v : Bool) (asked : Option Asked) → ((u : Upload) → item_given u.owner u.expected (Said s (heard_as v asked)) ≡ None) → OpensNone budget Fence b r (Said s (heard_as v asked))
+    → FenceEffect (ActOpens budget b r (Said s (heard_as v asked)) (fences_at r)) (OpensNone budget Fence b r (Said s (heard_as v asked))) (fences_at r) (λ u. item_given u.owner u.expected (Said s (heard_as v asked))) (fences_at r)
+silent budget b r s v asked n alone = unmoved _ _ (fences_at r) (λ u. item_given u.owner u.expected (Said s (heard_as v asked))) (fences_at r) refl n alone
 
 -- what is done for a station that was heard
-said_effect : (b : List ℕ) (r : Run) (s : ℕ) (v : Bool) (asked : Option Asked) → AskedFits asked → ActEffect b r (Said s (heard_as v asked)) (did_in b r (Said s (heard_as v asked)))
+said_effect : (budget : ℕ) (b : List ℕ) (r : Run) (s : ℕ) (v : Bool) (asked : Option Asked) → AskedFits asked → ActEffect budget b r (Said s (heard_as v asked)) (did_in budget b r (Said s (heard_as v asked)))
 unfolding did
-said_effect b r s v None fits = silent b r s v None (λ u. cond_none (u.owner == s)) (λ n m o. let clash = ap asked_of o.is in cc)
-said_effect b r s v (Some (Parameters request)) fits = silent b r s v (Some (Parameters request)) (λ u. cond_none (u.owner == s)) (λ n m o. let clash = ap asked_of o.is in cc)
-said_effect b r s v (Some (Missions sender asking)) fits =
+said_effect budget b r s v None fits = silent budget b r s v None (λ u. cond_none (u.owner == s)) (λ n m o. let clash = ap asked_of o.is in cc)
+said_effect budget b r s v (Some (Parameters request)) fits = silent budget b r s v (Some (Parameters request)) (λ u. cond_none (u.owner == s)) (λ n m o. let clash = ap asked_of o.is in cc)
+said_effect budget b r s v (Some (Orders sender command order)) fits = silent budget b r s v (Some (Orders sender command order)) (λ u. cond_none (u.owner == s)) (λ n m o. let clash = ap asked_of o.is in cc)
+said_effect budget b r s v (Some (Missions sender asking)) fits =
     let bytes = after b r.issued in
+    let allowed = allowed_of budget r.machine.vehicle in
     let from = from_station s sender asking in
     let m = r.machine.vehicle.missions in
-    let d = answered bytes None m from asking.request in
+    let d = answered bytes allowed m from asking.request in
     effect_map (FenceBegun from asking.request d.told d.missions.fence) _ (NoFenceBegun from asking.request d.told) _ (fences_at r) (λ u. item_given u.owner u.expected (Said s (heard_as v (Some (Missions sender asking))))) d.missions.fence
     (λ x. record {
       station = s;
@@ -93,26 +95,26 @@ said_effect b r s v (Some (Missions sender asking)) fits =
       some = x.some;
     })
     (λ alone n m o. not_opened Fence s v sender asking d.told n m o.v2 o.sender o.number alone o.is o.told)
-    (fence_effect bytes None m.mission m.fence from asking.request fits.0)
+    (fence_effect bytes allowed m.mission m.fence from asking.request fits.0)
 
 -- what an act does
-done_effect : (b : List ℕ) (r : Run) (act : Act) → ActFits act → ActEffect b r act (did_in b r act)
+done_effect : (budget : ℕ) (b : List ℕ) (r : Run) (act : Act) → ActFits act → ActEffect budget b r act (did_in budget b r act)
 unfolding did
-done_effect b r (Said s heard) fits = said_effect b r s heard.v2 heard.asked fits
-done_effect b r (Beat s) fits =
+done_effect budget b r (Said s heard) fits = said_effect budget b r s heard.v2 heard.asked fits
+done_effect budget b r (Beat s) fits =
     let vehicle = r.machine.vehicle in
-    cond_both (is_heard vehicle s) (beaten vehicle s (idle vehicle.missions s)) (nothing vehicle) (ActEffect b r (Beat s))
+    cond_both (is_heard vehicle s) (beaten vehicle s (idle vehicle.missions s)) (nothing vehicle) (ActEffect budget b r (Beat s))
     (λ t. beat_effect _ _ (fences_at r) s (λ n m o. let clash = o.is in cc))
     (λ t. unmoved _ _ (fences_at r) (λ u. None) (fences_at r) refl (λ u. refl) (λ n m o. let clash = o.is in cc))
-done_effect b r (Stream s) fits =
+done_effect budget b r (Stream s) fits =
     let vehicle = r.machine.vehicle in
     let d = by_parameters vehicle (streamed (after b r.issued) vehicle.next_rows s) in
-    let same = unmoved (ActOpens b r (Stream s) (fences_at r)) (OpensNone Fence b r (Stream s)) (fences_at r) (λ u. None) (fences_at r) refl (λ u. refl) (λ n m o. let clash = o.is in cc) in
-    cond_both (is_heard vehicle s) d (nothing vehicle) (ActEffect b r (Stream s)) (λ t. same) (λ t. same)
+    let same = unmoved (ActOpens budget b r (Stream s) (fences_at r)) (OpensNone budget Fence b r (Stream s)) (fences_at r) (λ u. None) (fences_at r) refl (λ u. refl) (λ n m o. let clash = o.is in cc) in
+    cond_both (is_heard vehicle s) d (nothing vehicle) (ActEffect budget b r (Stream s)) (λ t. same) (λ t. same)
 
-fence_act : (b : List ℕ) (r : Run) (act : Act) → ActFits act → FenceEffect (ActOpens b r act (fences_at (act_done b r act))) (OpensNone Fence b r act) (fences_at r) (λ u. item_given u.owner u.expected act) (fences_at (act_done b r act))
-fence_act b r act fits = subst (λ (v : Vehicle). FenceEffect (ActOpens b r act v.missions.fence) (OpensNone Fence b r act) (fences_at r) (λ u. item_given u.owner u.expected act) v.missions.fence)
-    (sym (vehicle_after b r act)) (done_effect b r act fits)
+fence_act : (budget : ℕ) (b : List ℕ) (r : Run) (act : Act) → ActFits act → FenceEffect (ActOpens budget b r act (fences_at (act_done budget b r act))) (OpensNone budget Fence b r act) (fences_at r) (λ u. item_given u.owner u.expected act) (fences_at (act_done budget b r act))
+fence_act budget b r act fits = subst (λ (v : Vehicle). FenceEffect (ActOpens budget b r act v.missions.fence) (OpensNone budget Fence b r act) (fences_at r) (λ u. item_given u.owner u.expected act) v.missions.fence)
+    (sym (vehicle_after budget b r act)) (done_effect budget b r act fits)
 
 -- The upload is open, and these items came in it.
 pub record Ongoing (s : Run) (station count : ℕ) (items : List FenceItem) : Type 0 where
@@ -140,9 +142,9 @@ below_more : (e n c count m : ℕ) → e ≡ n → c ≡ count → m ≡ n + 1 �
 below_more e n c count m act q r below differ = elim (cases_lt m count) [ inl less ↦ less | inr more ↦ absurd (differ (omega arith)) ]
 
 -- one act more, which opens no upload
-step : (b : List ℕ) (s : Run) (station count : ℕ) (items : List FenceItem) (act : Act) (u : Upload) → Ongoing s station count items → fences_at s ≡ Open u
-    → FenceStays u (item_given u.owner u.expected act) (fences_at (act_done b s act)) ⊎ FenceKept u (item_given u.owner u.expected act) (fences_at (act_done b s act)) → Ongoing (act_done b s act) station count (items ++ more_from station (length items) act)
-step b s station count items act u o e x =
+step : (budget : ℕ) (b : List ℕ) (s : Run) (station count : ℕ) (items : List FenceItem) (act : Act) (u : Upload) → Ongoing s station count items → fences_at s ≡ Open u
+    → FenceStays u (item_given u.owner u.expected act) (fences_at (act_done budget b s act)) ⊎ FenceKept u (item_given u.owner u.expected act) (fences_at (act_done budget b s act)) → Ongoing (act_done budget b s act) station count (items ++ more_from station (length items) act)
+step budget b s station count items act u o e x =
     let same : u ≡ o.becomes.upload = let both : Open u ≡ Open o.becomes.upload = sym e ∙ o.becomes.now_is in cc in
     let owner : u.owner ≡ station = ap (λ (v : Upload). v.owner) same ∙ o.becomes.owner_is in
     let expected : u.expected ≡ length items = ap (λ (v : Upload). v.expected) same ∙ o.becomes.expected_is in
@@ -152,44 +154,44 @@ step b s station count items act u o e x =
       | inl y ↦
           let none : item_given station (length items) act ≡ None = sym (same_given u station (length items) act owner expected) ∙ y.0 in
           let no_more : items ++ more_from station (length items) act ≡ items = ap (λ (g : Option FenceItem). items ++ option_map_or (λ i. i ∷ []) g []) none ∙ append-nil items in
-          let on : Ongoing (act_done b s act) station count items = record { becomes = becomes_same u.owner u.count u.expected station count (length items) u.kept items (fences_at (act_done b s act)) owner count_is expected kept y.1; below = o.below; fit = o.fit } in
-          subst (Ongoing (act_done b s act) station count) (sym no_more) on
+          let on : Ongoing (act_done budget b s act) station count items = record { becomes = becomes_same u.owner u.count u.expected station count (length items) u.kept items (fences_at (act_done budget b s act)) owner count_is expected kept y.1; below = o.below; fit = o.fit } in
+          subst (Ongoing (act_done budget b s act) station count) (sym no_more) on
       | inr y ↦
           let gives : item_given station (length items) act ≡ Some y.item = sym (same_given u station (length items) act owner expected) ∙ y.gives in
           let ds = items ++ y.item ∷ [] in
           let more : items ++ more_from station (length items) act ≡ ds = ap (λ (g : Option FenceItem). items ++ option_map_or (λ i. i ∷ []) g []) gives in
           let long : length ds ≡ length items + 1 = length_push items y.item in
-          let on : Ongoing (act_done b s act) station count ds = record {
-            becomes = becomes_same u.owner u.count (u.expected + 1) station count (length ds) (u.kept ++ y.item ∷ []) ds (fences_at (act_done b s act)) owner count_is (omega arith) (ap (λ (l : List FenceItem). l ++ y.item ∷ []) kept) y.becomes;
+          let on : Ongoing (act_done budget b s act) station count ds = record {
+            becomes = becomes_same u.owner u.count (u.expected + 1) station count (length ds) (u.kept ++ y.item ∷ []) ds (fences_at (act_done budget b s act)) owner count_is (omega arith) (ap (λ (l : List FenceItem). l ++ y.item ∷ []) kept) y.becomes;
             below = below_more u.expected (length items) u.count count (length ds) expected count_is long o.below (eqb-false (u.expected + 1) u.count y.more);
             fit = fit_push items y.item o.fit y.fits;
           } in
-          subst (Ongoing (act_done b s act) station count) (sym more) on
+          subst (Ongoing (act_done budget b s act) station count) (sym more) on
     ]
 
-pub record OpenSince (b : List ℕ) (done : List Act) : Type 0 where
+pub record OpenSince (budget : ℕ) (b : List ℕ) (done : List Act) : Type 0 where
   pub before : List Act
   pub opening : Act
   pub since : List Act
   pub station : ℕ
   pub count : ℕ
   pub split : done ≡ before ++ opening ∷ since
-  pub opens : Opens Fence b (run_over b before) opening station count
-  pub goes : GoesOn Fence b (run_over b (before ++ opening ∷ [])) since
-  pub ongoing : Ongoing (run_over b done) station count (fence_items_from station 0 since)
+  pub opens : Opens budget Fence b (run_over budget b before) opening station count
+  pub goes : GoesOn budget Fence b (run_over budget b (before ++ opening ∷ [])) since
+  pub ongoing : Ongoing (run_over budget b done) station count (fence_items_from station 0 since)
 
-abbrev pub Status : List ℕ → List Act → Type 0
-Status b done = IsClosed (run_over b done) ⊎ OpenSince b done
+abbrev pub Status : ℕ → List ℕ → List Act → Type 0
+Status budget b done = IsClosed (run_over budget b done) ⊎ OpenSince budget b done
 
-pub the_open : (b : List ℕ) (done : List Act) (u : Upload) → Status b done → fences_at (run_over b done) ≡ Open u → OpenSince b done
-the_open b done u st e = elim st [ inl closed ↦ absurd (closed u e) | inr x ↦ x ]
+pub the_open : (budget : ℕ) (b : List ℕ) (done : List Act) (u : Upload) → Status budget b done → fences_at (run_over budget b done) ≡ Open u → OpenSince budget b done
+the_open budget b done u st e = elim st [ inl closed ↦ absurd (closed u e) | inr x ↦ x ]
 
-status_step : (b : List ℕ) (done : List Act) (act : Act) → ActFits act → Status b done → Status b (done ++ act ∷ [])
-status_step b done act fits st =
-    let s = run_over b done in
-    let t = act_done b s act in
-    let e : run_over b (done ++ act ∷ []) ≡ t = run_snoc b done act in
-    elim (fence_act b s act fits) [
+status_step : (budget : ℕ) (b : List ℕ) (done : List Act) (act : Act) → ActFits act → Status budget b done → Status budget b (done ++ act ∷ [])
+status_step budget b done act fits st =
+    let s = run_over budget b done in
+    let t = act_done budget b s act in
+    let e : run_over budget b (done ++ act ∷ []) ≡ t = run_snoc budget b done act in
+    elim (fence_act budget b s act fits) [
       | inl x ↦ inr (record {
         before = done;
         opening = act;
@@ -204,11 +206,11 @@ status_step b done act fits st =
       | inr y ↦ elim y.1 [
         | inl closed ↦ inl (subst IsClosed (sym e) closed)
         | inr z ↦
-            let x = the_open b done z.0 st z.1 in
+            let x = the_open budget b done z.0 st z.1 in
             let cs = fence_items_from x.station 0 x.since in
             let zero_more : 0 + length cs ≡ length cs = omega arith in
             let more : cs ++ more_from x.station (length cs) act ≡ fence_items_from x.station 0 (x.since ++ act ∷ []) = sym (from_snoc fence_item_in x.station 0 x.since act ∙ ap (λ (n : ℕ). cs ++ more_from x.station n act) zero_more) in
-            let on = step b s x.station x.count cs act z.0 x.ongoing z.1 z.2 in
+            let on = step budget b s x.station x.count cs act z.0 x.ongoing z.1 z.2 in
             let is_open : (u : Upload) × (fences_at s ≡ Open u) = (z.0, z.1) in
             inr (record {
               before = x.before;
@@ -218,19 +220,19 @@ status_step b done act fits st =
               count = x.count;
               split = ap (λ (l : List Act). l ++ act ∷ []) x.split ∙ append_assoc x.before (x.opening ∷ x.since) (act ∷ []);
               opens = x.opens;
-              goes = goes_snoc Fence b (run_over b (x.before ++ x.opening ∷ [])) x.since act x.goes
-                  (subst (λ (r : Run). GoesOn Fence b r (act ∷ [])) (sym (run_since b done x.before x.since x.opening x.split)) (is_open, y.0, tt));
+              goes = goes_snoc budget Fence b (run_over budget b (x.before ++ x.opening ∷ [])) x.since act x.goes
+                  (subst (λ (r : Run). GoesOn budget Fence b r (act ∷ [])) (sym (run_since budget b done x.before x.since x.opening x.split)) (is_open, y.0, tt));
               ongoing = subst (λ (r : Run). Ongoing r x.station x.count (fence_items_from x.station 0 (x.since ++ act ∷ []))) (sym e) (subst (Ongoing t x.station x.count) more on);
             })
       ]
     ]
 
-status_all : (b : List ℕ) (acts done : List Act) → AllFit acts → Status b done → Status b (done ++ acts)
-status_all b [] done fit st = subst (Status b) (sym (append-nil done)) st
-status_all b (act ∷ acts) done fit st = subst (Status b) (append_assoc done (act ∷ []) acts) (status_all b acts (done ++ act ∷ []) fit.1 (status_step b done act fit.0 st))
+status_all : (budget : ℕ) (b : List ℕ) (acts done : List Act) → AllFit acts → Status budget b done → Status budget b (done ++ acts)
+status_all budget b [] done fit st = subst (Status budget b) (sym (append-nil done)) st
+status_all budget b (act ∷ acts) done fit st = subst (Status budget b) (append_assoc done (act ∷ []) acts) (status_all budget b acts (done ++ act ∷ []) fit.1 (status_step budget b done act fit.0 st))
 
 quiet_at_first : (b : List ℕ) → IsClosed (start b)
 quiet_at_first b u e = cc
 
-pub fence_status : (b : List ℕ) (acts : List Act) → AllFit acts → Status b acts
-fence_status b acts fit = status_all b acts [] fit (inl (quiet_at_first b))
+pub fence_status : (budget : ℕ) (b : List ℕ) (acts : List Act) → AllFit acts → Status budget b acts
+fence_status budget b acts fit = status_all budget b acts [] fit (inl (quiet_at_first b))

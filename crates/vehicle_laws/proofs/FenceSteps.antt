@@ -157,22 +157,22 @@ fence_missions q bytes m f few = record {
 }
 
 -- at each act of a run
-pub has_place : (b : List ℕ) (acts : List Act) → Status b acts → HasPlace (run_over b acts).machine.vehicle.missions
-has_place b acts st u e =
-    let o = (the_open b acts u st e).ongoing in
+pub has_place : (budget : ℕ) (b : List ℕ) (acts : List Act) → Status budget b acts → HasPlace (run_over budget b acts).machine.vehicle.missions
+has_place budget b acts st u e =
+    let o = (the_open budget b acts u st e).ongoing in
     let same : u ≡ o.upload = let two : Open u ≡ Open o.upload = sym e ∙ o.is in cc in
     omega (arith, ap (λ (w : Upload). w.expected) same, o.expected, o.below, o.few)
 
 pub law_of_fences : LawOfFences
-law_of_fences b acts act f fit =
+law_of_fences budget b acts act f fit =
     let q = fences_in_steps in
-    let r = run_over b acts in
+    let r = run_over budget b acts in
     let bytes = after b r.issued in
-    let ws = (did_in b r act).writes in
-    let st = status b acts f (fit_before acts (act ∷ []) fit) in
-    let few = has_place b acts st in
-    let x = act_lines (λ row ws. FenceStep bytes ws) bytes r.machine.vehicle act
+    let ws = (did_in budget b r act).writes in
+    let st = status budget b acts f (fit_before acts (act ∷ []) fit) in
+    let few = has_place budget b acts st in
+    let x = act_lines (λ row ws. FenceStep bytes ws) budget bytes r.machine.vehicle act
     (record { none = λ row. none_step bytes; of_row = λ index. fence_row bytes index st.formatted; of_missions = fence_missions q bytes r.machine.vehicle.missions st.formatted few })
     (fit_since acts (act ∷ []) fit).0 in
-    let end : after b (act_done b r act).issued ≡ after bytes ws = after-append b r.issued ws in
+    let end : after b (act_done budget b r act).issued ≡ after bytes ws = after-append b r.issued ws in
     subst (λ (new : List FenceItem). EachPrefix (IsFenceOneOf (fence_of bytes) new) bytes ws) (sym (ap fence_of end)) x

@@ -116,33 +116,33 @@ missions_stay bytes m f few = record {
 }
 
 -- the lines of an act
-act_stays : (b : List ℕ) (acts : List Act) (act : Act) → StartsFormatted b → AllFit (acts ++ act ∷ []) → Stays (after b (run_over b acts).issued) (did_in b (run_over b acts) act).writes
-act_stays b acts act f fit =
-    let r = run_over b acts in
+act_stays : (budget : ℕ) (b : List ℕ) (acts : List Act) (act : Act) → StartsFormatted b → AllFit (acts ++ act ∷ []) → Stays (after b (run_over budget b acts).issued) (did_in budget b (run_over budget b acts) act).writes
+act_stays budget b acts act f fit =
+    let r = run_over budget b acts in
     let bytes = after b r.issued in
-    let st = status b acts f (fit_before acts (act ∷ []) fit) in
-    act_lines (λ row ws. Stays bytes ws) bytes r.machine.vehicle act
-    (record { none = λ row. stays_none bytes st.formatted; of_row = λ index. row_stays bytes index st.formatted; of_missions = missions_stay bytes r.machine.vehicle.missions st.formatted (has_place b acts st) })
+    let st = status budget b acts f (fit_before acts (act ∷ []) fit) in
+    act_lines (λ row ws. Stays bytes ws) budget bytes r.machine.vehicle act
+    (record { none = λ row. stays_none bytes st.formatted; of_row = λ index. row_stays bytes index st.formatted; of_missions = missions_stay bytes r.machine.vehicle.missions st.formatted (has_place budget b acts st) })
     (fit_since acts (act ∷ []) fit).0
 
 -- after whole acts
-whole_stays : (b : List ℕ) (acts : List Act) → StartsFormatted b → AllFit acts → StaysFormatted (after b (start b).issued) (after b (run_over b acts).issued)
-whole_stays b acts f fit = let st = status b acts f fit in record { formatted = st.formatted; one_line = st.one_line }
+whole_stays : (budget : ℕ) (b : List ℕ) (acts : List Act) → StartsFormatted b → AllFit acts → StaysFormatted (after b (start b).issued) (after b (run_over budget b acts).issued)
+whole_stays budget b acts f fit = let st = status budget b acts f fit in record { formatted = st.formatted; one_line = st.one_line }
 
 pub stays_in_one_line : StaysInOneLine
-stays_in_one_line b acts k f fit from =
-    let all = (run_over b acts).issued in
+stays_in_one_line budget b acts k f fit from =
+    let all = (run_over budget b acts).issued in
     let old = after b (start b).issued in
     elim (cases_lt k (length all)) [
-      | inr past ↦ subst (λ (ws : List LineWrite). StaysFormatted old (after b ws)) (sym (take_all k all past)) (whole_stays b acts f fit)
+      | inr past ↦ subst (λ (ws : List LineWrite). StaysFormatted old (after b ws)) (sym (take_all k all past)) (whole_stays budget b acts f fit)
       | inl within ↦
-          let x = lines_by_acts b acts k from within in
-          let r = run_over b x.before in
+          let x = lines_by_acts budget b acts k from within in
+          let r = run_over budget b x.before in
           let fit2 : AllFit (x.before ++ x.act ∷ x.since) = subst AllFit x.split fit in
           let split : x.before ++ x.act ∷ x.since ≡ (x.before ++ x.act ∷ []) ++ x.since = sym (append_assoc x.before (x.act ∷ []) x.since) in
           let fit3 : AllFit (x.before ++ x.act ∷ []) = fit_before (x.before ++ x.act ∷ []) x.since (subst AllFit split fit2) in
-          let here = act_stays b x.before x.act f fit3 x.own x.few in
-          let now = take x.own (did_in b r x.act).writes in
+          let here = act_stays budget b x.before x.act f fit3 x.own x.few in
+          let now = take x.own (did_in budget b r x.act).writes in
           let whole : after b (take k all) ≡ after (after b r.issued) now = ap (λ (l : List LineWrite). after b l) x.lines ∙ after-append b r.issued now in
-          subst (StaysFormatted old) (sym whole) (then_stays old (after b r.issued) (after (after b r.issued) now) (whole_stays b x.before f (fit_before x.before (x.act ∷ x.since) fit2)) here)
+          subst (StaysFormatted old) (sym whole) (then_stays old (after b r.issued) (after (after b r.issued) now) (whole_stays budget b x.before f (fit_before x.before (x.act ∷ x.since) fit2)) here)
     ]

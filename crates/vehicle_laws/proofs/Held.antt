@@ -122,10 +122,10 @@ abbrev pub IsClosed : Run → Type 0
 IsClosed s = (u : Upload) → missions_at s ≢ Open u
 
 -- after an opening
-pub begun : (b : List ℕ) (r : Run) (act : Act) → IsFormatted (after b r.issued) → (x : ActBegun b r act (did_in b r act).writes (missions_at (act_done b r act))) → Ongoing b r (act_done b r act) x.station x.count []
-begun b r act f x =
+pub begun : (budget : ℕ) (b : List ℕ) (r : Run) (act : Act) → IsFormatted (after b r.issued) → (x : ActBegun budget b r act (did_in budget b r act).writes (missions_at (act_done budget b r act))) → Ongoing b r (act_done budget b r act) x.station x.count []
+begun budget b r act f x =
     let bytes = after b r.issued in
-    let s = act_done b r act in
+    let s = act_done budget b r act in
     let ws = begin_writes bytes in
     let is : s.issued ≡ r.issued ++ ws = ap (λ (l : List LineWrite). r.issued ++ l) x.writes_are in
     let w = begins bytes f in
@@ -144,25 +144,25 @@ begun b r act f x =
     }
 
 -- one act more: the upload stays open, or ends
-pub record Step (b : List ℕ) (r s : Run) (station count : ℕ) (cs : List Command) (act : Act) : Type 0 where
-  pub held : Held b r (act_done b s act) (cs ++ more_from station (length cs) act)
-  pub then : IsClosed (act_done b s act) ⊎ Ongoing b r (act_done b s act) station count (cs ++ more_from station (length cs) act)
+pub record Step (budget : ℕ) (b : List ℕ) (r s : Run) (station count : ℕ) (cs : List Command) (act : Act) : Type 0 where
+  pub held : Held b r (act_done budget b s act) (cs ++ more_from station (length cs) act)
+  pub then : IsClosed (act_done budget b s act) ⊎ Ongoing b r (act_done budget b s act) station count (cs ++ more_from station (length cs) act)
 
 same_given : (u : Upload) (station n : ℕ) (act : Act) → u.owner ≡ station → u.expected ≡ n → command_given u.owner u.expected act ≡ command_given station n act
 same_given u station n act a e = ap (λ (k : ℕ). command_given k u.expected act) a ∙ ap (λ (k : ℕ). command_given station k act) e
 
-step_off : (b : List ℕ) (r s : Run) (station count : ℕ) (cs : List Command) (act : Act) → Ongoing b r s station count cs → Off (after b s.issued) (did_in b s act).writes (missions_at (act_done b s act)) → Step b r s station count cs act
-step_off b r s station count cs act o x = record {
-  held = held_wider b r (act_done b s act) cs (cs ++ more_from station (length cs) act) (prefix_more cs (more_from station (length cs) act))
-      (held_more b r s (act_done b s act) cs (did_in b s act).writes refl o.held x.empties.stays (λ t j h. elim (x.empties.each t j h) [
-        | inl same ↦ inr ([], append-nil (mission_of (after (after b s.issued) (take j (did_in b s act).writes))) ∙ same ∙ o.mission)
+step_off : (budget : ℕ) (b : List ℕ) (r s : Run) (station count : ℕ) (cs : List Command) (act : Act) → Ongoing b r s station count cs → Off (after b s.issued) (did_in budget b s act).writes (missions_at (act_done budget b s act)) → Step budget b r s station count cs act
+step_off budget b r s station count cs act o x = record {
+  held = held_wider b r (act_done budget b s act) cs (cs ++ more_from station (length cs) act) (prefix_more cs (more_from station (length cs) act))
+      (held_more b r s (act_done budget b s act) cs (did_in budget b s act).writes refl o.held x.empties.stays (λ t j h. elim (x.empties.each t j h) [
+        | inl same ↦ inr ([], append-nil (mission_of (after (after b s.issued) (take j (did_in budget b s act).writes))) ∙ same ∙ o.mission)
         | inr none ↦ inr (cs, ap (λ (l : List Command). l ++ cs) none)
       ]));
   then = inl x.closed;
 }
 
-pub step_stays : (b : List ℕ) (r s : Run) (station count : ℕ) (cs : List Command) (act : Act) (u : Upload) → Ongoing b r s station count cs → missions_at s ≡ Open u → Stays (after b s.issued) u (command_given u.owner u.expected act) (did_in b s act).writes (missions_at (act_done b s act)) → Step b r s station count cs act
-step_stays b r s station count cs act u o e x =
+pub step_stays : (budget : ℕ) (b : List ℕ) (r s : Run) (station count : ℕ) (cs : List Command) (act : Act) (u : Upload) → Ongoing b r s station count cs → missions_at s ≡ Open u → Stays (after b s.issued) u (command_given u.owner u.expected act) (did_in budget b s act).writes (missions_at (act_done budget b s act)) → Step budget b r s station count cs act
+step_stays budget b r s station count cs act u o e x =
     let same : u ≡ o.upload = let both : Open u ≡ Open o.upload = sym e ∙ o.is in cc in
     let owner : u.owner ≡ station = ap (λ (v : Upload). v.owner) same ∙ o.owner in
     let expected : u.expected ≡ length cs = ap (λ (v : Upload). v.expected) same ∙ o.expected in
@@ -170,8 +170,8 @@ step_stays b r s station count cs act u o e x =
     let none : command_given station (length cs) act ≡ None = sym (same_given u station (length cs) act owner expected) ∙ x.none in
     let no_more : cs ++ more_from station (length cs) act ≡ cs = ap (λ (g : Option Command). cs ++ option_map_or (λ c. c ∷ []) g []) none ∙ append-nil cs in
     let bytes = after b s.issued in
-    let ws = (did_in b s act).writes in
-    let t = act_done b s act in
+    let ws = (did_in budget b s act).writes in
+    let t = act_done budget b s act in
     let end : after b t.issued ≡ after bytes ws = after-append b s.issued ws in
     let held : Held b r t cs = held_more b r s t cs ws refl o.held x.keeps.stays (λ l j h. inr ([], append-nil (mission_of (after bytes (take j ws))) ∙ x.keeps.same j h ∙ o.mission)) in
     let on : Ongoing b r t station count cs = record {
@@ -191,8 +191,8 @@ step_stays b r s station count cs act u o e x =
 below_more : (e n c count m : ℕ) → e ≡ n → c ≡ count → m ≡ n + 1 → n < count → (e + 1 ≡ c → ⊥) → m < count
 below_more e n c count m act q r below differ = elim (cases_lt m count) [ inl less ↦ less | inr more ↦ absurd (differ (omega arith)) ]
 
-pub step_put : (b : List ℕ) (r s : Run) (station count : ℕ) (cs : List Command) (act : Act) (u : Upload) → Ongoing b r s station count cs → missions_at s ≡ Open u → Put (after b s.issued) u (command_given u.owner u.expected act) (did_in b s act).writes (missions_at (act_done b s act)) → Step b r s station count cs act
-step_put b r s station count cs act u o e x =
+pub step_put : (budget : ℕ) (b : List ℕ) (r s : Run) (station count : ℕ) (cs : List Command) (act : Act) (u : Upload) → Ongoing b r s station count cs → missions_at s ≡ Open u → Put (after b s.issued) u (command_given u.owner u.expected act) (did_in budget b s act).writes (missions_at (act_done budget b s act)) → Step budget b r s station count cs act
+step_put budget b r s station count cs act u o e x =
     let same : u ≡ o.upload = let both : Open u ≡ Open o.upload = sym e ∙ o.is in cc in
     let owner : u.owner ≡ station = ap (λ (v : Upload). v.owner) same ∙ o.owner in
     let expected : u.expected ≡ length cs = ap (λ (v : Upload). v.expected) same ∙ o.expected in
@@ -202,7 +202,7 @@ step_put b r s station count cs act u o e x =
     let ds = cs ++ c ∷ [] in
     let more : cs ++ more_from station (length cs) act ≡ ds = ap (λ (g : Option Command). cs ++ option_map_or (λ d. d ∷ []) g []) gives in
     let bytes = after b s.issued in
-    let t = act_done b s act in
+    let t = act_done budget b s act in
     let long : length (mission_of bytes) ≡ u.expected = ap (λ (l : List Command). length l) o.mission ∙ sym expected in
     let ws = put_writes bytes u.expected c in
     let is : t.issued ≡ s.issued ++ ws = ap (λ (l : List LineWrite). s.issued ++ l) x.writes_are in
@@ -238,14 +238,14 @@ step_put b r s station count cs act u o e x =
     }
 
 -- one act more, which opens no upload
-pub step : (b : List ℕ) (r s : Run) (station count : ℕ) (cs : List Command) (act : Act) → Ongoing b r s station count cs → ActFits act → OpensNone Mission b s act → Step b r s station count cs act
-step b r s station count cs act o fits alone = elim (act_effect b s act o.held.formatted fits) [
+pub step : (budget : ℕ) (b : List ℕ) (r s : Run) (station count : ℕ) (cs : List Command) (act : Act) → Ongoing b r s station count cs → ActFits act → OpensNone budget Mission b s act → Step budget b r s station count cs act
+step budget b r s station count cs act o fits alone = elim (act_effect budget b s act o.held.formatted fits) [
   | inl x ↦ absurd (alone x.station x.count x.opens)
   | inr y ↦ elim y.1 [
-    | inl x ↦ step_off b r s station count cs act o x
+    | inl x ↦ step_off budget b r s station count cs act o x
     | inr z ↦ elim z.2 [
-      | inl x ↦ step_stays b r s station count cs act z.0 o z.1 x
-      | inr x ↦ step_put b r s station count cs act z.0 o z.1 x
+      | inl x ↦ step_stays budget b r s station count cs act z.0 o z.1 x
+      | inr x ↦ step_put budget b r s station count cs act z.0 o z.1 x
     ]
   ]
 ]
@@ -260,19 +260,19 @@ pub from_cons : {X : Type 0} (f : ℕ → Request → Option X) (station seq : �
 from_cons f station seq act acts = given_cons f station seq acts (said_in (f seq) station act)
 
 -- after the end of an upload no act belongs to it
-ends_there : (b : List ℕ) (r s : Run) (cs : List Command) (acts : List Act) → Held b r s cs → IsClosed s → GoesOn Mission b s acts → Held b r (all_acts b s acts) cs
-ends_there b r s cs [] h closed g = h
-ends_there b r s cs (act ∷ acts) h closed g = absurd (closed g.0.0 g.0.1)
+ends_there : (budget : ℕ) (b : List ℕ) (r s : Run) (cs : List Command) (acts : List Act) → Held b r s cs → IsClosed s → GoesOn budget Mission b s acts → Held b r (all_acts budget b s acts) cs
+ends_there budget b r s cs [] h closed g = h
+ends_there budget b r s cs (act ∷ acts) h closed g = absurd (closed g.0.0 g.0.1)
 
 -- the acts of an upload
-pub goes_on : (b : List ℕ) (r s : Run) (station count : ℕ) (cs : List Command) (acts : List Act) → Ongoing b r s station count cs → GoesOn Mission b s acts → AllFit acts → Held b r (all_acts b s acts) (cs ++ commands_from station (length cs) acts)
-goes_on b r s station count cs [] o g fit = subst (Held b r s) (sym (append-nil cs)) o.held
-goes_on b r s station count cs (act ∷ acts) o g fit =
-    let x = step b r s station count cs act o fit.0 g.1 in
+pub goes_on : (budget : ℕ) (b : List ℕ) (r s : Run) (station count : ℕ) (cs : List Command) (acts : List Act) → Ongoing b r s station count cs → GoesOn budget Mission b s acts → AllFit acts → Held b r (all_acts budget b s acts) (cs ++ commands_from station (length cs) acts)
+goes_on budget b r s station count cs [] o g fit = subst (Held b r s) (sym (append-nil cs)) o.held
+goes_on budget b r s station count cs (act ∷ acts) o g fit =
+    let x = step budget b r s station count cs act o fit.0 g.1 in
     let m = more_from station (length cs) act in
     let same : (cs ++ m) ++ commands_from station (length (cs ++ m)) acts ≡ cs ++ commands_from station (length cs) (act ∷ acts) =
     append_assoc cs m (commands_from station (length (cs ++ m)) acts) ∙ ap (λ (n : ℕ). cs ++ (m ++ commands_from station n acts)) (length-append cs m) ∙ ap (λ (l : List Command). cs ++ l) (sym (from_cons command_in station (length cs) act acts)) in
     elim x.then [
-      | inl closed ↦ subst (Held b r (all_acts b (act_done b s act) acts)) same (held_wider b r (all_acts b (act_done b s act) acts) (cs ++ m) ((cs ++ m) ++ commands_from station (length (cs ++ m)) acts) (prefix_more (cs ++ m) (commands_from station (length (cs ++ m)) acts)) (ends_there b r (act_done b s act) (cs ++ m) acts x.held closed g.2))
-      | inr on ↦ subst (Held b r (all_acts b (act_done b s act) acts)) same (goes_on b r (act_done b s act) station count (cs ++ m) acts on g.2 fit.1)
+      | inl closed ↦ subst (Held b r (all_acts budget b (act_done budget b s act) acts)) same (held_wider b r (all_acts budget b (act_done budget b s act) acts) (cs ++ m) ((cs ++ m) ++ commands_from station (length (cs ++ m)) acts) (prefix_more (cs ++ m) (commands_from station (length (cs ++ m)) acts)) (ends_there budget b r (act_done budget b s act) (cs ++ m) acts x.held closed g.2))
+      | inr on ↦ subst (Held b r (all_acts budget b (act_done budget b s act) acts)) same (goes_on budget b r (act_done budget b s act) station count (cs ++ m) acts on g.2 fit.1)
     ]

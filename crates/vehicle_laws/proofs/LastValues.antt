@@ -15,8 +15,9 @@ use Rattle.param_records.specs.Values.{params_of, value_of_number}
 use Rattle.param_records.specs.Changes.{set_pieces, is_full, IsFull}
 use Rattle.param_records.specs.Steps.{records_in_storage, IsKept}
 use Rattle.param_service.specs.Requests.{Set}
+use Rattle.param_service.specs.Budget.{exceeds, allowed_writes}
 use Rattle.param_service.specs.Service.{is_total, writes_for, set_writes}
-use Rattle.vehicle_core.specs.Vehicle.{Parameters}
+use Rattle.vehicle_core.specs.Vehicle.{Parameters, allowed_of}
 use Rattle.vehicle_core.specs.Acts.{Act, Said, heard_as, did}
 use Rattle.vehicle_node.specs.Runs.{Run, did_in, act_done, all_acts, start}
 use Rattle.vehicle_node.proofs.RunLaws.{extends_all, all_acts-append}
@@ -62,29 +63,29 @@ reads_then b row first mid rest all e grows x y k from upto = elim (cases_lt (le
   | inr within ↦ ap (λ (l : List LineWrite). params_of (after b (take k l)) row) (sym e) ∙ ap (λ (l : List LineWrite). params_of (after b l) row) (take-append-le k mid rest within) ∙ x k from within
 ]
 
-reads_on : (b : List ℕ) (before since : List Act) (index : ℕ) (row : Var) → StartsFormatted b → AllFit (before ++ since) → slice_get vehicle_rows index ≡ Some row → AllLeave index since
-    → ReadsOn b row (run_over b before).issued (all_acts b (run_over b before) since).issued
-reads_on b before [] index row f fit is leave = reads_same b row (run_over b before).issued
-reads_on b before (act ∷ since) index row f fit is leave =
-    let r = run_over b before in
-    let s = act_done b r act in
-    let t = all_acts b s since in
+reads_on : (budget : ℕ) (b : List ℕ) (before since : List Act) (index : ℕ) (row : Var) → StartsFormatted b → AllFit (before ++ since) → slice_get vehicle_rows index ≡ Some row → AllLeave index since
+    → ReadsOn b row (run_over budget b before).issued (all_acts budget b (run_over budget b before) since).issued
+reads_on budget b before [] index row f fit is leave = reads_same b row (run_over budget b before).issued
+reads_on budget b before (act ∷ since) index row f fit is leave =
+    let r = run_over budget b before in
+    let s = act_done budget b r act in
+    let t = all_acts budget b s since in
     let split : before ++ act ∷ since ≡ (before ++ act ∷ []) ++ since = sym (append_assoc before (act ∷ []) since) in
     let fit2 : AllFit ((before ++ act ∷ []) ++ since) = subst AllFit split fit in
-    let now : run_over b (before ++ act ∷ []) ≡ s = run_snoc b before act in
-    let records = law_of_records b before act f (fit_before (before ++ act ∷ []) since fit2) in
-    let here = reads_more b row r.issued (did_in b r act).writes (by_rows (after b r.issued) (did_in b r act).writes index row (row_of_act act) is leave.0 records) in
-    let later : ReadsOn b row s.issued t.issued = subst (λ (x : Run). ReadsOn b row x.issued (all_acts b x since).issued) now (reads_on b (before ++ act ∷ []) since index row f fit2 is leave.1) in
-    let more = (extends_all b s since).issued in
-    reads_then b row r.issued s.issued more.rest t.issued more.whole (omega (arith, length-append r.issued (did_in b r act).writes)) here later
+    let now : run_over budget b (before ++ act ∷ []) ≡ s = run_snoc budget b before act in
+    let records = law_of_records budget b before act f (fit_before (before ++ act ∷ []) since fit2) in
+    let here = reads_more b row r.issued (did_in budget b r act).writes (by_rows (after b r.issued) (did_in budget b r act).writes index row (row_of_act act) is leave.0 records) in
+    let later : ReadsOn b row s.issued t.issued = subst (λ (x : Run). ReadsOn b row x.issued (all_acts budget b x since).issued) now (reads_on budget b (before ++ act ∷ []) since index row f fit2 is leave.1) in
+    let more = (extends_all budget b s since).issued in
+    reads_then b row r.issued s.issued more.rest t.issued more.whole (omega (arith, length-append r.issued (did_in budget b r act).writes)) here later
 
-kept : (b : List ℕ) (before since : List Act) (index k : ℕ) (row : Var) → StartsFormatted b → AllFit (before ++ since) → slice_get vehicle_rows index ≡ Some row → AllLeave index since
-    → length (run_over b before).issued ≤ k → k ≤ length (run_over b (before ++ since)).issued
-    → params_of (after b (take k (run_over b (before ++ since)).issued)) row ≡ params_of (after b (run_over b before).issued) row
-kept b before since index k row f fit is leave from upto =
-    let whole : run_over b (before ++ since) ≡ all_acts b (run_over b before) since = all_acts-append b (start b) before since in
-    let r = run_over b before in
-    (subst (λ (x : Run). ReadsOn b row r.issued x.issued) (sym whole) (reads_on b before since index row f fit is leave)) k from upto
+kept : (budget : ℕ) (b : List ℕ) (before since : List Act) (index k : ℕ) (row : Var) → StartsFormatted b → AllFit (before ++ since) → slice_get vehicle_rows index ≡ Some row → AllLeave index since
+    → length (run_over budget b before).issued ≤ k → k ≤ length (run_over budget b (before ++ since)).issued
+    → params_of (after b (take k (run_over budget b (before ++ since)).issued)) row ≡ params_of (after b (run_over budget b before).issued) row
+kept budget b before since index k row f fit is leave from upto =
+    let whole : run_over budget b (before ++ since) ≡ all_acts budget b (run_over budget b before) since = all_acts-append budget b (start b) before since in
+    let r = run_over budget b before in
+    (subst (λ (x : Run). ReadsOn b row r.issued x.issued) (sym whole) (reads_on budget b before since index row f fit is leave)) k from upto
 
 kept_there : (number : ℕ) (o : Option Var) (row : Var) → o ≡ Some row → IfSome o (λ r. IsKept r.kind number) → IsKept row.kind number
 kept_there number None row e fits = absurd (let clash : let none : Option Var = None in none ≡ Some row = e in cc)
@@ -99,24 +100,27 @@ lines_of_setting bytes index number row is other room =
     ∙ ap (λ (t : Bool). cond (t || is_full (records_in_storage bytes) row number) [] ws) (is_false (is_total row) other)
     ∙ ap (λ (t : Bool). cond t [] ws) (is_false (is_full (records_in_storage bytes) row number) room)
 
-setting_writes : (b : List ℕ) (r : Run) (station : ℕ) (v2 : Bool) (index number : ℕ) → (did_in b r (Said station (heard_as v2 (Some (Parameters (Set index (Some number))))))).writes ≡ set_writes (after b r.issued) index (Some number)
+setting_writes : (budget : ℕ) (b : List ℕ) (r : Run) (station : ℕ) (v2 : Bool) (index number : ℕ) → (did_in budget b r (Said station (heard_as v2 (Some (Parameters (Set index (Some number))))))).writes ≡ allowed_writes (allowed_of budget r.machine.vehicle) (set_writes (after b r.issued) index (Some number))
 unfolding did
-setting_writes b r station v2 index number = refl
+setting_writes budget b r station v2 index number = refl
 
-set_value : (b : List ℕ) (before : List Act) (act : Act) (index : ℕ) (row : Var) (number : ℕ) → StartsFormatted b → AllFit (before ++ act ∷ []) → IsSetting (after b (run_over b before).issued) act index row number
-    → params_of (after b (run_over b (before ++ act ∷ [])).issued) row ≡ value_of_number row.kind number
-set_value b before act index row number f fit x =
-    let r = run_over b before in
+set_value : (budget : ℕ) (b : List ℕ) (before : List Act) (act : Act) (index : ℕ) (row : Var) (number : ℕ) → StartsFormatted b → AllFit (before ++ act ∷ []) → IsSetting (after b (run_over budget b before).issued) (allowed_of budget (run_over budget b before).machine.vehicle) act index row number
+    → params_of (after b (run_over budget b (before ++ act ∷ [])).issued) row ≡ value_of_number row.kind number
+set_value budget b before act index row number f fit x =
+    let r = run_over budget b before in
     let bytes = after b r.issued in
-    let st = status b before f (fit_before before (act ∷ []) fit) in
+    let st = status budget b before f (fit_before before (act ∷ []) fit) in
     let said : Act = Said x.station (heard_as x.v2 (Some (Parameters (Set index (Some number))))) in
     let fits : ActFits said = subst ActFits x.is (fit_since before (act ∷ []) fit).0 in
     let kept : IsKept row.kind number = kept_there number (slice_get vehicle_rows index) row x.row_is fits in
     let ws = writes_of bytes (set_pieces vehicle_rows (records_in_storage bytes) row number) in
     let sets = row_sets bytes index row number (record { formatted = st.formatted; is = x.row_is; kept = kept; room = x.room }) in
-    let lines : (did_in b r act).writes ≡ ws = ap (λ (a : Act). (did_in b r a).writes) x.is ∙ setting_writes b r x.station x.v2 index number ∙ lines_of_setting bytes index number row x.row_is x.no_total x.room in
-    let end : after b (run_over b (before ++ act ∷ [])).issued ≡ after bytes ws =
-    ap (λ (s : Run). after b s.issued) (run_snoc b before act) ∙ after-append b r.issued (did_in b r act).writes ∙ ap (λ (l : List LineWrite). after bytes l) lines in
+    let limit = allowed_of budget r.machine.vehicle in
+    let lines_of_set = set_writes bytes index (Some number) in
+    let all_allowed : allowed_writes limit lines_of_set ≡ lines_of_set = ap (λ (t : Bool). cond t [] lines_of_set) (is_false (exceeds limit lines_of_set) x.few) in
+    let lines : (did_in budget b r act).writes ≡ ws = ap (λ (a : Act). (did_in budget b r a).writes) x.is ∙ setting_writes budget b r x.station x.v2 index number ∙ all_allowed ∙ lines_of_setting bytes index number row x.row_is x.no_total x.room in
+    let end : after b (run_over budget b (before ++ act ∷ [])).issued ≡ after bytes ws =
+    ap (λ (s : Run). after b s.issued) (run_snoc budget b before act) ∙ after-append b r.issued (did_in budget b r act).writes ∙ ap (λ (l : List LineWrite). after bytes l) lines in
     ap (λ (now : List ℕ). params_of now row) end ∙ sets.whole
 
 pub law_of_last_values : LawOfLastValues

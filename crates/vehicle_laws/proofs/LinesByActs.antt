@@ -11,24 +11,24 @@ use Rattle.vehicle_laws.specs.Uploads.{run_over}
 use Rattle.vehicle_laws.specs.Laws.{EndsWithin, LinesByActs}
 use Rattle.vehicle_laws.proofs.Status.{run_snoc}
 
-ends_within : (b : List ℕ) (before rest : List Act) (k : ℕ) → length (run_over b before).issued ≤ k → k < length (run_over b (before ++ rest)).issued → EndsWithin b (before ++ rest) k
-ends_within b before [] k from upto =
-    absurd (omega (from, upto, arith, ap (λ (acts : List Act). length (run_over b acts).issued) (append-nil before)))
-ends_within b before (act ∷ rest) k from upto =
-    let r = run_over b before in
-    let ws = (did_in b r act).writes in
-    let s = act_done b r act in
+ends_within : (budget : ℕ) (b : List ℕ) (before rest : List Act) (k : ℕ) → length (run_over budget b before).issued ≤ k → k < length (run_over budget b (before ++ rest)).issued → EndsWithin budget b (before ++ rest) k
+ends_within budget b before [] k from upto =
+    absurd (omega (from, upto, arith, ap (λ (acts : List Act). length (run_over budget b acts).issued) (append-nil before)))
+ends_within budget b before (act ∷ rest) k from upto =
+    let r = run_over budget b before in
+    let ws = (did_in budget b r act).writes in
+    let s = act_done budget b r act in
     let acts = before ++ act ∷ rest in
     let split : (before ++ act ∷ []) ++ rest ≡ acts = append_assoc before (act ∷ []) rest in
     elim (cases_lt (length s.issued) k) [
       | inl past ↦
-          let now : run_over b (before ++ act ∷ []) ≡ s = run_snoc b before act in
-          subst (λ (l : List Act). EndsWithin b l k) split (ends_within b (before ++ act ∷ []) rest k
+          let now : run_over budget b (before ++ act ∷ []) ≡ s = run_snoc budget b before act in
+          subst (λ (l : List Act). EndsWithin budget b l k) split (ends_within budget b (before ++ act ∷ []) rest k
           (omega (arith, past, ap (λ (x : Run). length x.issued) now))
-          (omega (arith, upto, ap (λ (l : List Act). length (run_over b l).issued) split)))
+          (omega (arith, upto, ap (λ (l : List Act). length (run_over budget b l).issued) split)))
       | inr within ↦
-          let more = (extends_all b s rest).issued in
-          let whole : (run_over b acts).issued ≡ (r.issued ++ ws) ++ more.rest = ap (λ (x : Run). x.issued) (all_acts-append b (start b) before (act ∷ rest)) ∙ sym more.whole in
+          let more = (extends_all budget b s rest).issued in
+          let whole : (run_over budget b acts).issued ≡ (r.issued ++ ws) ++ more.rest = ap (λ (x : Run). x.issued) (all_acts-append budget b (start b) before (act ∷ rest)) ∙ sym more.whole in
           let own = k - length r.issued in
           record {
             before = before;
@@ -42,4 +42,4 @@ ends_within b before (act ∷ rest) k from upto =
     ]
 
 pub lines_by_acts : LinesByActs
-lines_by_acts b acts k from upto = ends_within b [] acts k from upto
+lines_by_acts budget b acts k from upto = ends_within budget b [] acts k from upto

@@ -19,7 +19,9 @@ use Rattle.mission_service.specs.Uploads.{kinds, type_of}
 use Rattle.mission_service.specs.Requests as missions
 use Rattle.mission_service.specs.Requests.{Begin, Give, Clear, Count, Show as ShowItem, Cancel, Unsupported}
 use Rattle.mission_service.specs.Asked.{RequestFits, AsksWhatFits}
-use Rattle.vehicle_core.specs.Vehicle.{Asked, Parameters, Missions, Asks, one_of}
+use Rattle.vehicle_core.specs.declared.orders.VehicleCommand.{VehicleCommand}
+use Rattle.vehicle_core.specs.Orders.{command_of}
+use Rattle.vehicle_core.specs.Vehicle.{Asked, Parameters, Missions, Asks, one_of, orders_for}
 use Rattle.vehicle_core.specs.Acts.{Act, Beat, Stream}
 use Rattle.vehicle_node.specs.Reading.{sender_in, AreSaid, IsEvent, Reads, no_rests, streams, beats}
 use Rattle.vehicle_node.specs.Frames.{stations}
@@ -58,10 +60,12 @@ parameters_fit (message.ParamRequestList system component) asked h = subst Asked
 parameters_fit (message.ParamSet bits system component name kind) asked h = set_fits (cond (is_for system component) (row_named name) None) bits asked h
 parameters_fit _ asked h = subst AskedSettingFits (sym h) tt
 
-one_fits : (sender : Target) (request : Option parameters.Request) (asking : Option missions.Asking) → AskedSettingFits request → ((a : missions.Asking) → asking ≡ Some a → RequestFits a.request × ClearsOneOrAll a.request) → AskedFits (one_of (option_map Parameters request) (option_map (Missions sender) asking))
-one_fits sender (Some request) asking f g = f
-one_fits sender None (Some asking) f g = g asking refl
-one_fits sender None None f g = tt
+one_fits : (sender : Target) (request : Option parameters.Request) (asking : Option missions.Asking) (command : Option VehicleCommand) → AskedSettingFits request → ((a : missions.Asking) → asking ≡ Some a → RequestFits a.request × ClearsOneOrAll a.request) →
+    AskedFits (one_of (option_map Parameters request) (one_of (option_map (Missions sender) asking) (option_map (orders_for sender) command)))
+one_fits sender (Some request) asking command f g = f
+one_fits sender None (Some asking) command f g = g asking refl
+one_fits sender None None (Some command) f g = tt
+one_fits sender None None None f g = tt
 
 -- what is asked of the missions, if anything
 abbrev AskedClears : Option missions.Asking → Type 0
@@ -108,7 +112,7 @@ clears_fit _ asked h = subst AskedClears (sym h) tt
 
 -- what a message asks fits
 asked_fits : AsksWhatFits → (sender : Target) (m : Message) (asked : Option Asked) → Asks sender m asked → AskedFits asked
-asked_fits q sender m asked h = subst AskedFits (sym h.4) (one_fits sender h.0 h.2 (parameters_fit m h.0 h.1) (λ a e. (q m a (subst (λ (x : Option missions.Asking). missions.Asks m x) e h.3), clears_so a (subst AskedClears e (clears_fit m h.2 h.3)))))
+asked_fits q sender m asked h = subst AskedFits (sym h.4) (one_fits sender h.0 h.2 (command_of m) (parameters_fit m h.0 h.1) (λ a e. (q m a (subst (λ (x : Option missions.Asking). missions.Asks m x) e h.3), clears_so a (subst AskedClears e (clears_fit m h.2 h.3)))))
 
 said_fit : AsksWhatFits → (station : ℕ) (frames : List (List ℕ)) (acts : List Act) → AreSaid station frames acts → AllFit acts
 said_fit q station [] acts h = subst AllFit (sym h) tt

@@ -197,11 +197,11 @@ of_missions bytes m f few = record {
 }
 
 pub law_of_records : LawOfRecords
-law_of_records b acts act f fit =
-    let r = run_over b acts in
+law_of_records budget b acts act f fit =
+    let r = run_over budget b acts in
     let bytes = after b r.issued in
-    let st = status b acts f (fit_before acts (act ∷ []) fit) in
-    let few = has_place b acts st in
-    act_lines (λ row ws. SetsOnly row bytes ws) bytes r.machine.vehicle act
+    let st = status budget b acts f (fit_before acts (act ∷ []) fit) in
+    let few = has_place budget b acts st in
+    act_lines (λ row ws. SetsOnly row bytes ws) budget bytes r.machine.vehicle act
     (record { none = λ row. nothing_set bytes row; of_row = λ index. of_row bytes index st.formatted; of_missions = of_missions bytes r.machine.vehicle.missions st.formatted few })
     (fit_since acts (act ∷ []) fit).0

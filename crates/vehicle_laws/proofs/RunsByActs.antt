@@ -8,21 +8,21 @@ use Rattle.vehicle_laws.specs.Laws.{acts_of, RunsByActs}
 abbrev with_floor : Run → ℕ → Run
 with_floor r n = record r { floor = n }
 
-acts_with_floor : (b : List ℕ) (r : Run) (n : ℕ) (acts : List Act) → all_acts b (with_floor r n) acts ≡ with_floor (all_acts b r acts) n
-acts_with_floor b r n [] = refl
-acts_with_floor b r n (act ∷ acts) = acts_with_floor b (act_done b r act) n acts
+acts_with_floor : (budget : ℕ) (b : List ℕ) (r : Run) (n : ℕ) (acts : List Act) → all_acts budget b (with_floor r n) acts ≡ with_floor (all_acts budget b r acts) n
+acts_with_floor budget b r n [] = refl
+acts_with_floor budget b r n (act ∷ acts) = acts_with_floor budget b (act_done budget b r act) n acts
 
-by_acts : (b : List ℕ) (r : Run) (events : List (List Act)) → run_from b r events ≡ with_floor (all_acts b r (acts_of events)) (run_from b r events).floor
-by_acts b r [] = refl
-by_acts b r (acts ∷ events) =
-    let s = all_acts b r acts in
-    let n = (run_from b (finish s) events).floor in
-    by_acts b (finish s) events
-    ∙ ap (λ (x : Run). with_floor x n) (acts_with_floor b s (finish s).floor (acts_of events))
-    ∙ ap (λ (x : Run). with_floor x n) (sym (all_acts-append b r acts (acts_of events)))
+by_acts : (budget : ℕ) (b : List ℕ) (r : Run) (events : List (List Act)) → run_from budget b r events ≡ with_floor (all_acts budget b r (acts_of events)) (run_from budget b r events).floor
+by_acts budget b r [] = refl
+by_acts budget b r (acts ∷ events) =
+    let s = all_acts budget b r acts in
+    let n = (run_from budget b (finish s) events).floor in
+    by_acts budget b (finish s) events
+    ∙ ap (λ (x : Run). with_floor x n) (acts_with_floor budget b s (finish s).floor (acts_of events))
+    ∙ ap (λ (x : Run). with_floor x n) (sym (all_acts-append budget b r acts (acts_of events)))
 
 pub runs_by_acts : RunsByActs
 unfolding run_of
-runs_by_acts b events =
-    let e = by_acts b (start b) events in
+runs_by_acts budget b events =
+    let e = by_acts budget b (start b) events in
     record { machine = ap (λ (r : Run). r.machine) e; issued = ap (λ (r : Run). r.issued) e; answers = ap (λ (r : Run). r.answers) e }

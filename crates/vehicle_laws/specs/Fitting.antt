@@ -8,7 +8,7 @@ use Rattle.mission_service.specs.declared.requests.MissionType.{MissionType}
 use Rattle.mission_service.specs.Uploads.{kinds}
 use Rattle.mission_service.specs.Requests.{Request, Clear}
 use Rattle.mission_service.specs.Asked.{RequestFits}
-use Rattle.vehicle_core.specs.Vehicle.{Asked, Parameters, Missions}
+use Rattle.vehicle_core.specs.Vehicle.{Asked, Parameters, Missions, Orders}
 use Rattle.vehicle_core.specs.Acts.{Act, Said, Beat, Stream}
 
 -- the row keeps the number that it is to be set to
@@ -22,11 +22,12 @@ abbrev pub ClearsOneOrAll : Request → Type 0
 ClearsOneOrAll (Clear types) = ((t : MissionType) × (types ≡ t ∷ [])) ⊎ (types ≡ kinds)
 ClearsOneOrAll _ = Unit {0}
 
--- the same of what is asked of either protocol
+-- the same of what is asked of either protocol, and of commands
 abbrev pub AskedFits : Option Asked → Type 0
 AskedFits (Some (Parameters request)) = SettingFits request
 AskedFits (Some (Missions sender asking)) =
     RequestFits asking.request × ClearsOneOrAll asking.request
+AskedFits (Some (Orders sender command order)) = Unit {0}
 AskedFits None = Unit {0}
 
 -- A row that is set keeps its number; a command or an item of a fence that is given can be stored,

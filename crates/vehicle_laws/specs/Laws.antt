@@ -19,6 +19,7 @@ use Rattle.fence_records.specs.Lists.{fence_of}
 use Rattle.mission_service.specs.declared.requests.MissionType.{MissionType}
 use Rattle.mission_service.specs.declared.requests.MissionType.TheVariants.{Mission, Fence}
 use Rattle.mission_service.specs.Uploads.{Upload}
+use Rattle.vehicle_core.specs.Vehicle.{allowed_of}
 use Rattle.vehicle_core.specs.Acts.{Act}
 use Rattle.vehicle_node.specs.Reading.{Reads, no_rests}
 use Rattle.vehicle_node.specs.Runs.{Run, did_in, act_done, boot, start, run_of}
@@ -39,8 +40,8 @@ pub record HasDoneSame (r s : Run) : Type 0 where
 -- What a run of events has done is what the run over all their acts has: where one event ends and
 -- the next begins counts for what is flushed alone.
 abbrev pub RunsByActs : Type 0
-RunsByActs = (b : List ℕ) (events : List (List Act))
-    → HasDoneSame (run_of b events) (run_over b (acts_of events))
+RunsByActs = (budget : ℕ) (b : List ℕ) (events : List (List Act))
+    → HasDoneSame (run_of budget b events) (run_over budget b (acts_of events))
 
 -- The acts that are read of events fit.
 abbrev pub ReadActsFit : Type 0
@@ -64,42 +65,46 @@ StartsFormatted b = IsFormatted (current b (start b))
 -- commands that came in it. (Where the last of the acts refuses its command, it issues nothing, and
 -- the law over the acts before it says the same without that command.)
 abbrev pub LawOfMissions : Type 0
-LawOfMissions = (b : List ℕ) (before since : List Act) (opening : Act) (station count k : ℕ)
-    → StartsFormatted b → IsUpload Mission b before opening since station count
-    → IsTotalInOneLine (current b (run_over b before))
-    → length (run_over b before).issued ≤ k
-    → k ≤ length (run_over b (before ++ opening ∷ since)).issued
-    → let now = mission_of (after b (take k (run_over b (before ++ opening ∷ since)).issued)) in
-    (now ≡ mission_of (current b (run_over b before)))
+LawOfMissions = (budget : ℕ) (b : List ℕ) (before since : List Act) (opening : Act)
+    (station count k : ℕ)
+    → StartsFormatted b → IsUpload budget Mission b before opening since station count
+    → IsTotalInOneLine (current b (run_over budget b before))
+    → length (run_over budget b before).issued ≤ k
+    → k ≤ length (run_over budget b (before ++ opening ∷ since)).issued
+    → let whole = run_over budget b (before ++ opening ∷ since) in
+    let now = mission_of (after b (take k whole.issued)) in
+    (now ≡ mission_of (current b (run_over budget b before)))
     ⊎ IsPrefixOf now (commands_from station 0 since)
 
 -- What an upload has stored that ended with the answer 0: `stored` reads the list in storage bytes,
 -- and `from` is what a station gives from a number on. The acts since its opening, up to the last
 -- one, have given the whole list, as many as its COUNT said.
-pub record Stores {X : Type 0} (t : MissionType) (stored : List ℕ → List X)
+pub record Stores {X : Type 0} (budget : ℕ) (t : MissionType) (stored : List ℕ → List X)
     (from : ℕ → ℕ → List Act → List X) (b : List ℕ) (acts : List Act) (last : Act) (u : Upload)
     : Type 0 where
   pub before : List Act
   pub opening : Act
   pub since : List Act
   pub split : acts ≡ before ++ opening ∷ since
-  pub upload : IsUpload t b before opening (since ++ last ∷ []) u.owner u.count
-  pub list : stored (current b (run_over b (acts ++ last ∷ [])))
+  pub upload : IsUpload budget t b before opening (since ++ last ∷ []) u.owner u.count
+  pub list : stored (current b (run_over budget b (acts ++ last ∷ [])))
       ≡ from u.owner 0 (since ++ last ∷ [])
   pub all : length (from u.owner 0 (since ++ last ∷ [])) ≡ u.count
 
 -- Where an upload of the mission ends with the answer 0, the mission is then the list of the
 -- commands that its own station gave in it from number 0 on, as many as its COUNT said.
 abbrev pub LawOfUploads : Type 0
-LawOfUploads = (b : List ℕ) (acts : List Act) (last : Act) (u : Upload)
-    → StartsFormatted b → AllFit (acts ++ last ∷ []) → Ends Mission b (run_over b acts) last u
-    → Stores Mission mission_of commands_from b acts last u
+LawOfUploads = (budget : ℕ) (b : List ℕ) (acts : List Act) (last : Act) (u : Upload)
+    → StartsFormatted b → AllFit (acts ++ last ∷ [])
+    → Ends budget Mission b (run_over budget b acts) last u
+    → Stores budget Mission mission_of commands_from b acts last u
 
 -- The same of a fence.
 abbrev pub LawOfFenceUploads : Type 0
-LawOfFenceUploads = (b : List ℕ) (acts : List Act) (last : Act) (u : Upload)
-    → length b ≡ STORAGE_BYTES → AllFit (acts ++ last ∷ []) → Ends Fence b (run_over b acts) last u
-    → Stores Fence fence_of fence_items_from b acts last u
+LawOfFenceUploads = (budget : ℕ) (b : List ℕ) (acts : List Act) (last : Act) (u : Upload)
+    → length b ≡ STORAGE_BYTES → AllFit (acts ++ last ∷ [])
+    → Ends budget Fence b (run_over budget b acts) last u
+    → Stores budget Fence fence_of fence_items_from b acts last u
 
 -- the fence is this one, none, or the other
 abbrev pub IsFenceOneOf : List FenceItem → List FenceItem → List ℕ → Type 0
@@ -109,31 +114,35 @@ IsFenceOneOf old new bytes =
 -- After each prefix of the lines of an act the fence is the one from before it, none, or the one
 -- after it.
 abbrev pub LawOfFences : Type 0
-LawOfFences = (b : List ℕ) (acts : List Act) (act : Act)
-    → StartsFormatted b → AllFit (acts ++ act ∷ []) → let r = run_over b acts in
-    EachPrefix (IsFenceOneOf (fence_of (current b r)) (fence_of (current b (act_done b r act))))
-    (current b r) (did_in b r act).writes
+LawOfFences = (budget : ℕ) (b : List ℕ) (acts : List Act) (act : Act)
+    → StartsFormatted b → AllFit (acts ++ act ∷ []) → let r = run_over budget b acts in
+    EachPrefix
+    (IsFenceOneOf (fence_of (current b r)) (fence_of (current b (act_done budget b r act))))
+    (current b r) (did_in budget b r act).writes
 
 -- The lines of an act leave the parameters, or they set the one row that it may set: after each
 -- prefix of them its new record is absent or whole, and every other row has its old value.
 abbrev pub LawOfRecords : Type 0
-LawOfRecords = (b : List ℕ) (acts : List Act) (act : Act)
+LawOfRecords = (budget : ℕ) (b : List ℕ) (acts : List Act) (act : Act)
     → StartsFormatted b → AllFit (acts ++ act ∷ [])
-    → let r = run_over b acts in SetsOnly (row_of_act act) (current b r) (did_in b r act).writes
+    → let r = run_over budget b acts in
+    SetsOnly (row_of_act act) (current b r) (did_in budget b r act).writes
 
 -- After each number of issued lines a row reads as after the last act that may have set it; and
 -- where that was a PARAM_SET that set it, with the number that was sent.
 pub record LawOfLastValues : Type 0 where
-  pub kept : (b : List ℕ) (before since : List Act) (index k : ℕ) (row : Var)
+  pub kept : (budget : ℕ) (b : List ℕ) (before since : List Act) (index k : ℕ) (row : Var)
       → StartsFormatted b → AllFit (before ++ since)
       → slice_get vehicle_rows index ≡ Some row → AllLeave index since
-      → length (run_over b before).issued ≤ k → k ≤ length (run_over b (before ++ since)).issued
-      → params_of (after b (take k (run_over b (before ++ since)).issued)) row
-      ≡ params_of (current b (run_over b before)) row
-  pub set : (b : List ℕ) (before : List Act) (act : Act) (index : ℕ) (row : Var) (number : ℕ)
-      → StartsFormatted b → AllFit (before ++ act ∷ [])
-      → IsSetting (current b (run_over b before)) act index row number
-      → params_of (current b (run_over b (before ++ act ∷ []))) row
+      → length (run_over budget b before).issued ≤ k
+      → k ≤ length (run_over budget b (before ++ since)).issued
+      → params_of (after b (take k (run_over budget b (before ++ since)).issued)) row
+      ≡ params_of (current b (run_over budget b before)) row
+  pub set : (budget : ℕ) (b : List ℕ) (before : List Act) (act : Act) (index : ℕ) (row : Var)
+      (number : ℕ) → StartsFormatted b → AllFit (before ++ act ∷ [])
+      → IsSetting (current b (run_over budget b before))
+      (allowed_of budget (run_over budget b before).machine.vehicle) act index row number
+      → params_of (current b (run_over budget b (before ++ act ∷ []))) row
       ≡ value_of_number row.kind number
 
 -- Boot leaves formatted bytes, and where it formats them itself, MIS_TOTAL lies in one line; after
@@ -156,24 +165,25 @@ pub record BootFormats : Type 0 where
 -- After each number of lines from the start on the bytes are formatted, and MIS_TOTAL lies in one
 -- line if it did at the start.
 abbrev pub StaysInOneLine : Type 0
-StaysInOneLine = (b : List ℕ) (acts : List Act) (k : ℕ) → StartsFormatted b → AllFit acts
-    → length (boot b) ≤ k
-    → StaysFormatted (current b (start b)) (after b (take k (run_over b acts).issued))
+StaysInOneLine = (budget : ℕ) (b : List ℕ) (acts : List Act) (k : ℕ)
+    → StartsFormatted b → AllFit acts → length (boot b) ≤ k
+    → StaysFormatted (current b (start b)) (after b (take k (run_over budget b acts).issued))
 
 -- The first k lines of a run end within those of one act: they are the lines of the acts before it
 -- and a prefix of its own.
-pub record EndsWithin (b : List ℕ) (acts : List Act) (k : ℕ) : Type 0 where
+pub record EndsWithin (budget : ℕ) (b : List ℕ) (acts : List Act) (k : ℕ) : Type 0 where
   pub before : List Act
   pub act : Act
   pub since : List Act
   pub split : acts ≡ before ++ act ∷ since
   pub own : ℕ
-  pub few : own ≤ length (did_in b (run_over b before) act).writes
-  pub lines : take k (run_over b acts).issued
-      ≡ (run_over b before).issued ++ take own (did_in b (run_over b before) act).writes
+  pub few : own ≤ length (did_in budget b (run_over budget b before) act).writes
+  pub lines : take k (run_over budget b acts).issued
+      ≡ (run_over budget b before).issued
+      ++ take own (did_in budget b (run_over budget b before) act).writes
 
 -- What holds after each prefix of the lines of every act holds after any number of the lines of a
 -- run: each ends within the lines of one act, or is that of all.
 abbrev pub LinesByActs : Type 0
-LinesByActs = (b : List ℕ) (acts : List Act) (k : ℕ)
-    → length (boot b) ≤ k → k < length (run_over b acts).issued → EndsWithin b acts k
+LinesByActs = (budget : ℕ) (b : List ℕ) (acts : List Act) (k : ℕ)
+    → length (boot b) ≤ k → k < length (run_over budget b acts).issued → EndsWithin budget b acts k

@@ -11,12 +11,13 @@ use Rattle.param_records.specs.Changes.{IsFull}
 use Rattle.param_records.specs.Steps.{records_in_storage, ReadsBetween}
 use Rattle.param_service.specs.Requests as parameters
 use Rattle.param_service.specs.Requests.{Show, ShowAll, Set}
-use Rattle.param_service.specs.Service.{is_total}
+use Rattle.param_service.specs.Budget.{exceeds}
+use Rattle.param_service.specs.Service.{is_total, set_writes}
 use Rattle.mission_records.specs.declared.reading.TheConstants.{TOTAL_INDEX}
 use Rattle.mission_service.specs.declared.requests.MissionType.TheVariants.{Mission}
 use Rattle.mission_service.specs.Requests as missions
 use Rattle.mission_service.specs.Requests.{ForMission, Begin, Give, Clear}
-use Rattle.vehicle_core.specs.Vehicle.{Asked, Parameters, Missions}
+use Rattle.vehicle_core.specs.Vehicle.{Asked, Parameters, Missions, Orders}
 use Rattle.vehicle_core.specs.Acts.{Act, Said, Beat, Stream, heard_as}
 
 -- the row that a request to the parameter protocol may set
@@ -37,6 +38,7 @@ total_to_set _ = None
 abbrev pub row_asked : Option Asked → Option ℕ
 row_asked (Some (Parameters request)) = row_to_set request
 row_asked (Some (Missions sender asking)) = total_to_set asking.request
+row_asked (Some (Orders sender command order)) = None
 row_asked None = None
 
 -- the one row that an act may set, by its index
@@ -70,12 +72,14 @@ SetsOnly (Some index) old writes = EachPrefix (KeepsParams old) old writes
     ⊎ ((row : Var) × (number : ℕ) × SetsTo index row number old writes)
 
 -- The act is a PARAM_SET that sets the row at an index to a number over these bytes: it isn't a
--- count of commands or rally points, and where a record has to be appended there is room.
-pub record IsSetting (bytes : List ℕ) (act : Act) (index : ℕ) (row : Var) (number : ℕ)
-    : Type 0 where
+-- count of commands or rally points, where a record has to be appended there is room, and no more
+-- lines are needed than are allowed.
+pub record IsSetting (bytes : List ℕ) (allowed : Option ℕ) (act : Act) (index : ℕ) (row : Var)
+    (number : ℕ) : Type 0 where
   pub station : ℕ
   pub v2 : Bool
   pub is : act ≡ Said station (heard_as v2 (Some (Parameters (Set index (Some number)))))
   pub row_is : slice_get vehicle_rows index ≡ Some row
   pub no_total : ¬ IsTrue (is_total row)
   pub room : ¬ IsFull (records_in_storage bytes) row number
+  pub few : ¬ IsTrue (exceeds allowed (set_writes bytes index (Some number)))

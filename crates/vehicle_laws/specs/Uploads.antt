@@ -11,14 +11,14 @@ use Rattle.mission_service.specs.Requests.{Given, ForMission, ForFence, Request,
 use Rattle.mission_service.specs.declared.replies.Content.{Content}
 use Rattle.mission_service.specs.declared.replies.Content.TheVariants.{Next, Answer}
 use Rattle.mission_service.specs.Service.{accepted}
-use Rattle.vehicle_core.specs.Vehicle.{Asked, Parameters, Missions, tells_of_missions}
+use Rattle.vehicle_core.specs.Vehicle.{Asked, Parameters, Missions, Orders, tells_of_missions}
 use Rattle.vehicle_core.specs.Acts.{Act, Said, Beat, Stream, heard_as}
 use Rattle.vehicle_node.specs.Runs.{Run, did_in, act_done, all_acts, start}
 use Rattle.vehicle_laws.specs.Fitting.{AllFit}
 
 -- the run over these acts, from the start on
-abbrev pub run_over : List ℕ → List Act → Run
-run_over b acts = all_acts b (start b) acts
+abbrev pub run_over : ℕ → List ℕ → List Act → Run
+run_over budget b acts = all_acts budget b (start b) acts
 
 -- the uploads of a type at a run
 abbrev pub uploads_at : MissionType → Run → Uploads
@@ -34,40 +34,42 @@ says station v2 sender number request = Said station
     (heard_as v2 (Some (Missions sender (record { number = number; request = request }))))
 
 -- and is told this, and nobody is told anything else
-abbrev pub IsTold : List ℕ → Run → Act → ℕ → Target → ℕ → Content → Type 0
-IsTold b r act station sender number content = (did_in b r act).told
+abbrev pub IsTold : ℕ → List ℕ → Run → Act → ℕ → Target → ℕ → Content → Type 0
+IsTold budget b r act station sender number content = (did_in budget b r act).told
     ≡ tells_of_missions station
     (record { target = sender; number = number; content = content }) ∷ []
 
 -- Here the COUNT of a station opens an upload of the type: its first item is asked for.
-pub record Opens (t : MissionType) (b : List ℕ) (r : Run) (act : Act) (station count : ℕ)
-    : Type 0 where
+pub record Opens (budget : ℕ) (t : MissionType) (b : List ℕ) (r : Run) (act : Act)
+    (station count : ℕ) : Type 0 where
   pub v2 : Bool
   pub sender : Target
   pub number : ℕ
   pub is : act ≡ says station v2 sender number (Begin t count)
-  pub told : IsTold b r act station sender number (Next 0)
+  pub told : IsTold budget b r act station sender number (Next 0)
 
 -- the act opens no upload of the type
-abbrev pub OpensNone : MissionType → List ℕ → Run → Act → Type 0
-OpensNone t b r act = (station count : ℕ) → ¬ Opens t b r act station count
+abbrev pub OpensNone : ℕ → MissionType → List ℕ → Run → Act → Type 0
+OpensNone budget t b r act = (station count : ℕ) → ¬ Opens budget t b r act station count
 
 -- Before each of these acts an upload of the type is open, and none of them opens another: they
 -- belong to one upload, which the last one may end.
-abbrev pub GoesOn : MissionType → List ℕ → Run → List Act → Type 0
-GoesOn t b r [] = Unit {0}
-GoesOn t b r (act ∷ acts) = IsOpen t r × OpensNone t b r act × GoesOn t b (act_done b r act) acts
+abbrev pub GoesOn : ℕ → MissionType → List ℕ → Run → List Act → Type 0
+GoesOn budget t b r [] = Unit {0}
+GoesOn budget t b r (act ∷ acts) = IsOpen t r × OpensNone budget t b r act
+    × GoesOn budget t b (act_done budget b r act) acts
 
 -- An upload of a type in a run: after some acts one act opens it for a station with a count, and
 -- these acts belong to it.
-pub record IsUpload (t : MissionType) (b : List ℕ) (before : List Act) (opening : Act)
+pub record IsUpload (budget : ℕ) (t : MissionType) (b : List ℕ) (before : List Act) (opening : Act)
     (since : List Act) (station count : ℕ) : Type 0 where
-  pub opens : Opens t b (run_over b before) opening station count
-  pub goes_on : GoesOn t b (run_over b (before ++ opening ∷ [])) since
+  pub opens : Opens budget t b (run_over budget b before) opening station count
+  pub goes_on : GoesOn budget t b (run_over budget b (before ++ opening ∷ [])) since
   pub fit : AllFit (before ++ opening ∷ since)
 
 -- The open upload ends here: an item of its station is answered with 0.
-pub record Ends (t : MissionType) (b : List ℕ) (r : Run) (act : Act) (u : Upload) : Type 0 where
+pub record Ends (budget : ℕ) (t : MissionType) (b : List ℕ) (r : Run) (act : Act) (u : Upload)
+    : Type 0 where
   pub v2 : Bool
   pub sender : Target
   pub number : ℕ
@@ -76,7 +78,7 @@ pub record Ends (t : MissionType) (b : List ℕ) (r : Run) (act : Act) (u : Uplo
   pub was_open : uploads_at t r ≡ Open u
   pub is : act ≡ says u.owner v2 sender number (Give seq given)
   pub for_type : type_of_given given ≡ t
-  pub told : IsTold b r act u.owner sender number (Answer accepted)
+  pub told : IsTold budget b r act u.owner sender number (Answer accepted)
 
 -- the command that a request gives with this number, if it does
 abbrev pub command_in : ℕ → Request → Option Command
@@ -92,6 +94,7 @@ fence_item_in seq _ = None
 abbrev pub asked_in : {X : Type 0} → (Request → Option X) → Option Asked → Option X
 asked_in f (Some (Missions sender asking)) = f asking.request
 asked_in f (Some (Parameters request)) = None
+asked_in f (Some (Orders sender command order)) = None
 asked_in f None = None
 
 -- what the station's request in an act has

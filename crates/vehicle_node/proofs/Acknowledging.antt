@@ -56,8 +56,8 @@ told_none v [] none = tt
 told_none v (t ∷ told) none = both_none (deliveries_of v t) (deliveries v told) (each_none (told_to v t.to) t.content none.0) (told_none v told none.1)
 
 zero_max : (n x : ℕ) (b : Bool) → b ≡ false → x ≡ 0 → max (if b then n else 0) x ≡ 0
-zero_max n x true none zero = absurd (cc)
-zero_max n x false none zero = omega arith
+zero_max n x true none is = absurd (cc)
+zero_max n x false none is = omega arith
 
 none_numbered : (issued : ℕ) (m : Machine) (ds : List Delivery) → Unacknowledging ds → acknowledged (numbered issued m ds) ≡ 0
 none_numbered issued m [] none = refl

@@ -15,7 +15,8 @@ use Rattle.block_store.specs.Store.{durable_of, guard_ahead, is_alone, HasSpare}
 use Rattle.block_store.specs.Store as store
 use Rattle.dirty_lines.specs.Lines.{Lines, current_of}
 use Rattle.dirty_lines.specs.Losses.{IsWornForNext}
-use Rattle.vehicle_core.specs.Orders.{Need, Nothing}
+use Rattle.vehicle_core.specs.declared.orders.Need.{Need}
+use Rattle.vehicle_core.specs.declared.orders.Need.TheVariants.{Nothing}
 use Rattle.vehicle_core.specs.Vehicle.{Vehicle, is_armed}
 use Rattle.vehicle_core.specs.Acts.{Act, Did, did, nothing}
 use Rattle.vehicle_node.specs.declared.NodeError.{NodeError}
@@ -36,6 +37,12 @@ use Rattle.vehicle_node.proofs.Passing.{on_ok, worn_more, passed_on, cut_call, b
 -- a higher bound
 pub counts_more : (n m : ℕ) (row : List ℕ) → n ≤ m → CountsUpTo n row → CountsUpTo m row
 counts_more n m row le c = (c.0, c.1, omega (arith, le, c.2))
+
+-- the lines of a batch are counted
+pub counted_as : (s : Inside) (mid : Node) (total added n : ℕ) → view_of s ≡ mid → total ≡ raised_by added s.issued → added ≡ n → view_of (record s { issued = total }) ≡ record mid { issued = raised_by n mid.issued }
+counted_as s mid total added n is raised same =
+    ap (λ (k : ℕ). view_of (record s { issued = k })) (raised ∙ ap (λ (k : ℕ). raised_by k s.issued) same)
+    ∙ ap (λ (m : Node). let t : Node = record m { issued = raised_by n m.issued } in t) is
 
 -- ceilings, spare bytes and states are those of the lines
 ceilings : (a b : Lines) → a ≡ b → guard_ahead a.store + 2 * length a.pending ≡ guard_ahead b.store + 2 * length b.pending

@@ -15,7 +15,10 @@ use Rattle.block_store.specs.Store.{durable_of}
 use Rattle.block_store.specs.Store as store
 use Rattle.dirty_lines.specs.Lines.{current_of}
 use Rattle.dirty_lines.specs.Losses.{IsWornForNext}
-use Rattle.vehicle_core.specs.Orders.{Order, Flush, Arm, Disarm, Deny, Refuse, Nothing, FlushAll, need_of}
+use Rattle.vehicle_core.specs.declared.orders.Need.TheVariants.{Nothing, FlushAll}
+use Rattle.vehicle_core.specs.declared.orders.Order.{Order}
+use Rattle.vehicle_core.specs.declared.orders.Order.TheVariants.{Flush, Arm, Disarm, Deny, Refuse}
+use Rattle.vehicle_core.specs.Orders.{need_of}
 use Rattle.vehicle_core.specs.Vehicle.{Vehicle, is_armed}
 use Rattle.vehicle_core.specs.Acts.{Act, Did}
 use Rattle.vehicle_node.specs.declared.NodeError.{NodeError}
@@ -158,7 +161,7 @@ module _ {B : Type 0} (g : Ghosts B) where
           let over : armed_over old act ≡ false = and_right (armed_in old) (is_armed (did_at old act).vehicle) gone in
           elim (cases_Bool (armed_in old)) [
             | inl is ↦ a.answered.alone over (inr (needs ∙ act_needs (armed_in old) act is (sym after ∙ not)))
-            | inr no ↦ a.answered.alone over (inl (unless no))
+            | inr off ↦ a.answered.alone over (inl (unless off))
           ];
       still = λ throughout. a.still (and_from (armed_in old) (is_armed (did_at old act).vehicle) throughout.0 (arms ∙ throughout.1));
     }
@@ -172,7 +175,7 @@ module _ {B : Type 0} (g : Ghosts B) where
     worn_one new last e worn =
         worn_more e ((armed_over old act ≡ false) × (IsAlone (node_after old act) → IsWornForNext g last new.lines))
         (IsAloneUnlessArmed old → IsWornForNext g last new.lines ⊎ IsArmedOnce (armed_in old) (act ∷ []))
-        (λ w unless. elim (cases_Bool (armed_in old)) [ inl is ↦ inr (inl is) | inr no ↦ inl (w.1 (unless no)) ]) worn
+        (λ w unless. elim (cases_Bool (armed_in old)) [ inl is ↦ inr (inl is) | inr off ↦ inl (w.1 (unless off)) ]) worn
 
   -- acts of which nothing comes were answered
   pub answered_then : (old : Node) (board : B) (ps : List Act) (mid : Node) (mid_board : B) (qs : List Act) (new : Node) (last : B)

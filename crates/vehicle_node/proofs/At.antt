@@ -8,7 +8,7 @@ use Rattle.storage_lines.specs.Lines.{after}
 use Rattle.sector_image.specs.Stands.{Stands}
 use Rattle.block_store.specs.Store.{durable_of}
 use Rattle.dirty_lines.specs.Lines.{current_of}
-use Rattle.vehicle_core.specs.Orders.{FlushAll}
+use Rattle.vehicle_core.specs.declared.orders.Need.TheVariants.{FlushAll}
 use Rattle.vehicle_core.specs.Acts.{Act, Did, did}
 use Rattle.vehicle_node.specs.Frames.{Machine, Answer, Delivery, AreFramesOf, acknowledged, deliveries, numbered, counted_all}
 use Rattle.vehicle_node.specs.Reading.{IsEvent, no_rests}

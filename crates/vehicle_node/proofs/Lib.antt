@@ -2,6 +2,7 @@ pub mod LawsBelow
 pub mod RunLaws
 pub mod Orders
 pub mod Acknowledging
+pub mod Floors
 pub mod Readings
 pub mod At
 pub mod Passing
@@ -16,5 +17,6 @@ pub mod Putting
 pub mod FramesSent
 pub mod RepliesSent
 pub mod ActAnswers
+pub mod Fitting
 pub mod StationsTold
 pub mod Senders

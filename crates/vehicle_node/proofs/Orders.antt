@@ -5,10 +5,13 @@ use Rattle.std.specs.Option.{option_map, option_map_or}
 use Rattle.storage_lines.specs.declared.lines.LineWrite.{LineWrite}
 use Rattle.param_service.specs.Service.{Shown, streamed}
 use Rattle.mission_service.specs.Service as missions
-use Rattle.vehicle_core.specs.Orders.{Order, Flush, Arm, Disarm, Deny, Refuse, Need, Nothing, FlushAll, armed_after, need_of}
+use Rattle.vehicle_core.specs.declared.orders.Need.{Need}
+use Rattle.vehicle_core.specs.declared.orders.Need.TheVariants.{Nothing, FlushAll}
+use Rattle.vehicle_core.specs.declared.orders.Order.{Order}
+use Rattle.vehicle_core.specs.declared.orders.Order.TheVariants.{Flush, Arm, Disarm, Deny, Refuse}
+use Rattle.vehicle_core.specs.Orders.{armed_after, need_of}
 use Rattle.vehicle_core.specs.Vehicle.{Vehicle, Content, Asked, Parameters, Missions, Orders, Told, tells_value, tells_of_missions, is_heard, is_armed, hears, is_storage_acknowledgement}
-use Rattle.vehicle_core.specs.Acts.{Act, Said, Beat, Stream, Did, SinceArming, did, nothing, by_parameters, beaten, asked_of}
-use Rattle.vehicle_core.specs.Acts.{counted as lines_counted}
+use Rattle.vehicle_core.specs.Acts.{Act, Said, Beat, Stream, Did, did, nothing, by_parameters, beaten, asked_of, lines_counted}
 use Rattle.vehicle_node.specs.Frames.{Machine, Answer, Delivery, acknowledged, told_to, deliveries, deliveries_of, numbered, counted}
 use Rattle.vehicle_node.specs.Arming.{order_asked, need_in, armed_by, is_armed_after, is_armed_after_all, IsArmedThroughout, IsArmedOnce, NoneFlushes, OrdersDecide}
 
@@ -101,31 +104,6 @@ did_acknowledges budget bytes vehicle (Stream station) =
     ⊎ NoneAcknowledges (if b then by_parameters vehicle (streamed bytes vehicle.next_rows station) else nothing vehicle).told) [
       | true ↦ inr (values_told (streamed bytes vehicle.next_rows station).shown)
       | false ↦ inr tt
-    ]
-
-since_same : (budget : ℕ) (armed : Option ℕ) (need : Need) → SinceArming budget armed armed [] need
-since_same budget None need = tt
-since_same budget (Some since) need = (omega arith, λ le. le)
-
--- an act that says nothing arms nobody
-pub beat_since : (budget : ℕ) (bytes : List ℕ) (vehicle : Vehicle) (station : ℕ) →
-    let d = did budget bytes vehicle (Beat station) in SinceArming budget vehicle.armed d.vehicle.armed d.writes d.need
-unfolding did
-beat_since budget bytes vehicle station =
-    elim (is_heard vehicle station) as
-    (λ b. let d = (if b then beaten vehicle station (missions.idle vehicle.missions station) else nothing vehicle) in SinceArming budget vehicle.armed d.vehicle.armed d.writes d.need) [
-      | true ↦ since_same budget vehicle.armed Nothing
-      | false ↦ since_same budget vehicle.armed Nothing
-    ]
-
-pub stream_since : (budget : ℕ) (bytes : List ℕ) (vehicle : Vehicle) (station : ℕ) →
-    let d = did budget bytes vehicle (Stream station) in SinceArming budget vehicle.armed d.vehicle.armed d.writes d.need
-unfolding did
-stream_since budget bytes vehicle station =
-    elim (is_heard vehicle station) as
-    (λ b. let d = (if b then by_parameters vehicle (streamed bytes vehicle.next_rows station) else nothing vehicle) in SinceArming budget vehicle.armed d.vehicle.armed d.writes d.need) [
-      | true ↦ since_same budget vehicle.armed Nothing
-      | false ↦ since_same budget vehicle.armed Nothing
     ]
 
 -- acts one after another

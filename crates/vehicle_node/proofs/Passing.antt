@@ -41,13 +41,16 @@ no_stop (Ok v) = tt
 no_stop (Err e) = tt
 
 -- what the exit of a `?` returns
-pub passed_on : (r : Result ⊤ NodeError) (e : NodeError) → IsErrAnd r (λ d. d ≡ e) → r ≡ Err e
-passed_on r e err =
+pub passed_on : {T : Type 0} (r : Result T NodeError) (e : NodeError) → IsErrAnd r (λ d. d ≡ e) → r ≡ Err e
+passed_on {T} r e err =
     let p = err_from_is_err_and {Q = λ (d : NodeError). d ≡ e} r err in
-    p.1 ∙ ap (λ (d : NodeError). let t : Result ⊤ NodeError = Err d in t) p.2
+    p.1 ∙ ap (λ (d : NodeError). let t : Result T NodeError = Err d in t) p.2
 
-pub error_at : (r : Result ⊤ NodeError) (e : NodeError) (S : NodeError → Type 0) → IsErrAnd r (λ d. d ≡ e) → S e → IfErr r S
-error_at r e S err s = subst (λ (t : Result ⊤ NodeError). IfErr t S) (sym (passed_on r e err)) s
+pub error_passed : {T : Type 0} (r : Result T NodeError) (e : NodeError) (P : Result T NodeError → Type 0) → IsErrAnd r (λ d. d ≡ e) → P (Err e) → P r
+error_passed r e P err p = subst P (sym (passed_on r e err)) p
+
+pub error_at : {T : Type 0} (r : Result T NodeError) (e : NodeError) (S : NodeError → Type 0) → IsErrAnd r (λ d. d ≡ e) → S e → IfErr r S
+error_at {T} r e S err s = subst (λ (t : Result T NodeError). IfErr t S) (sym (passed_on r e err)) s
 
 pub adds_none : (s : Outcome) → Adds [] [] s s
 adds_none s = record { events_are = sym (append-nil s.events); frames_are = sym (append-nil s.frames) }

@@ -1,6 +1,6 @@
 -- Pending lines put: what is left of them, and what a loss leaves.
-use Rattle.std.proofs.Common.{◌≡◌, ◌⊎◌, inl, inr, ℕ, Bool, true, false, ◌+◌, ◌*◌, ◌<◌, ◌≤◌, List, [], ◌∷◌, ◌++◌, length, Result, Ok, refl, sym, ◌∙◌, ap, subst, arith, append_assoc, append-nil, length-append}
-use Rattle.std.specs.Prelude.{⊤, IsTrue, IsFalse, OnErr, if◌then◌else◌}
+use Rattle.std.proofs.Common.{◌≡◌, ◌⊎◌, inl, inr, ℕ, Bool, true, false, ◌+◌, ◌*◌, ◌<◌, ◌≤◌, List, [], ◌∷◌, ◌++◌, length, Result, Ok, Err, refl, sym, ◌∙◌, ap, subst, arith, append_assoc, append-nil, length-append}
+use Rattle.std.specs.Prelude.{⊤, IsTrue, IsFalse, IsErrAnd, OnErr, if◌then◌else◌}
 use Rattle.std.proofs.lemmas.Result.{IfErr-weaker}
 use Rattle.std.proofs.lemmas.Bool.{both_ways}
 use Rattle.std.proofs.lemmas.List.Sums.{fold-append}
@@ -26,7 +26,7 @@ use Rattle.dirty_lines.specs.Entries.{joined, Wrote, IsFewest}
 use Rattle.dirty_lines.specs.Losses.{PutsFirst, MayPutFirst, MayPutNext, NextExceeds, IsWornForNext}
 use Rattle.dirty_lines.proofs.Cuts.{joined_rest, few_joined, entries_few}
 use Rattle.dirty_lines.proofs.Puts.{answer_first}
-use Rattle.vehicle_core.specs.Orders.{Nothing, FlushAll}
+use Rattle.vehicle_core.specs.declared.orders.Need.TheVariants.{Nothing, FlushAll}
 use Rattle.vehicle_node.specs.Guard.{CountsUpTo}
 use Rattle.vehicle_node.specs.Safe.{Adds}
 use Rattle.vehicle_node.specs.Standing.{Node, IsAlone, ceiling}
@@ -34,7 +34,7 @@ use Rattle.vehicle_node.specs.Steps.Calls.{HasSent, WornAlone}
 use Rattle.vehicle_node.specs.Steps.Answering.{OnlyPuts, Flushing, Flushed, FlushedAll, FlushDone, Compacted, CompactedAll, CompactDone, SettledAll, SettleDone, Issued, IssueDone}
 use Rattle.vehicle_node.specs.declared.NodeError.{NodeError}
 use Rattle.vehicle_node.specs.declared.TheConstants.{ROOM_FROM}
-use Rattle.vehicle_node.proofs.Passing.{on_ok, worn_more, begun, going_on, lists_kept, lists_then, sent_nothing, sent_both}
+use Rattle.vehicle_node.proofs.Passing.{on_ok, worn_more, cut_call, begun, going_on, lists_kept, lists_then, sent_nothing, sent_both}
 
 guard_le : (state : State) → guard_in state ≤ guard_in state + (if in_both_sectors state then 2 else 0)
 guard_le (Alone kept) = omega arith
@@ -135,7 +135,7 @@ flushed n old new {armed} entries wrote fewest unspent alone same = record {
 }
 
 -- nothing is put
-pub puts_none : (armed : Bool) (node : Node) → OnlyPuts armed node node
+abbrev pub puts_none : (armed : Bool) (node : Node) → OnlyPuts armed node node
 puts_none armed node = record {
   budget = refl;
   machine = refl;
@@ -303,6 +303,11 @@ module _ {B : Type 0} (g : Ghosts B) (reads : (b : B) (o : Outcome) → g.now b 
     guard = (f.guard.0, f.guard.1, omega (arith, f.guard.2, p.ahead));
   }
 
+-- the putting of all lines was cut short
+pub settle_short : {B : Type 0} (g : Ghosts B) (n : ℕ) (armed : Bool) (old : Node) (a : B) (e : NodeError) (r : Result ⊤ NodeError) (new : Node) (b : B) → FlushDone g n armed old a (Err e) new b → IsErrAnd r (λ d. d ≡ e)
+    → SettleDone g FlushAll armed old a r new b
+settle_short g n armed old a e r new b f err = cut_call g (WornAlone g armed old new b) (SettledAll g FlushAll armed old a new b) a b e r f err (λ s o now x. x) (λ worn. worn)
+
 -- all lines are put while armed
 pub settle_armed : {B : Type 0} (g : Ghosts B) (n : ℕ) (armed : Bool) (old : Node) (a : B) (new : Node) (b : B) → armed ≡ true → FlushDone g n armed old a (Ok tt) new b → new.lines.pending ≡ []
     → SettleDone g FlushAll armed old a (Ok tt) new b
@@ -365,3 +370,14 @@ issued_after n armed old mid new writes f is few = subst (Issued armed old write
   spare = λ armed more has. omega (arith, f.puts.spare armed (length writes + more) has, length-append mid.lines.pending writes);
   alone = f.puts.alone;
 })
+
+pub issued_done : {B : Type 0} (g : Ghosts B) (n : ℕ) (armed : Bool) (old : Node) (a : B) (mid : Node) (b : B) → FlushDone g n armed old a (Ok tt) mid b → (new : Node) (writes : List LineWrite)
+    → new ≡ record mid { lines = lines_of mid.lines.store (mid.lines.pending ++ writes) } → (length old.lines.pending ≤ ROOM_FROM → mid ≡ old) → IssueDone g armed writes old a (Ok tt) new b
+issued_done g n armed old a mid b f new writes is few =
+    let w : FlushedAll g n armed old a mid b = f.done in
+    record {
+      losses = f.losses;
+      lists = f.lists;
+      done = record { issued = issued_after n armed old mid new writes w.flushed is few; sent = w.sent; still = w.still };
+      stopped = tt;
+    }

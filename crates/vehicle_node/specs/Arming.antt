@@ -1,7 +1,11 @@
 -- Which acts arm and disarm the vehicle, and which ask for all lines to be put.
 use Rattle.std.specs.Prelude.{◌≡◌, ◌⊎◌, ℕ, Bool, true, false, List, [], ◌∷◌, Option, Some, None, IsTrue}
 use Rattle.std.specs.Option.{option_map_or}
-use Rattle.vehicle_core.specs.Orders.{Order, Flush, Arm, Disarm, Deny, Refuse, Need, Nothing, need_of}
+use Rattle.vehicle_core.specs.declared.orders.Need.{Need}
+use Rattle.vehicle_core.specs.declared.orders.Need.TheVariants.{Nothing}
+use Rattle.vehicle_core.specs.declared.orders.Order.{Order}
+use Rattle.vehicle_core.specs.declared.orders.Order.TheVariants.{Flush, Arm, Disarm, Deny, Refuse}
+use Rattle.vehicle_core.specs.Orders.{need_of}
 use Rattle.vehicle_core.specs.Vehicle.{Vehicle, Asked, Parameters, Missions, Orders, is_armed}
 use Rattle.vehicle_core.specs.Acts.{Act, Said, Beat, Stream, did}
 

@@ -82,7 +82,8 @@ impl Node {
             &mut batch,
             &mut replies,
         );
-        let armed = was_armed && self.core.armed();
+        let is_armed = self.core.armed();
+        let armed = was_armed && is_armed;
         self.answer(board, need, armed, &batch, &replies)
     }
 

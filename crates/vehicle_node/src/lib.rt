@@ -1,8 +1,9 @@
 //! A node: the vehicle machine over a board, with its lines pending until they are put.
 //!
 //! A loss of power at any moment leaves the storage bytes after a prefix of the issued lines, which
-//! has every flushed one, and the frames that were sent are a prefix of the answers of the vehicle
-//! machine.
+//! has every flushed one and all that were issued before a storage acknowledgement that was sent,
+//! and the frames that were sent are a prefix of the answers of the vehicle machine. While the
+//! vehicle is armed nothing is erased.
 #![tactic(auto)]
 
 ghost use Rattle.std.specs.Prelude.{◌≡◌, ◌⊎◌, ◌+◌, ◌≤◌, ◌↔◌, ◌++◌, [], List, ℕ, length, true, Option, IfOk, IfErr, OnOk, OnErr, IsTrue, false, option_to_list};
@@ -35,7 +36,7 @@ mod opening;
 use crate::opening::{booted, error_of};
 use dirty_lines::{DirtyLines, PENDING_LINES};
 use flash_traits::{Board, Event, Fault, Region, budget};
-pub use laws::{boot_formats, events_are_read, events_are_read_once, frames_are_read, orders_decide};
+pub use laws::{boot_formats, events_are_read, events_are_read_once, floors_by_events, frames_are_read, orders_decide};
 use mav_frames::Cutter;
 use std::alloc::Global;
 use std::marker::Model;

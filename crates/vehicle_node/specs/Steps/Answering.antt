@@ -12,7 +12,8 @@ use Rattle.block_store.specs.declared.PutError.{PutError}
 use Rattle.block_store.specs.declared.PutError.TheVariants as put_error
 use Rattle.dirty_lines.specs.Lines.{current_of}
 use Rattle.mav_frames.specs.Frames.{is_v2}
-use Rattle.vehicle_core.specs.Orders.{Need, Nothing, FlushAll}
+use Rattle.vehicle_core.specs.declared.orders.Need.{Need}
+use Rattle.vehicle_core.specs.declared.orders.Need.TheVariants.{Nothing, FlushAll}
 use Rattle.vehicle_core.specs.Vehicle.{Asked, is_armed}
 use Rattle.vehicle_core.specs.Acts.{Act, Said, heard_as, Did, did}
 use Rattle.vehicle_node.specs.Frames.{Delivery, deliveries, counted_all, AreFramesOf}
