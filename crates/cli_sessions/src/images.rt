@@ -50,7 +50,7 @@ fn an_image_that_was_cut_is_refused(rt: HostRuntime) -> Result<(), Fail> {
         let image = fresh_image(alloc, sector_bytes)?;
         for word in ["serve", "dump", "report"] {
             for cut in [1, 16_384] {
-                let ended = command(alloc, word, &image[..image.len() - cut])?;
+                let ended = command(alloc, word, &image[..image.len().saturating_sub(cut)])?;
                 assert_eq!(rt; ended.status, Status(13), "{word} of {sector_bytes}");
                 assert_eq!(rt; ended.text.as_slice(), b"error 13 attach\n".as_slice());
             }
@@ -58,7 +58,7 @@ fn an_image_that_was_cut_is_refused(rt: HostRuntime) -> Result<(), Fail> {
         // Cut by a larger sector it has the length of an image with smaller sectors, whose guard row
         // begins where the old sector 1 did.
         if sector_bytes > 16_384 {
-            let cut = &image[..image.len() - sector_bytes];
+            let cut = &image[..image.len().saturating_sub(sector_bytes)];
             for word in ["serve", "dump"] {
                 let ended = command(alloc, word, cut)?;
                 assert_eq!(rt; ended.status, Status(3), "{word} of {sector_bytes}");

@@ -5,10 +5,10 @@
 #[cfg(test)]
 mod commands;
 #[cfg(test)]
+mod failing;
+#[cfg(test)]
 mod images;
 #[cfg(test)]
 mod memory;
-#[cfg(test)]
-mod outputs;
 #[cfg(test)]
 mod texts;

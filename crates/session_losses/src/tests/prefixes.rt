@@ -409,12 +409,11 @@ impl Whole {
 fn filled_image(alloc: Global, entries: usize) -> Result<Vec<u8>, Fail> {
     let mut image = formatted_image(alloc)?;
     for number in 0..entries {
-        let at = 4 + 10 * number;
-        let entry = [0xB0, 0x1D, 1, 2, 3, 4, 5, 6, 7, 8];
-        if at + 10 > 16_384 {
+        let at = number.saturating_mul(10).saturating_add(4);
+        if at > 16_374 || image.len() < 16_384 {
             return Err(Fail::from("entries"));
         }
-        image[at..at + 10].copy_from_slice(&entry);
+        image[at..at + 10].copy_from_slice(&[0xB0, 0x1D, 1, 2, 3, 4, 5, 6, 7, 8]);
     }
     Ok(image)
 }
@@ -434,10 +433,10 @@ fn each_cut_is_allowed(
         if cut.stopped.is_none() {
             return Ok(());
         }
-        failing = if failing + 100 < FIRST_PROGRAM {
+        failing = if failing < FIRST_PROGRAM - 100 {
             failing + 100
         } else {
-            failing.max(FIRST_PROGRAM - 1) + 1
+            failing.max(FIRST_PROGRAM - 1).saturating_add(1)
         };
     }
     Err(Fail::from("no session was whole"))
