@@ -1,7 +1,7 @@
 -- A command as the words say it, and the ranges that its numbers keep.
 use Rattle.std.specs.Prelude.{◌≤◌, ℕ}
 use Rattle.flash_traits.specs.Words.{IsSectorSize}
-use Rattle.command_line.specs.Lines.{CommandLine, serve, format, dump, report}
+use Rattle.command_line.specs.Lines.{CommandLine, serve, format, dump, report, gen}
 use Rattle.command_line.specs.declared.Command.{Command}
 use Rattle.command_line.specs.declared.Command.TheVariants as command
 
@@ -10,14 +10,17 @@ line_of (command.Serve image port turns) = serve image.now port turns
 line_of (command.Format image sector) = format image.now sector
 line_of (command.Dump image) = dump image.now
 line_of (command.Report image) = report image.now
+line_of (command.Gen rounds) = gen rounds
 
 -- a size of a sector, in bytes, with which an image is made: each that a board has
 abbrev pub IsFormatSize : ℕ → Type 0
 IsFormatSize n = IsSectorSize n
 
--- a port and a number of turns are at least 1, and a sector has a size with which an image is made
+-- a port and a number of turns are at least 1, a sector has a size with which an image is made, and
+-- there are 1 to 1,000 rounds
 abbrev pub IsInRange : Command → Type 0
 IsInRange (command.Serve image port turns) = (1 ≤ port) × (1 ≤ turns)
 IsInRange (command.Format image sector) = IsFormatSize sector
 IsInRange (command.Dump image) = Unit {0}
 IsInRange (command.Report image) = Unit {0}
+IsInRange (command.Gen rounds) = (1 ≤ rounds) × (rounds ≤ 1000)

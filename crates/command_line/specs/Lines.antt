@@ -1,5 +1,5 @@
 -- The command that a list of words is, or none. The first word picks the command; the rest are its
--- arguments: one operand, IMAGE, and each option at most once, before or after it.
+-- arguments: one operand, IMAGE or the N of `gen`, and each option at most once, before or after it.
 --
 -- A command is added by: a constructor of `CommandLine`; the names of its options
 -- (`serve_options`); what its operands and values say (`serve_says`, `serve_from`); its first word
@@ -10,7 +10,7 @@ use Rattle.std.specs.Prelude.{ℕ, List, [], ◌∷◌, Option, Some, None, code
 use Rattle.std.specs.Str.{bytes_eq}
 use Rattle.flash_traits.specs.Words.{is_size}
 use Rattle.command_line.specs.Arguments.{Argument, Text, arguments, operands, values_of}
-use Rattle.command_line.specs.Numbers.{number_given, only}
+use Rattle.command_line.specs.Numbers.{number_given, number_in, only}
 
 pub data CommandLine : Type 0 where
   -- IMAGE, the UDP port and the number of turns
@@ -20,6 +20,8 @@ pub data CommandLine : Type 0 where
   -- IMAGE
   dump : Text → CommandLine
   report : Text → CommandLine
+  -- the number of rounds
+  gen : ℕ → CommandLine
 
 -- `serve IMAGE [--port P] [--turns N]`
 abbrev pub serve_with : Option Text → Option ℕ → Option ℕ → Option CommandLine
@@ -80,6 +82,14 @@ abbrev pub report_from : Option (List Argument) → Option CommandLine
 report_from None = None
 report_from (Some args) = report_says (operands args)
 
+-- `gen N`: N is from 1 to 1000
+abbrev pub gen_says : List Text → Option CommandLine
+gen_says numbers = option_map gen (option_and_then (number_in 1 1000) (only numbers))
+
+abbrev pub gen_from : Option (List Argument) → Option CommandLine
+gen_from None = None
+gen_from (Some args) = gen_says (operands args)
+
 -- the command with this first word and these words after it
 abbrev pub line_of_command : Text → List Text → Option CommandLine
 line_of_command first rest =
@@ -87,7 +97,8 @@ line_of_command first rest =
     else (if bytes_eq first (codes "format") then format_from (arguments format_options None rest)
     else (if bytes_eq first (codes "dump") then dump_from (arguments no_options None rest)
     else (if bytes_eq first (codes "report") then report_from (arguments no_options None rest)
-    else None)))
+    else (if bytes_eq first (codes "gen") then gen_from (arguments no_options None rest)
+    else None))))
 
 abbrev pub line_from : Option Text → List Text → Option CommandLine
 line_from None rest = None

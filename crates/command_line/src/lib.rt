@@ -4,13 +4,14 @@
 ghost use Rattle.std.specs.Prelude.{◌≡◌, IfOk, IfSome, None, map, option_map, drop, codes};
 ghost use Rattle.command_line.specs.Arguments.{arguments};
 ghost use Rattle.command_line.specs.Commands.{IsFormatSize, IsInRange, line_of};
-ghost use Rattle.command_line.specs.Lines.{dump_from, dump_says, format_from, format_options, format_says, line_of_words, no_options, report_from, report_says, format_size_in, serve_from, serve_options, serve_says};
+ghost use Rattle.command_line.specs.Lines.{dump_from, dump_says, format_from, format_options, format_says, line_of_words, no_options, report_from, report_says, format_size_in, gen_from, gen_says, serve_from, serve_options, serve_says};
 ghost use Rattle.command_line.specs.Matches.{texts_of};
 
 mod number;
 mod reading;
 
-use crate::reading::{number_given_to, only_image, read};
+use crate::number::number_of;
+use crate::reading::{number_given_to, only_operand, read};
 use clap::ArgMatches;
 use flash_traits::is_sector_size;
 use std::alloc::{AllocError, Global};
@@ -44,6 +45,11 @@ pub enum Command<'a> {
         /// The image file's name.
         image: &'a str,
     },
+    /// `gen N`: run a generated session of N rounds in memory.
+    Gen {
+        /// How many rounds, from 1 to 1000.
+        rounds: u16,
+    },
 }
 
 static SERVE_OPTIONS: [&str; 2] = ["port", "turns"];
@@ -54,7 +60,7 @@ fn serve_said<'a>(matches: &ArgMatches<'a>) -> Option<Command<'a>>
         (texts_of matches.now (codes "port")) (texts_of matches.now (codes "turns")) }
     ensures ranges { IfSome result IsInRange }
 {
-    let Some(image) = only_image(matches) else {
+    let Some(image) = only_operand(matches) else {
         return None;
     };
     let Some(port) = number_given_to(matches, "port", 1, 65535, 14550) else {
@@ -103,7 +109,7 @@ fn format_said<'a>(matches: &ArgMatches<'a>) -> Option<Command<'a>>
         (texts_of matches.now (codes "sector")) }
     ensures ranges { IfSome result IsInRange }
 {
-    let Some(image) = only_image(matches) else {
+    let Some(image) = only_operand(matches) else {
         return None;
     };
     let Some(number) = number_given_to(matches, "sector", 16384, 131072, 131072) else {
@@ -135,7 +141,7 @@ fn dump_said<'a>(matches: &ArgMatches<'a>) -> Option<Command<'a>>
     ensures value { option_map line_of result ≡ dump_says (texts_of matches.now (codes "IMAGE")) }
     ensures ranges { IfSome result IsInRange }
 {
-    let Some(image) = only_image(matches) else {
+    let Some(image) = only_operand(matches) else {
         return None;
     };
     Some(Command::Dump { image })
@@ -159,7 +165,7 @@ fn report_said<'a>(matches: &ArgMatches<'a>) -> Option<Command<'a>>
     ensures value { option_map line_of result ≡ report_says (texts_of matches.now (codes "IMAGE")) }
     ensures ranges { IfSome result IsInRange }
 {
-    let Some(image) = only_image(matches) else {
+    let Some(image) = only_operand(matches) else {
         return None;
     };
     Some(Command::Report { image })
@@ -178,10 +184,42 @@ fn report<'a>(alloc: Global, words: &'a [&'a str]) -> Result<Option<Command<'a>>
     }
 }
 
+/// The most rounds of a generated session.
+const MOST_ROUNDS: u32 = 1000;
+
+/// What the matches of `gen` say.
+fn gen_said<'a>(matches: &ArgMatches<'a>) -> Option<Command<'a>>
+    ensures value { option_map line_of result ≡ gen_says (texts_of matches.now (codes "IMAGE")) }
+    ensures ranges { IfSome result IsInRange }
+{
+    let Some(text) = only_operand(matches) else {
+        return None;
+    };
+    let Some(rounds) = number_of(text, 1, MOST_ROUNDS) else {
+        return None;
+    };
+    Some(Command::Gen {
+        rounds: rounds as u16,
+    })
+}
+
+/// `gen N`, from all the words.
+fn gen_command<'a>(alloc: Global, words: &'a [&'a str]) -> Result<Option<Command<'a>>, AllocError>
+    ensures value { IfOk result (λ r. option_map line_of r
+        ≡ gen_from (arguments no_options None (drop 1 (map (λ s. s.now) words.entry.now)))) }
+    ensures ranges { IfOk result (λ r. IfSome r IsInRange) }
+{
+    match read(alloc, NO_OPTIONS.as_slice(), words) {
+        Err(error) => Err(error),
+        Ok(None) => Ok(None),
+        Ok(Some(matches)) => Ok(gen_said(&matches)),
+    }
+}
+
 /// The command that the words are, without the program's name, or `None` where they are no command
-/// line. The first word picks the command. Options stand before or after IMAGE, each at most once,
-/// as `--name value` or `--name=value`. A word that begins with `-` and is not the single `-` is
-/// IMAGE only after `--`. A number is one to ten ASCII digits.
+/// line. The first word picks the command. Options stand before or after the operand, each at most
+/// once, as `--name value` or `--name=value`. A word that begins with `-` and is not the single `-`
+/// is the operand only after `--`. A number is one to ten ASCII digits.
 ///
 /// # Errors
 ///
@@ -209,6 +247,9 @@ pub fn command_of<'a>(
     }
     if first == "report" {
         return report(alloc, words);
+    }
+    if first == "gen" {
+        return gen_command(alloc, words);
     }
     Ok(None)
 }

@@ -102,8 +102,8 @@ pub fn number_given_to(
     }
 }
 
-/// IMAGE, where it was given exactly once.
-pub fn only_image<'a>(matches: &ArgMatches<'a>) -> Option<&'a str>
+/// The operand, where there is exactly one. `clap` has it under the name IMAGE.
+pub fn only_operand<'a>(matches: &ArgMatches<'a>) -> Option<&'a str>
     ensures { option_map (λ t. t.now) result ≡ only (texts_of matches.now (codes "IMAGE")) }
 {
     match matches.get_raw("IMAGE") {

@@ -2,7 +2,7 @@
 use crate::{Command, command_of};
 use std::alloc::Global;
 
-static NO_COMMAND_LINES: [&[&str]; 14] = [
+static NO_COMMAND_LINES: [&[&str]; 18] = [
     &[],
     &["print", "a"],
     &["dump"],
@@ -17,6 +17,10 @@ static NO_COMMAND_LINES: [&[&str]; 14] = [
     &["serve", "a", "--port", "65536"],
     &["serve", "a", "--sector", "16384"],
     &["format", "x", "--sector=16385"],
+    &["gen"],
+    &["gen", "0"],
+    &["gen", "1001"],
+    &["gen", "1", "--turns", "1"],
 ];
 
 fn is_serve(alloc: Global, words: &[&str], image: &str, port: u16, turns: u32) -> bool {
@@ -49,6 +53,10 @@ fn reads_the_words_of_a_user(rt: HostRuntime) {
     assert!(rt;
         command_of(alloc, &["report", "--", "-a"]) == Ok(Some(Command::Report { image: "-a" }))
     );
+    assert!(rt;
+        command_of(alloc, &["gen", "0000001000"]) == Ok(Some(Command::Gen { rounds: 1000 }))
+    );
+    assert!(rt; command_of(alloc, &["gen", "--", "1"]) == Ok(Some(Command::Gen { rounds: 1 })));
     for words in NO_COMMAND_LINES {
         assert!(rt; command_of(alloc, words) == Ok(None), "{words:?}");
     }

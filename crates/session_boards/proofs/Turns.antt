@@ -1,5 +1,5 @@
 -- Turns of a round and of those after it, by their numbers.
-use Rattle.std.proofs.Common.{◌≡◌, ℤ, pos, ℕ, zero, suc, ◌+◌, ◌-◌, ◌<◌, ◌≤◌, ◌%◌, List, [], ◌∷◌, ◌++◌, length, map, take, slice_get, Option, Some, None, refl, sym, ◌∙◌, ap, subst, arith}
+use Rattle.std.proofs.Common.{◌≡◌, ℤ, pos, ℕ, zero, suc, ◌+◌, ◌-◌, ◌<◌, ◌≤◌, ◌%◌, List, [], ◌∷◌, ◌++◌, length, take, slice_get, Some, refl, sym, ◌∙◌, ap, arith}
 use Rattle.std.proofs.Math.Nat.{mod-add-mod}
 use Rattle.session_boards.specs.Session.{Sending, Turn, Sends, Waits, messages_of, waits_after, turns_from, upload, Gives, sent_in, IsBitsOf, SaysItem}
 use Rattle.mav_messages.specs.declared.messages.Message.TheVariants.{MissionItemInt}

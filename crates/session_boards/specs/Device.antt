@@ -1,18 +1,20 @@
--- The words of a board in memory with sectors of 131,072 bytes.
-use Rattle.std.specs.Prelude.{ℕ, ◌/◌, List, replicate, slice_set}
-use Rattle.flash_traits.specs.Words.{Words}
+-- The words of a device in memory.
+use Rattle.std.specs.Prelude.{ℕ, false, true, if◌then◌else◌, Bool, replicate}
+use Rattle.flash_traits.specs.Words.{Words, HasShape, IsSectorSize}
 use Rattle.flash_traits.specs.Marks.{mark_word}
 use Rattle.flash_traits.specs.declared.board.Mark.TheVariants.{Available, InUse}
-use Rattle.flash_traits.specs.declared.numbers.TheConstants.{ERASED, GUARD_HALFWORDS, SIGNATURE}
-use Rattle.session_boards.specs.declared.device.TheConstants.{SECTOR_BYTES}
+use Rattle.flash_traits.specs.declared.numbers.TheConstants.{ERASED, GUARD_HALFWORDS}
+use Rattle.flash_traits.proofs.Sizes.{size_not_zero}
+use Rattle.session_boards.specs.Sizes.{begun}
+use Rattle.session_boards.specs.declared.device.Device.{Device}
 
--- how many halfwords a sector has
-abbrev pub sector_halfwords : ℕ
-sector_halfwords = SECTOR_BYTES / 2
-
--- a sector whose first two halfwords are a mark and the signature, and every other one FFFF
-abbrev pub begun : ℕ → List ℕ
-begun mark = slice_set (slice_set (replicate sector_halfwords ERASED) 0 mark) 1 SIGNATURE
+-- the three lists of halfwords
+abbrev pub words_of : Device → Words
+words_of device = record {
+  s0 = device.s0.items;
+  s1 = device.s1.items;
+  guard = device.guard.items;
+}
 
 -- the words of a fresh image: sector 0 in use, sector 1 available, the guard row FFFF
 abbrev pub fresh : Words
@@ -21,3 +23,13 @@ fresh = record {
   s1 = begun (mark_word Available);
   guard = replicate GUARD_HALFWORDS ERASED;
 }
+
+-- the sector size that an attached board tells; 0 before the first attach
+abbrev pub told_size : Bool → ℕ → ℕ
+told_size attached size = if attached then size else 0
+
+-- an attached board has the shape of its sector size
+pub shape_of : (attached : Bool) (size : ℕ) (w : Words) → HasShape size w
+    → IsSectorSize (told_size attached size) → HasShape (told_size attached size) w
+shape_of true size w shape known = shape
+shape_of false size w shape known = absurd (size_not_zero 0 known (λ i. 0))

@@ -3,4 +3,4 @@ pub mod Places
 pub mod Device
 pub mod Sizes
 pub mod Counting
-pub mod Shape
+pub mod Laws

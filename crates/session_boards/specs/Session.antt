@@ -119,15 +119,15 @@ abbrev pub IsEventAt : ℕ → ℕ → Received → Type 0
 IsEventAt rounds number event = MatchOption (slice_get (session rounds) number) (event ≡ End)
     (λ turn. IsEventOf (sent_in (take number (session rounds)) % 256) turn event)
 
--- The events are so many of the session's, from the one with the number `first` on.
-pub record AreEventsFrom (rounds first count : ℕ) (events : List Received) : Type 0 where
-  pub size : length events ≡ count
+-- The events are the first ones of the session.
+pub record AreFirst (rounds : ℕ) (events : List Received) : Type 0 where
   pub each : (k : ℕ) (event : Received) → slice_get events k ≡ Some event
-      → IsEventAt rounds (first + k) event
+      → IsEventAt rounds k event
 
 -- The events are the whole session: one for each turn, and the end.
-abbrev pub IsGenerated : ℕ → List Received → Type 0
-IsGenerated rounds events = AreEventsFrom rounds 0 (length (session rounds) + 1) events
+pub record IsGenerated (rounds : ℕ) (events : List Received) : Type 0 where
+  pub first : AreFirst rounds events
+  pub whole : length events ≡ length (session rounds) + 1
 
 -- no event is the end
 abbrev pub HasNoEnd : List Received → Type 0

@@ -1,16 +1,18 @@
--- How large the parts of a board in memory are.
-use Rattle.std.specs.Prelude.{◌≡◌, ℕ, ◌||◌, ◌==◌, Bool, length, Vec}
+-- The lists of a device in memory: their room, and what they hold at first.
+use Rattle.std.specs.Prelude.{◌≤◌, ℕ, ◌/◌, List, length, replicate, slice_set, Vec, vec_capacity}
 use Rattle.std.specs.declared.alloc.Global.{Global}
-use Rattle.flash_traits.specs.declared.numbers.TheConstants.{GUARD_HALFWORDS}
+use Rattle.flash_traits.specs.declared.numbers.TheConstants.{ERASED, SIGNATURE}
 use Rattle.session_boards.specs.declared.device.TheConstants.{SECTOR_BYTES}
-use Rattle.session_boards.specs.Device.{sector_halfwords}
 
--- two sectors and the guard row
-pub record HaveSizes (s0 s1 guard : Vec ℕ Global) : Type 0 where
-  pub first : length s0.items ≡ sector_halfwords
-  pub second : length s1.items ≡ sector_halfwords
-  pub last : length guard.items ≡ GUARD_HALFWORDS
+-- at most n halfwords, in room for n, so that no call takes memory
+pub record HasRoom (halfwords : Vec ℕ Global) (n : ℕ) : Type 0 where
+  pub size : length halfwords.items ≤ n
+  pub room : n ≤ vec_capacity halfwords
 
--- the sector size of the last attach is that of the sectors, or there was no attach
-abbrev pub is_known : ℕ → Bool
-is_known size = (size == 0) || (size == SECTOR_BYTES)
+-- how many halfwords a sector of a fresh image has
+abbrev pub sector_halfwords : ℕ
+sector_halfwords = SECTOR_BYTES / 2
+
+-- a sector whose first two halfwords are a mark and the signature, and every other one FFFF
+abbrev pub begun : ℕ → List ℕ
+begun mark = slice_set (slice_set (replicate sector_halfwords ERASED) 0 mark) 1 SIGNATURE

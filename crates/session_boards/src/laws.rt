@@ -1,10 +1,7 @@
 //! What holds of every generated session.
-ghost use Rattle.std.specs.Prelude.{ℕ, List};
-ghost use Rattle.flash_traits.specs.Losses.{Received};
-ghost use Rattle.session_boards.specs.Session.{AreEventsFrom, EndsOnce, IsGenerated};
+ghost use Rattle.session_boards.specs.Laws.{SessionEnds};
 
-/// Events from the first one on that come to an end are the whole session.
-pub fn whole_session()
-    ensures { (rounds count : ℕ) (events : List Received)
-        → AreEventsFrom rounds 0 count events → EndsOnce events → IsGenerated rounds events }
+/// The session comes to its end, and events that come to an end are the whole session.
+pub fn session_ends()
+    ensures { SessionEnds }
 {}

@@ -10,8 +10,8 @@ mod laws;
 mod messages;
 mod session;
 
-pub use count_board::CountBoard;
-pub use laws::whole_session;
+pub use count_board::{CountBoard, Session};
+pub use laws::session_ends;
 pub use messages::{STATION_COMPONENT, STATION_SYSTEM};
 
 #[cfg(test)]

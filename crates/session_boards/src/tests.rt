@@ -1,8 +1,13 @@
 //! The first datagrams of the generated session, byte by byte, how many events sessions have, and a
 //! board that counts frames.
-use crate::CountBoard;
+ghost use Rattle.std.specs.Prelude.{◌≡◌};
+
 use crate::session::event_at;
+use crate::{CountBoard, Session};
 use flash_traits::{Board, DATAGRAM_BYTES, Event};
+use std::alloc::Global;
+use std::marker::Brand;
+use std::process::Abort;
 
 // PARAM_SET SERVO1_MIN 0, INT16, sequence 0.
 const FIRST_SET: &[u8] = &[
@@ -69,9 +74,10 @@ fn sessions_have_so_many_events_and_then_the_end(rt: HostRuntime) {
     }
 }
 
-#[test]
-fn a_board_gives_the_events_and_counts_the_frames(rt: HostRuntime) {
-    let Ok(mut board) = CountBoard::new(rt.alloc(), 1) else {
+fn drive<N: Session>(rt: &impl Abort, alloc: Global)
+    requires { N.rounds ≡ 1 }
+{
+    let Ok(mut board) = CountBoard::<N>::new(alloc, 1) else {
         panic!(rt; "no memory");
     };
     assert!(rt; board.attach("", 0, None).is_ok());
@@ -83,4 +89,9 @@ fn a_board_gives_the_events_and_counts_the_frames(rt: HostRuntime) {
     assert_eq!(rt; buffer.get(..16), Some(COUNT));
     assert_eq!(rt; board.send(0, COUNT), Ok(()));
     assert_eq!(rt; board.frames(), 1);
+}
+
+#[test]
+fn a_board_gives_the_events_and_counts_the_frames(rt: HostRuntime) {
+    drive::<Brand>(&rt, rt.alloc());
 }

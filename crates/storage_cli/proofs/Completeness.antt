@@ -9,7 +9,7 @@ use Rattle.storage_cli.specs.declared.printing.ImageText.{ImageText}
 use Rattle.storage_cli.specs.declared.printing.ImageText.TheVariants as image_text
 use Rattle.storage_cli.specs.declared.status.TheConstants.{FOREIGN_WORD, NO_MEMORY, OUTPUT_FAILED, TURNS_OVER, WORN}
 use Rattle.storage_cli.specs.Serving.{NamesForeign}
-use Rattle.storage_cli.specs.Statuses.{IsServeStatus, IsFormatStatus, TellsFaults, NothingFailed, IsDoneUnlessMemory}
+use Rattle.storage_cli.specs.Statuses.{IsServeStatus, IsFormatStatus, IsGenStatus, TellsFaults, NothingFailed, IsDoneUnlessMemory}
 use Rattle.storage_cli.specs.Steps.Printing.{IsTextStatus}
 use Rattle.storage_cli.proofs.Causes.{never_both}
 
@@ -22,6 +22,12 @@ module _ (status : ℕ) (before now : Fault → ℕ) (output_before output_now :
   pub memory_complete : (status ≡ NO_MEMORY) ⊎ (status ≡ OUTPUT_FAILED) → IsDoneUnlessMemory status
   memory_complete (inl is) = inr is
   memory_complete (inr is) = absurd (nothing.output (output is))
+
+  pub gen_complete : IsGenStatus status → status ≢ WORN → IsDoneUnlessMemory status
+  gen_complete (inl is) worn = inl is
+  gen_complete (inr (inl is)) worn = inr is
+  gen_complete (inr (inr (inl is))) worn = absurd (worn is)
+  gen_complete (inr (inr (inr is))) worn = absurd (nothing.output (output is))
 
   module _ (faults : TellsFaults status before now) where
     pub serve_complete : IsServeStatus status → (status ≡ FOREIGN_WORD → ⊥) → status ≢ WORN → IsDoneUnlessMemory status ⊎ (status ≡ TURNS_OVER)

@@ -31,51 +31,51 @@ grows_same r sound = record { sound = sound; answers = omega arith; floor = omeg
 grows_then : (r s t : Run) → Grows r s → Grows s t → Grows r t
 grows_then r s t first second = record { sound = second.sound; answers = omega (arith, first.answers, second.answers); floor = omega (arith, first.floor, second.floor) }
 
-grows_act : (b : List ℕ) (r : Run) (act : Act) → IsSound r → Grows r (act_done b r act)
-grows_act b r act sound =
-    let taken = take_act b r act in
+grows_act : (budget : ℕ) (b : List ℕ) (r : Run) (act : Act) → IsSound r → Grows r (act_done budget b r act)
+grows_act budget b r act sound =
+    let taken = take_act budget b r act in
     record {
-      sound = omega (arith, sound, length-append r.issued (did_in b r act).writes);
-      answers = omega (arith, length-append r.answers (numbered taken.machine (deliveries taken.machine.vehicle (did_in b r act).told)));
+      sound = omega (arith, sound, length-append r.issued (did_in budget b r act).writes);
+      answers = omega (arith, length-append r.answers (numbered (length taken.issued) taken.machine (deliveries taken.machine.vehicle (did_in budget b r act).told)));
       floor = omega arith;
     }
 
-grows_acts : (b : List ℕ) (r : Run) (acts : List Act) → IsSound r → Grows r (all_acts b r acts)
-grows_acts b r [] sound = grows_same r sound
-grows_acts b r (act ∷ acts) sound =
-    let one = grows_act b r act sound in
-    grows_then r (act_done b r act) (all_acts b (act_done b r act) acts) one (grows_acts b (act_done b r act) acts one.sound)
+grows_acts : (budget : ℕ) (b : List ℕ) (r : Run) (acts : List Act) → IsSound r → Grows r (all_acts budget b r acts)
+grows_acts budget b r [] sound = grows_same r sound
+grows_acts budget b r (act ∷ acts) sound =
+    let one = grows_act budget b r act sound in
+    grows_then r (act_done budget b r act) (all_acts budget b (act_done budget b r act) acts) one (grows_acts budget b (act_done budget b r act) acts one.sound)
 
-grows_event : (b : List ℕ) (r : Run) (acts : List Act) → IsSound r → Grows r (event_done b r acts)
-grows_event b r acts sound =
-    let all = grows_acts b r acts sound in
+grows_event : (budget : ℕ) (b : List ℕ) (r : Run) (acts : List Act) → IsSound r → Grows r (event_done budget b r acts)
+grows_event budget b r acts sound =
+    let all = grows_acts budget b r acts sound in
     record { sound = omega arith; answers = all.answers; floor = omega (arith, all.floor, all.sound) }
 
-grows_from : (b : List ℕ) (r : Run) (events : List (List Act)) → IsSound r → Grows r (run_from b r events)
-grows_from b r [] sound = grows_same r sound
-grows_from b r (acts ∷ events) sound =
-    let one = grows_event b r acts sound in
-    grows_then r (event_done b r acts) (run_from b (event_done b r acts) events) one (grows_from b (event_done b r acts) events one.sound)
+grows_from : (budget : ℕ) (b : List ℕ) (r : Run) (events : List (List Act)) → IsSound r → Grows r (run_from budget b r events)
+grows_from budget b r [] sound = grows_same r sound
+grows_from budget b r (acts ∷ events) sound =
+    let one = grows_event budget b r acts sound in
+    grows_then r (event_done budget b r acts) (run_from budget b (event_done budget b r acts) events) one (grows_from budget b (event_done budget b r acts) events one.sound)
 
-grows_front : (b : List ℕ) (r : Run) (n : ℕ) (events : List (List Act)) → IsSound r → Grows (run_from b r (take n events)) (run_from b r events)
-grows_front b r zero events sound = grows_from b r events sound
-grows_front b r (suc n) [] sound = grows_same r sound
-grows_front b r (suc n) (acts ∷ events) sound = grows_front b (event_done b r acts) n events (grows_event b r acts sound).sound
+grows_front : (budget : ℕ) (b : List ℕ) (r : Run) (n : ℕ) (events : List (List Act)) → IsSound r → Grows (run_from budget b r (take n events)) (run_from budget b r events)
+grows_front budget b r zero events sound = grows_from budget b r events sound
+grows_front budget b r (suc n) [] sound = grows_same r sound
+grows_front budget b r (suc n) (acts ∷ events) sound = grows_front budget b (event_done budget b r acts) n events (grows_event budget b r acts sound).sound
 
-run_grows : (b : List ℕ) (n : ℕ) (all : List (List Act)) → Grows (run_of b (take n all)) (run_of b all)
+run_grows : (budget : ℕ) (b : List ℕ) (n : ℕ) (all : List (List Act)) → Grows (run_of budget b (take n all)) (run_of budget b all)
 unfolding run_of
-run_grows b n all = grows_front b (start b) n all (omega arith)
+run_grows budget b n all = grows_front budget b (start b) n all (omega arith)
 
-floor_grows : (b : List ℕ) (all : List (List Act)) (n m : ℕ) → length all ≤ m → floor_of b all n ≤ floor_of b all m
-floor_grows b [] n m long = omega arith
-floor_grows b (acts ∷ all) n m long = omega (arith, (run_grows b n (acts ∷ all)).floor, ap (λ (l : List (List Act)). (run_of b l).floor) (take_all m (acts ∷ all) long))
+floor_grows : (budget : ℕ) (b : List ℕ) (all : List (List Act)) (n m : ℕ) → length all ≤ m → floor_of budget b all n ≤ floor_of budget b all m
+floor_grows budget b [] n m long = omega arith
+floor_grows budget b (acts ∷ all) n m long = omega (arith, (run_grows budget b n (acts ∷ all)).floor, ap (λ (l : List (List Act)). (run_of budget b l).floor) (take_all m (acts ∷ all) long))
 
 fewer_count : (events : List Received) → (length events - 1 ≡ length events) ⊎ (length events - 1 + 1 ≡ length events)
 fewer_count [] = inl (omega arith)
 fewer_count (e ∷ events) = inr (omega arith)
 
-pub one_fewer : (b : List ℕ) (events : List Received) (frames : List SentFrame) (m : ℕ) (words : Words) → Safe b events frames m words → Safe b events frames (length events - 1) words
-one_fewer b events frames m words s = elim s.count [
+pub one_fewer : (budget : ℕ) (b : List ℕ) (events : List Received) (frames : List SentFrame) (m : ℕ) (words : Words) → Safe budget b events frames m words → Safe budget b events frames (length events - 1) words
+one_fewer budget b events frames m words s = elim s.count [
   | inl all ↦
       let long : length s.acts ≤ m = omega (arith, all, length-acts no_rests events s.acts s.rests s.reads) in
       record {
@@ -83,22 +83,22 @@ one_fewer b events frames m words s = elim s.count [
         rests = s.rests;
         reads = s.reads;
         count = fewer_count events;
-        finished = omega (arith, s.finished, (run_grows b (length events - 1) s.acts).answers, ap (λ (l : List (List Act)). length (run_of b l).answers) (take_all m s.acts long));
+        finished = omega (arith, s.finished, (run_grows budget b (length events - 1) s.acts).answers, ap (λ (l : List (List Act)). length (run_of budget b l).answers) (take_all m s.acts long));
         at = record {
           first = s.at.first;
           kept = s.at.kept;
-          enough = omega (arith, s.at.enough, floor_grows b s.acts (length events - 1) m long);
+          enough = omega (arith, s.at.enough, floor_grows budget b s.acts (length events - 1) m long);
           few = s.at.few;
           stands = s.at.stands;
         };
       }
-  | inr fewer ↦ let same : m ≡ length events - 1 = omega (arith, fewer) in subst (λ (n : ℕ). Safe b events frames n words) same s
+  | inr fewer ↦ let same : m ≡ length events - 1 = omega (arith, fewer) in subst (λ (n : ℕ). Safe budget b events frames n words) same s
 ]
 
 -- before the first event nothing is sent, and no line needs to be put
-pub safe_none : (b : List ℕ) (words : Words) → Stands words b → Safe b [] [] 0 words
+pub safe_none : (budget : ℕ) (b : List ℕ) (words : Words) → Stands words b → Safe budget b [] [] 0 words
 unfolding run_of
-safe_none b words stands = record {
+safe_none budget b words stands = record {
   acts = [];
   rests = no_rests;
   reads = (refl, refl);

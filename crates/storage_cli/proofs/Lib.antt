@@ -8,3 +8,5 @@ pub mod Serves
 pub mod Done
 pub mod TextEndings
 pub mod Completeness
+pub mod FreshImage
+pub mod Sessions

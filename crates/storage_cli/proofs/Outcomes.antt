@@ -7,8 +7,9 @@ use Rattle.storage_cli.specs.declared.stop.Served.{Served}
 use Rattle.storage_cli.specs.declared.stop.Foreign.{Foreign}
 use Rattle.storage_cli.specs.declared.stop.Stop.{Stop}
 use Rattle.storage_cli.specs.declared.stop.Stop.TheVariants as stop
-use Rattle.storage_cli.specs.Statuses.{IsServeStatus, IsFormatStatus, IsPastAttach, TellsFaults, PrintsStatus}
+use Rattle.storage_cli.specs.Statuses.{IsServeStatus, IsFormatStatus, IsGenStatus, IsPastAttach, TellsFaults, PrintsStatus}
 use Rattle.storage_cli.specs.Serving.{NamesForeign}
+use Rattle.storage_cli.specs.Steps.Sessions.{IsSessionStop}
 use Rattle.storage_cli.specs.Steps.Stops.{status_of_stop, line_of_stop, IsServeStop, IsFormatStop, IsCausedBy, IsFirst, IsAttached, OnForeign, OnMemory, OnWorn, StopsEarly, StopsWorn}
 
 -- the status of an ending, or that of a failing output
@@ -164,6 +165,40 @@ format_others status stop.Link formats (inl is) = absurd formats
 format_others status stop.Worn formats (inl is) = absurd formats
 format_others status (stop.Turns n) formats (inl is) = absurd formats
 format_others status stop.Attach formats (inl is) = (λ e. omega (arith, is, e), λ e. omega (arith, is, e), λ e. omega (arith, is, e))
+
+-- the statuses of a gen
+pub gen_done : (status : ℕ) → Gives status 0 → IsGenStatus status
+gen_done status (inl is) = inl is
+gen_done status (inr is) = inr (inr (inr is))
+
+pub gen_stopped : (status : ℕ) (why : Stop) → IsSessionStop why → Gives status (status_of_stop why) → IsGenStatus status
+gen_stopped status why stops (inr is) = inr (inr (inr is))
+gen_stopped status stop.Words stops (inl is) = absurd stops
+gen_stopped status stop.Memory stops (inl is) = inr (inl is)
+gen_stopped status (stop.Foreign found) stops (inl is) = absurd stops
+gen_stopped status stop.Read stops (inl is) = absurd stops
+gen_stopped status stop.Flash stops (inl is) = absurd stops
+gen_stopped status stop.Link stops (inl is) = absurd stops
+gen_stopped status stop.Worn stops (inl is) = inr (inr (inl is))
+gen_stopped status (stop.Turns n) stops (inl is) = absurd stops
+gen_stopped status stop.Attach stops (inl is) = absurd stops
+
+gen_other : (status n : ℕ) → IsGenStatus status → 0 ≢ n → 2 ≢ n → 7 ≢ n → 10 ≢ n → status ≢ n
+gen_other status n (inl is) a b c d e = a (sym is ∙ e)
+gen_other status n (inr (inl is)) a b c d e = b (sym is ∙ e)
+gen_other status n (inr (inr (inl is))) a b c d e = c (sym is ∙ e)
+gen_other status n (inr (inr (inr is))) a b c d e = d (sym is ∙ e)
+
+pub gen_others : (status : ℕ) → IsGenStatus status → (status ≢ 1) × (status ≢ 3) × (status ≢ 4) × (status ≢ 5) × (status ≢ 6) × (status ≢ 8) × (status ≢ 13)
+gen_others status known = (
+  gen_other status 1 known (λ z. omega (arith, z)) (λ z. omega (arith, z)) (λ z. omega (arith, z)) (λ z. omega (arith, z)),
+  gen_other status 3 known (λ z. omega (arith, z)) (λ z. omega (arith, z)) (λ z. omega (arith, z)) (λ z. omega (arith, z)),
+  gen_other status 4 known (λ z. omega (arith, z)) (λ z. omega (arith, z)) (λ z. omega (arith, z)) (λ z. omega (arith, z)),
+  gen_other status 5 known (λ z. omega (arith, z)) (λ z. omega (arith, z)) (λ z. omega (arith, z)) (λ z. omega (arith, z)),
+  gen_other status 6 known (λ z. omega (arith, z)) (λ z. omega (arith, z)) (λ z. omega (arith, z)) (λ z. omega (arith, z)),
+  gen_other status 8 known (λ z. omega (arith, z)) (λ z. omega (arith, z)) (λ z. omega (arith, z)) (λ z. omega (arith, z)),
+  gen_other status 13 known (λ z. omega (arith, z)) (λ z. omega (arith, z)) (λ z. omega (arith, z)) (λ z. omega (arith, z)),
+)
 
 -- where all was done, no other status comes
 pub not_done : (status n : ℕ) → Gives status 0 → 0 ≢ n → 10 ≢ n → {P : Type 0} → status ≡ n → P

@@ -1,44 +1,37 @@
 -- What a `serve` and a `format` have done.
-use Rattle.std.specs.Prelude.{◌≡◌, ◌≢◌, ◌⊎◌, ℕ, ◌-◌, List, [], ◌∷◌, ◌++◌, length}
+use Rattle.std.specs.Prelude.{◌≡◌, ◌⊎◌, ℕ, ◌-◌, Bool, false, List, [], ◌∷◌, ◌++◌, length}
 use Rattle.flash_traits.specs.Words.{Words}
 use Rattle.flash_traits.specs.declared.board.Board.{Ghosts}
 use Rattle.dirty_lines.specs.Lines.{Lines}
 use Rattle.dirty_lines.specs.Losses.{IsWornForNext}
-use Rattle.flash_traits.specs.Losses.{Received, End, SentFrame, Moment}
+use Rattle.flash_traits.specs.Losses.{Received, SentFrame, Moment}
 use Rattle.storage_lines.specs.Lines.{after}
 use Rattle.sector_image.specs.FirstBad.{Place, FirstBad}
 use Rattle.sector_image.specs.Stands.{Stands, IsUsedUp}
 use Rattle.vehicle_core.specs.Acts.{Act}
+use Rattle.vehicle_node.specs.Arming.{is_armed_after_all, IsArmedOnce}
 use Rattle.vehicle_node.specs.Frames.{AreFramesOf}
 use Rattle.vehicle_node.specs.Reading.{Reads, no_rests}
 use Rattle.vehicle_node.specs.Runs.{run_of}
 use Rattle.flash_traits.specs.Counts.{counts}
+use Rattle.session_boards.specs.Session.{HasNoEnd, EndsOnce}
 use Rattle.storage_cli.specs.declared.status.TheConstants.{DONE, TURNS_OVER}
 use Rattle.storage_cli.specs.Texts.{foreign_line, served_line}
 
--- no event is an end
-abbrev pub HasNoEnd : List Received → Type 0
-HasNoEnd [] = Unit {0}
-HasNoEnd (event ∷ events) = (event ≢ End) × HasNoEnd events
-
--- the last event is an end, and no earlier one is
-abbrev pub EndsOnce : List Received → Type 0
-EndsOnce events = (front : List Received) × (events ≡ front ++ End ∷ []) × HasNoEnd front
-
--- The whole run over these events, from these bytes: the frames are all its answers, and the words
--- stand for the bytes with all of its lines.
-pub record IsWhole (b : List ℕ) (events : List Received) (frames : List SentFrame) (words : Words)
-    : Type 0 where
+-- The whole run over these events, from these bytes and with this arming budget: the frames are all
+-- its answers, and the words stand for the bytes with all of its lines.
+pub record IsWhole (budget : ℕ) (b : List ℕ) (events : List Received) (frames : List SentFrame)
+    (words : Words) : Type 0 where
   pub acts : List (List Act)
   pub rests : List (List ℕ)
   pub reads : Reads no_rests events acts rests
-  pub all_answers : AreFramesOf (run_of b acts).answers frames
-  pub all_lines : Stands words (after b (run_of b acts).issued)
+  pub all_answers : AreFramesOf (run_of budget b acts).answers frames
+  pub all_lines : Stands words (after b (run_of budget b acts).issued)
 
 -- What a `serve` of so many turns has done that came to the end or to the last of its turns,
 -- between the words of its attach and those of its end. `has_lists` and `told` are what the board
 -- says at the end, and `printed` what was printed.
-pub record Serves (has_lists : List Received → List SentFrame → Type 0) (told : Type 0)
+pub record Serves (budget : ℕ) (has_lists : List Received → List SentFrame → Type 0) (told : Type 0)
     (before now : Words) (turns status : ℕ) (printed : List ℕ → Type 0) : Type 0 where
   pub events : List Received
   pub frames : List SentFrame
@@ -49,7 +42,7 @@ pub record Serves (has_lists : List Received → List SentFrame → Type 0) (tol
   -- where the turns are over that many events came, and none was an end
   pub over : status ≡ TURNS_OVER → HasNoEnd events × (length events ≡ turns)
   -- all frames of the run were sent, and all of its lines are in the image
-  pub whole : told → (b : List ℕ) → Stands before b → IsWhole b events frames now
+  pub whole : told → (b : List ℕ) → Stands before b → IsWhole budget b events frames now
   -- where all was done the events before the end and the frames are printed; a count of 64 bits
   -- stands still at its end
   pub sent : ℕ
@@ -63,12 +56,32 @@ pub record NamesForeign (told : Type 0) (words : Words) (printed : List ℕ → 
   pub first : told → FirstBad words place
   pub line : printed (foreign_line place.region place.at place.word)
 
--- The guard row is used up where a sector has to be voided: the image that was attached has one, or
+-- whether the vehicle is armed after these events, by the acts of each
+abbrev pub is_armed_after_events : Bool → List (List Act) → Bool
+is_armed_after_events armed [] = armed
+is_armed_after_events armed (acts ∷ events) =
+    is_armed_after_events (is_armed_after_all armed acts) events
+
+-- Of the events received since the attach, the last is one in which the vehicle was armed, at its
+-- start or after one of its acts.
+pub record WasArmed {B : Type 0} (g : Ghosts B) (board : B) : Type 0 where
+  pub events : List Received
+  pub frames : List SentFrame
+  pub are_these : g.has_lists board events frames
+  pub acts : List (List Act)
+  pub last : List Act
+  pub rests : List (List ℕ)
+  pub reads : Reads no_rests events (acts ++ last ∷ []) rests
+  pub armed : IsArmedOnce (is_armed_after_events false acts) last
+
+-- The guard row is used up where a sector has to be voided. The image that was attached has one; or
 -- the words left are spilled with every chunk copied, and home's free bytes are fewer than those of
--- the next entry of the lines that wait.
+-- the next entry of the lines that wait; or the vehicle was armed, and it had spilled while nothing
+-- could be erased.
 abbrev pub HasToVoid : {B : Type 0} → Ghosts B → Words → B → Type 0
 HasToVoid g words board = (g.tells board → IsUsedUp words)
     ⊎ ((lines : Lines) × IsWornForNext g board lines)
+    ⊎ (g.tells board → WasArmed g board)
 
 -- the moment and the words are as they were
 pub record IsLeftAlone {B : Type 0} (g : Ghosts B) (old new : B) : Type 0 where

@@ -7,7 +7,7 @@ use Rattle.flash_traits.specs.Causes.{Rose}
 use Rattle.flash_traits.specs.declared.stream.Sink.{Ghosts}
 use Rattle.command_line.specs.Arguments.{Text}
 use Rattle.flash_traits.specs.Words.{Words}
-use Rattle.command_line.specs.Lines.{CommandLine, serve, format, dump, report, line_of_words}
+use Rattle.command_line.specs.Lines.{CommandLine, serve, format, dump, report, gen, line_of_words}
 use Rattle.image_report.specs.Dumps.{IsDump}
 use Rattle.image_report.specs.Reports.{IsReport}
 use Rattle.storage_cli.specs.declared.status.TheConstants.{ATTACH_FAILED, DONE, FLASH_FAILED, FOREIGN_WORD, LINK_FAILED, NO_COMMAND, NO_MEMORY, OUTPUT_FAILED, READ_FAILED, TURNS_OVER, WORN}
@@ -35,6 +35,9 @@ abbrev pub IsReportStatus : ℕ → Type 0
 IsReportStatus n = (n ≡ DONE) ⊎ (n ≡ NO_MEMORY) ⊎ (n ≡ READ_FAILED) ⊎ (n ≡ OUTPUT_FAILED)
     ⊎ (n ≡ ATTACH_FAILED)
 
+abbrev pub IsGenStatus : ℕ → Type 0
+IsGenStatus n = (n ≡ DONE) ⊎ (n ≡ NO_MEMORY) ⊎ (n ≡ WORN) ⊎ (n ≡ OUTPUT_FAILED)
+
 -- the statuses of a command line
 abbrev pub IsStatusOf : Option CommandLine → ℕ → Type 0
 IsStatusOf None n = (n ≡ NO_COMMAND) ⊎ (n ≡ NO_MEMORY) ⊎ (n ≡ OUTPUT_FAILED)
@@ -42,6 +45,7 @@ IsStatusOf (Some (serve image port turns)) n = IsServeStatus n
 IsStatusOf (Some (format image sector_bytes)) n = IsFormatStatus n
 IsStatusOf (Some (dump image)) n = IsDumpStatus n
 IsStatusOf (Some (report image)) n = IsReportStatus n
+IsStatusOf (Some (gen rounds)) n = IsGenStatus n
 
 -- what is answered to an image with a foreign halfword, after the attach
 abbrev pub IsForeignStatus : ℕ → Type 0
@@ -85,6 +89,11 @@ OnReport words condition P = (image : Text) → line_of_words words ≡ Some (re
 
 abbrev pub OnDumpOrReport : List Text → Type 0 → Type 0 → Type 0
 OnDumpOrReport words condition P = OnDump words condition P × OnReport words condition P
+
+-- what holds of a `gen` on this condition, by its rounds
+abbrev pub OnGen : List Text → Type 0 → (ℕ → Type 0) → Type 0
+OnGen words condition P = (rounds : ℕ) → line_of_words words ≡ Some (gen rounds) → condition
+    → P rounds
 
 -- a status that tells a fault comes only where the count of its kind rose
 pub record TellsFaults (status : ℕ) (before now : Fault → ℕ) : Type 0 where

@@ -2,4 +2,5 @@
 pub mod Endings
 pub mod Printing
 pub mod Progress
+pub mod Sessions
 pub mod Stops

@@ -1,6 +1,7 @@
 -- The lines that a call prints.
 use Rattle.std.specs.Prelude.{ℕ, List, ◌++◌, codes, decimal}
 use Rattle.flash_traits.specs.declared.board.Region.{Region}
+use Rattle.hex.specs.Hex.{encode_lower}
 use Rattle.printed_text.specs.Names.{region_name}
 use Rattle.printed_text.specs.Pieces.{with_newline, place_text}
 
@@ -48,6 +49,14 @@ served_line events frames =
     with_newline (codes "served " ++ decimal events ++ codes " events " ++ decimal frames
     ++ codes " frames")
 
+-- what a generated session of so many rounds came to: the events before its end, the frames sent,
+-- the lines issued, and the digest of the storage bytes
+abbrev pub session_line : ℕ → ℕ → ℕ → ℕ → List ℕ → List ℕ
+session_line rounds events frames lines digest =
+    with_newline (codes "gen " ++ decimal rounds ++ codes " events " ++ decimal events
+    ++ codes " frames " ++ decimal frames ++ codes " lines " ++ decimal lines ++ codes " sha256 "
+    ++ encode_lower digest)
+
 -- the lines that a call may print
 pub data Line : List ℕ → Type 0 where
   Words : Line words_line
@@ -60,3 +69,5 @@ pub data Line : List ℕ → Type 0 where
   Turns : (turns : ℕ) → Line (turns_line turns)
   Attach : Line attach_line
   Served : (events frames : ℕ) → Line (served_line events frames)
+  Session : (rounds events frames lines : ℕ) (digest : List ℕ)
+      → Line (session_line rounds events frames lines digest)

@@ -2,6 +2,7 @@
 ghost use Rattle.std.specs.Prelude.{◌≡◌, ◌≢◌, ◌⊎◌, ◌≤◌, ◌-◌, ◌++◌, [], List, ℕ, length, take, None, ⊤};
 ghost use Rattle.flash_traits.specs.declared.board.Fault.{Fault};
 ghost use Rattle.flash_traits.specs.Words.{IsSectorSize};
+ghost use Rattle.flash_traits.specs.Budget.{budget_of};
 ghost use Rattle.flash_traits.specs.Causes.{Rose};
 ghost use Rattle.flash_traits.specs.Losses.{Outcome};
 ghost use Rattle.command_line.specs.Lines.{line_of_words};
@@ -14,13 +15,15 @@ ghost use Rattle.image_report.specs.Reports.{IsReport};
 ghost use Rattle.image_report.specs.Writes.{WritesOne};
 ghost use Rattle.storage_cli.specs.Texts.{Line, turns_line};
 ghost use Rattle.storage_cli.specs.Fresh.{IsFreshImage};
-ghost use Rattle.storage_cli.specs.Statuses.{texts, IsStatusOf, IsServeStatus, IsFormatStatus, IsPastAttach, IsUnasked, OnServe, OnFormat, OnDump, OnReport, OnDumpOrReport, PrintsStatus, Prints, IsCutShort, IsTextCutShort, IsForeignStatus, IsWornStatus, IsDoneUnlessMemory, NothingFailed};
+ghost use Rattle.storage_cli.specs.Statuses.{texts, IsStatusOf, IsServeStatus, IsFormatStatus, IsPastAttach, IsUnasked, OnServe, OnFormat, OnDump, OnReport, OnDumpOrReport, PrintsStatus, Prints, IsCutShort, IsTextCutShort, IsForeignStatus, IsWornStatus, IsGenStatus, IsDoneUnlessMemory, NothingFailed, OnGen};
 ghost use Rattle.storage_cli.specs.Steps.Endings.{Ends};
 ghost use Rattle.storage_cli.specs.Steps.Stops.{status_of_stop, line_of_stop};
 ghost use Rattle.storage_cli.specs.Steps.Printing.{IsTextOf, IsTextStatus};
+ghost use Rattle.storage_cli.specs.Sessions.{PrintsSession};
 ghost use Rattle.storage_cli.specs.Serving.{Serves, NamesForeign, HasToVoid, IsLeftAlone, LeavesLink};
 
 use crate::format::format;
+use crate::generating::generate;
 use crate::printing::{ImageText, print_text, status_of_printed};
 use crate::serving::serve;
 use crate::status::{
@@ -28,7 +31,7 @@ use crate::status::{
     OUTPUT_FAILED, READ_FAILED, Status, TURNS_OVER, WORN,
 };
 use crate::stop::Stop;
-use crate::texts::{line_of_stop, served_line};
+use crate::texts::{line_of_stop, served_line, session_line};
 use command_line::{Command, command_of};
 use flash_traits::{Board, Sink, Source};
 use std::alloc::{AllocError, Global};
@@ -90,10 +93,11 @@ fn run_serve<B: Board, K: Sink>(
     ensures losses { IsPastAttach result.0 (B.faults board.old) (B.faults board.new)
         → (b : List ℕ) → (B.tells board.old → Stands (B.words board.old) b)
         → (o : Outcome) → B.left board.new (B.moment board.old) o
-        → Safe b o.events o.frames (length o.events - 1) o.words }
+        → Safe (budget_of (B.sector_bytes board.new)) b o.events o.frames (length o.events - 1) o.words }
     ensures serves { (result.0 ≡ DONE) ⊎ (result.0 ≡ TURNS_OVER)
-        → Serves (B.has_lists board.new) (B.tells board.new) (B.words board.old)
-        (B.words board.new) turns result.0 (Prints K.Sink out.old out.new) }
+        → Serves (budget_of (B.sector_bytes board.new)) (B.has_lists board.new)
+        (B.tells board.new) (B.words board.old) (B.words board.new) turns result.0
+        (Prints K.Sink out.old out.new) }
     ensures turns { result.0 ≡ TURNS_OVER → Prints K.Sink out.old out.new (turns_line turns) }
     ensures complete { NothingFailed (B.faults board.old) (B.faults board.new)
         (K.faults out.old) (K.faults out.new)
@@ -178,13 +182,36 @@ fn run_text<B: Board, K: Sink>(
     }
 }
 
+/// `gen`.
+fn run_gen<K: Sink>(alloc: Global, out: &mut K, rounds: u16) -> Status
+    requires { (1 ≤ rounds) × (rounds ≤ 1000) }
+    ensures known { IsGenStatus result.0 }
+    ensures no_others { (result.0 ≢ NO_COMMAND) × (result.0 ≢ FOREIGN_WORD)
+        × (result.0 ≢ READ_FAILED) × (result.0 ≢ FLASH_FAILED) × (result.0 ≢ LINK_FAILED)
+        × (result.0 ≢ TURNS_OVER) × (result.0 ≢ ATTACH_FAILED) }
+    ensures output { result.0 ≡ OUTPUT_FAILED → Rose (K.faults out.old) (K.faults out.new) }
+    ensures lines { PrintsStatus result.0 (Prints K.Sink out.old out.new) }
+    ensures cut_short { result.0 ≡ OUTPUT_FAILED → K.tells_written out.new
+        → IsCutShort Line (K.written out.old) (K.written out.new) }
+    ensures generated { result.0 ≡ DONE → PrintsSession rounds (Prints K.Sink out.old out.new) }
+{
+    match generate(alloc, rounds) {
+        Ok(summary) => {
+            let line = session_line(summary);
+            print(out, line.as_slice(), DONE)
+        }
+        Err(stop) => print_stop(out, stop),
+    }
+}
+
 /// Does what the words ask for, and prints one line or one text. The words don't include the
 /// program's name.
 ///
 /// `serve IMAGE [--port P] [--turns N]` attaches the image and serves it to up to eight ground
 /// stations, until the end comes or N events are finished; the lines that wait are then put.
 /// `format IMAGE [--sector S]` makes a fresh image. `dump IMAGE` prints what an image stands for,
-/// and `report IMAGE` how each part of any image is. None reads the input.
+/// and `report IMAGE` how each part of any image is. `gen N` runs a generated session of N rounds in
+/// memory, and asks nothing of the board. None reads the input.
 ///
 /// The words are tested first, then the attach, then the image, and then come the events. Memory is
 /// taken while the words are read and before an image is first read.
@@ -201,6 +228,7 @@ pub fn run<'a, B: Board, S: Source, K: Sink>(
     ensures no_command_where { line_of_words (texts words.entry.now) ≡ None
         → (result.0 ≡ NO_COMMAND) ⊎ (result.0 ≡ NO_MEMORY) ⊎ (result.0 ≡ OUTPUT_FAILED) }
     ensures untouched { line_of_words (texts words.entry.now) ≡ None → board.new ≡ board.old }
+    ensures gen_untouched { OnGen (texts words.entry.now) ⊤ (λ rounds. board.new ≡ board.old) }
     ensures unread { input.new ≡ input.old }
 
     // A fault is told only where the count of its kind rose.
@@ -251,8 +279,10 @@ pub fn run<'a, B: Board, S: Source, K: Sink>(
     // A guard row that is used up leaves the image spilled with every chunk copied, and it is told
     // where the image that is attached has a sector to be voided, unless memory is wanting, or a
     // call or the output fails before.
-    ensures worn { result.0 ≡ WORN → (bytes : _) × IsWorn B.Board board.new bytes }
-    ensures worn_only { result.0 ≡ WORN → HasToVoid B.Board (B.words board.old) board.new }
+    ensures worn { OnServe (texts words.entry.now) (result.0 ≡ WORN) (λ turns.
+        (bytes : _) × IsWorn B.Board board.new bytes) }
+    ensures worn_only { OnServe (texts words.entry.now) (result.0 ≡ WORN) (λ turns.
+        HasToVoid B.Board (B.words board.old) board.new) }
     ensures worn_where { OnServe (texts words.entry.now)
         (IsPastAttach result.0 (B.faults board.old) (B.faults board.new)) (λ turns.
         B.tells board.new → IsUsedUp (B.words board.old) → IsWornStatus result.0) }
@@ -266,13 +296,14 @@ pub fn run<'a, B: Board, S: Source, K: Sink>(
         IsUnasked result.0 (board.new ≡ board.old)
         ⊎ ((b : List ℕ) → (B.tells board.old → Stands (B.words board.old) b)
         → (o : Outcome) → B.left board.new (B.moment board.old) o
-        → Safe b o.events o.frames (length o.events - 1) o.words)) }
+        → Safe (budget_of (B.sector_bytes board.new)) b o.events o.frames (length o.events - 1) o.words)) }
 
     // What a serve has done that came to the end, or to the last of its turns.
     ensures serves { OnServe (texts words.entry.now)
         ((result.0 ≡ DONE) ⊎ (result.0 ≡ TURNS_OVER)) (λ turns.
-        Serves (B.has_lists board.new) (B.tells board.new) (B.words board.old) (B.words board.new)
-        turns result.0 (Prints K.Sink out.old out.new)) }
+        Serves (budget_of (B.sector_bytes board.new)) (B.has_lists board.new) (B.tells board.new)
+        (B.words board.old) (B.words board.new) turns result.0
+        (Prints K.Sink out.old out.new)) }
     ensures turns { OnServe (texts words.entry.now) (result.0 ≡ TURNS_OVER) (λ turns.
         Prints K.Sink out.old out.new (turns_line turns)) }
 
@@ -307,6 +338,11 @@ pub fn run<'a, B: Board, S: Source, K: Sink>(
     ensures only_reads { OnDumpOrReport (texts words.entry.now) ⊤
         (B.moment board.new ≡ B.moment board.old) }
 
+    // What a gen prints: the summary of its session, run from a fresh image on. There is one such
+    // session.
+    ensures generated { OnGen (texts words.entry.now) (result.0 ≡ DONE) (λ rounds.
+        PrintsSession rounds (Prints K.Sink out.old out.new)) }
+
     // Where no call failed, the words are told and the image stands, a command does all of its
     // work, unless memory is wanting; a serve may also use up its turns or the guard row.
     ensures serve_complete { OnServe (texts words.entry.now)
@@ -327,6 +363,10 @@ pub fn run<'a, B: Board, S: Source, K: Sink>(
         (NothingFailed (B.faults board.old) (B.faults board.new)
         (K.faults out.old) (K.faults out.new))
         (IsDoneUnlessMemory result.0) }
+    ensures gen_complete { OnGen (texts words.entry.now)
+        (NothingFailed (B.faults board.old) (B.faults board.new)
+        (K.faults out.old) (K.faults out.new))
+        (λ rounds. result.0 ≢ WORN → IsDoneUnlessMemory result.0) }
 {
     let _ = input;
     match command_of(alloc, words) {
@@ -338,6 +378,7 @@ pub fn run<'a, B: Board, S: Source, K: Sink>(
         Ok(Some(Command::Report { image })) => {
             run_text(alloc, board, out, image, ImageText::Report)
         }
+        Ok(Some(Command::Gen { rounds })) => run_gen(alloc, out, rounds),
         Ok(None) => print_stop(out, Stop::Words),
         Err(AllocError) => print_stop(out, Stop::Memory),
     }

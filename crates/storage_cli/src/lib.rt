@@ -4,6 +4,7 @@
 
 mod commands;
 mod format;
+mod generating;
 mod printing;
 mod serving;
 mod status;

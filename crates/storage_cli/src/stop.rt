@@ -7,6 +7,7 @@ use crate::status::{
     READ_FAILED, TURNS_OVER, WORN,
 };
 use flash_traits::{Fault, Region};
+use std::alloc::AllocError;
 use vehicle_node::NodeError;
 
 /// What a `serve` has done by its end.
@@ -16,6 +17,22 @@ pub(crate) struct Served {
     pub(crate) events: u32,
     /// The frames sent.
     pub(crate) frames: u64,
+    /// The lines issued, those of boot among them.
+    pub(crate) lines: u64,
+}
+
+/// What a generated session has come to.
+#[derive(Clone, Copy, Debug, PartialEq, Eq)]
+pub(crate) struct Summary {
+    pub(crate) rounds: u16,
+    /// The events before the end.
+    pub(crate) events: u32,
+    /// The frames sent.
+    pub(crate) frames: u64,
+    /// The lines issued, those of boot among them.
+    pub(crate) lines: u64,
+    /// The SHA-256 of the storage bytes.
+    pub(crate) digest: [u8; 32],
 }
 
 /// A halfword that no image has at its place.
@@ -62,6 +79,16 @@ impl Stop {
             Stop::Turns(_) => TURNS_OVER,
             Stop::Attach => ATTACH_FAILED,
         }
+    }
+}
+
+impl From<AllocError> for Stop {
+    ghost use Rattle.storage_cli.specs.declared.stop.Stop.TheVariants as stops;
+
+    ghost from_gives = { λ _ stop. stop ≡ stops.Memory };
+
+    fn from(_: AllocError) -> Stop {
+        Stop::Memory
     }
 }
 

@@ -1,10 +1,10 @@
 //! The lines that a call prints.
 ghost use Rattle.std.specs.Prelude.{◌≡◌, ◌≤◌, ◌+◌, length};
 ghost use Rattle.printed_text.specs.Pieces.{with_newline};
-ghost use Rattle.storage_cli.specs.Texts.{served_line, turns_line, foreign_line};
+ghost use Rattle.storage_cli.specs.Texts.{served_line, session_line, turns_line, foreign_line};
 ghost use Rattle.storage_cli.specs.Steps.Stops.{line_of_stop};
 
-use crate::stop::{Foreign, Served, Stop};
+use crate::stop::{Foreign, Served, Stop, Summary};
 use printed_text::{LINE_BYTES, Line, push, push_number, push_place, region_name};
 
 /// The line of a text.
@@ -28,6 +28,31 @@ pub(crate) fn served_line(served: Served) -> Line
     push(&mut line, b" events ");
     push_number(&mut line, served.frames);
     push(&mut line, b" frames\n");
+    line
+}
+
+/// The line of a `gen` that ran its session.
+pub(crate) fn session_line(summary: Summary) -> Line
+    ensures { result.items ≡ session_line summary.rounds summary.events summary.frames
+        summary.lines summary.digest }
+{
+    let mut digits = [0u8; 64];
+    match hex::encode_to_slice(summary.digest, &mut digits) {
+        Ok(()) => {}
+        Err(_) => unreachable!(),
+    }
+    let mut line = Line::new();
+    push(&mut line, b"gen ");
+    push_number(&mut line, summary.rounds);
+    push(&mut line, b" events ");
+    push_number(&mut line, summary.events);
+    push(&mut line, b" frames ");
+    push_number(&mut line, summary.frames);
+    push(&mut line, b" lines ");
+    push_number(&mut line, summary.lines);
+    push(&mut line, b" sha256 ");
+    push(&mut line, &digits);
+    push(&mut line, b"\n");
     line
 }
 

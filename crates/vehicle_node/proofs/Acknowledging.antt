@@ -1,5 +1,5 @@
 -- How many lines were issued before the storage acknowledgements among some answers.
-use Rattle.std.proofs.Common.{◌≡◌, ◌⊎◌, inl, inr, ℕ, zero, suc, ◌+◌, ◌≤◌, Bool, true, false, max, List, [], ◌∷◌, ◌++◌, length, map, take, refl, sym, ◌∙◌, ap, subst, arith}
+use Rattle.std.proofs.Common.{◌≡◌, ℕ, zero, suc, ◌≤◌, Bool, true, false, max, List, [], ◌∷◌, ◌++◌, map, take, refl, ◌∙◌, ap, arith}
 use Rattle.std.specs.Prelude.{IsFalse, if◌then◌else◌}
 use Rattle.vehicle_core.specs.Vehicle.{Vehicle, Content, Told, is_storage_acknowledgement}
 use Rattle.vehicle_node.specs.Frames.{Machine, Answer, Delivery, acknowledged, told_to, deliveries, deliveries_of, numbered, counted}

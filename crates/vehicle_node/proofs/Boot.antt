@@ -1,6 +1,6 @@
 -- A node opened: the lines of boot are issued and put; and closed: all pending lines are put.
 use Rattle.std.proofs.Common.{◌≡◌, ◌≢◌, inl, ℕ, ◌+◌, ◌*◌, ◌-◌, ◌^◌, ◌<◌, ◌≤◌, min, Bool, true, false, cond, List, [], ◌++◌, length, get_or, take, drop, refl, sym, ◌∙◌, ap, subst, arith, append-nil, append_assoc, Some, Result, Ok, Err}
-use Rattle.std.specs.Prelude.{◌↔◌, ⊤, OnOk, IfErr, IfSome, IsTrue, if◌then◌else◌, map, slice_get}
+use Rattle.std.specs.Prelude.{◌↔◌, ⊤, OnOk, IfErr, IfSome, IsTrue, map, slice_get}
 use Rattle.std.specs.Str.{bytes_eq}
 use Rattle.std.proofs.lemmas.Option.{slice_get-get_or}
 use Rattle.std.proofs.lemmas.Slice.Eq.{bytes_eq-Decides}

@@ -19,7 +19,7 @@ use Rattle.vehicle_node.specs.Safe.{SafeAt, Safe, SafeSince, Adds}
 use Rattle.vehicle_node.specs.Standing.{Node, StandsAt, StandsForRun, armed_in, ceiling, raised_in}
 use Rattle.vehicle_node.specs.Steps.Calls.{WornWhere}
 use Rattle.vehicle_node.specs.Steps.Answering.{Flushed, Flushing}
-use Rattle.vehicle_node.specs.Steps.Hearing.{StandsBelow, SafeInside, ActsAnswered, IsHeard, SafeHearing, ArmedHearing, HeardAll, HearDone, ActsDone, SafeTaking, SafeTaken, ArmedTaking, TakenAll, TakeDone}
+use Rattle.vehicle_node.specs.Steps.Hearing.{StandsBelow, ActsAnswered, IsHeard, SafeHearing, ArmedHearing, HeardAll, HearDone, ActsDone, SafeTaking, SafeTaken, ArmedTaking, TakenAll, TakeDone}
 use Rattle.vehicle_node.specs.Laws.{FramesAreRead, IsInRange}
 use Rattle.vehicle_node.proofs.RunLaws.{run_of_push, all_acts_floor, extends_same, extends_then, extends_more, extends_all}
 use Rattle.vehicle_node.proofs.Orders.{once_before, once_after}

@@ -1,5 +1,5 @@
 -- A node fits its board after an act: while armed there is room for all that may still be written.
-use Rattle.std.proofs.Common.{◌≡◌, ◌⊎◌, inl, inr, Bool, true, false, ℕ, ◌+◌, ◌-◌, ◌*◌, ◌≤◌, List, [], length, refl, sym, ◌∙◌, ap, subst, arith, Option, Some, None, Result, Ok, Err}
+use Rattle.std.proofs.Common.{◌≡◌, inr, Bool, true, false, ℕ, ◌+◌, ◌-◌, ◌*◌, ◌≤◌, List, [], length, refl, sym, ◌∙◌, ap, subst, arith, Option, Some, None, Result, Ok, Err}
 use Rattle.std.specs.Prelude.{⊤, OnOk, IfSome, IsTrue, is_some, ◌&&◌}
 use Rattle.std.proofs.lemmas.Bool.{and_parts}
 use Rattle.flash_traits.specs.Budget.{budget_of, line_bytes}
@@ -10,11 +10,11 @@ use Rattle.block_store.specs.Store.{Store, State, Alone, Spilled, Spent, FitsSta
 use Rattle.sector_image.specs.Images.{Bytes}
 use Rattle.block_store.specs.Store as store
 use Rattle.block_store.proofs.StoreLaws.{fits_kept as store_kept}
-use Rattle.dirty_lines.specs.Lines.{Lines, current_of}
+use Rattle.dirty_lines.specs.Lines.{current_of}
 use Rattle.vehicle_core.specs.declared.orders.Need.{Need}
 use Rattle.vehicle_core.specs.declared.orders.Need.TheVariants.{FlushAll}
 use Rattle.vehicle_core.specs.Vehicle.{Vehicle, is_armed}
-use Rattle.vehicle_core.specs.Acts.{Act, Did, SinceArming}
+use Rattle.vehicle_core.specs.Acts.{Act, SinceArming}
 use Rattle.vehicle_core.proofs.Arming.{did_counts}
 use Rattle.vehicle_node.specs.Frames.{Machine}
 use Rattle.vehicle_node.specs.Standing.{Node, HasRoomSince, Fits, IsAlone, armed_in}

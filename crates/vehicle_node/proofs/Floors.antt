@@ -1,7 +1,7 @@
 -- What an event flushes for certain: its own storage acknowledgements alone count.
-use Rattle.std.proofs.Common.{◌≡◌, ℕ, ◌+◌, ◌≤◌, min, max, List, [], ◌∷◌, ◌++◌, length, refl, sym, ◌∙◌, ap, subst, arith, length-append}
+use Rattle.std.proofs.Common.{◌≡◌, ℕ, ◌+◌, ◌≤◌, min, max, List, [], ◌∷◌, length, sym, ◌∙◌, ap, subst, arith, length-append}
 use Rattle.vehicle_core.specs.Acts.{Act}
-use Rattle.vehicle_node.specs.Frames.{Answer, acknowledged, deliveries}
+use Rattle.vehicle_node.specs.Frames.{acknowledged, deliveries}
 use Rattle.vehicle_node.specs.Runs.{Run, did_in, take_act, act_done, all_acts, event_done, start, run_from, run_of}
 use Rattle.vehicle_node.specs.Laws.{FlooredByEvent, FloorsByEvents}
 use Rattle.vehicle_node.proofs.RunLaws.{run_of_push, all_acts_floor, extends_all, answers_in}

@@ -17,7 +17,7 @@ use Rattle.vehicle_node.specs.Runs.{Run, all_acts}
 use Rattle.vehicle_node.specs.Standing.{Node, Fits, armed_in}
 use Rattle.vehicle_node.specs.Steps.Calls.{WornWhere}
 use Rattle.vehicle_node.specs.Steps.Answering.{FrameDone, ActDone}
-use Rattle.vehicle_node.specs.Steps.Hearing.{Pushed, KeepsButRests, HasRest, IsFront, StandsBelow, SafeInside, SafeIn, AnsweredAll, ActsAnswered, ActsDone, IsHeard, SafeHearing, SafeHeard, ArmedHearing, HeardAll, HearDone}
+use Rattle.vehicle_node.specs.Steps.Hearing.{Pushed, KeepsButRests, HasRest, IsFront, StandsBelow, SafeIn, AnsweredAll, ActsAnswered, ActsDone, IsHeard, SafeHearing, SafeHeard, ArmedHearing, HeardAll, HearDone}
 use Rattle.vehicle_node.proofs.Orders.{once_after}
 use Rattle.vehicle_node.proofs.At.{stands_same}
 use Rattle.vehicle_node.proofs.Readings.{rest_kept, heard_nothing, heard_more}

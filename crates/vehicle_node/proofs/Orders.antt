@@ -1,18 +1,15 @@
 -- What orders do: whether the vehicle is armed after them, what they need, and how they are acknowledged.
-use Rattle.std.proofs.Common.{◌≡◌, ◌⊎◌, ⊎_elim, inl, inr, ℕ, ◌+◌, ◌≤◌, Bool, true, false, max, List, [], ◌∷◌, ◌++◌, length, map, take, refl, sym, ◌∙◌, ap, subst, arith, Option, Some, None}
+use Rattle.std.proofs.Common.{◌≡◌, ◌⊎◌, inl, inr, ℕ, ◌+◌, Bool, true, false, List, [], ◌∷◌, ◌++◌, length, map, refl, ◌∙◌, Option, Some, None}
 use Rattle.std.specs.Prelude.{IsTrue, IsFalse, if◌then◌else◌, is_some}
 use Rattle.std.specs.Option.{option_map, option_map_or}
-use Rattle.storage_lines.specs.declared.lines.LineWrite.{LineWrite}
 use Rattle.param_service.specs.Service.{Shown, streamed}
 use Rattle.mission_service.specs.Service as missions
-use Rattle.vehicle_core.specs.declared.orders.Need.{Need}
 use Rattle.vehicle_core.specs.declared.orders.Need.TheVariants.{Nothing, FlushAll}
 use Rattle.vehicle_core.specs.declared.orders.Order.{Order}
 use Rattle.vehicle_core.specs.declared.orders.Order.TheVariants.{Flush, Arm, Disarm, Deny, Refuse}
 use Rattle.vehicle_core.specs.Orders.{armed_after, need_of}
-use Rattle.vehicle_core.specs.Vehicle.{Vehicle, Content, Asked, Parameters, Missions, Orders, Told, tells_value, tells_of_missions, is_heard, is_armed, hears, is_storage_acknowledgement}
+use Rattle.vehicle_core.specs.Vehicle.{Vehicle, Asked, Parameters, Missions, Orders, Told, tells_value, tells_of_missions, is_heard, is_armed, hears, is_storage_acknowledgement}
 use Rattle.vehicle_core.specs.Acts.{Act, Said, Beat, Stream, Did, did, nothing, by_parameters, beaten, asked_of, lines_counted}
-use Rattle.vehicle_node.specs.Frames.{Machine, Answer, Delivery, acknowledged, told_to, deliveries, deliveries_of, numbered, counted}
 use Rattle.vehicle_node.specs.Arming.{order_asked, need_in, armed_by, is_armed_after, is_armed_after_all, IsArmedThroughout, IsArmedOnce, NoneFlushes, OrdersDecide}
 
 some_map : (f : ℕ → ℕ) (armed : Option ℕ) → is_some (option_map f armed) ≡ is_some armed

@@ -36,7 +36,10 @@ mod opening;
 use crate::opening::{booted, error_of};
 use dirty_lines::{DirtyLines, PENDING_LINES};
 use flash_traits::{Board, Event, Fault, Region, budget};
-pub use laws::{boot_formats, events_are_read, events_are_read_once, floors_by_events, frames_are_read, orders_decide};
+pub use laws::{
+    boot_formats, events_are_read, events_are_read_once, floors_by_events, frames_are_read,
+    orders_decide,
+};
 use mav_frames::Cutter;
 use std::alloc::Global;
 use std::marker::Model;

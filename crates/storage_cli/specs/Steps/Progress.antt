@@ -1,5 +1,5 @@
 -- How far a serve has come: what was received and sent, and what a loss of power leaves of it.
-use Rattle.std.specs.Prelude.{◌≡◌, ℕ, ◌+◌, ◌-◌, List, ◌++◌, length, Option, Some, None, Result, Ok, Err}
+use Rattle.std.specs.Prelude.{◌≡◌, ℕ, ◌+◌, ◌-◌, List, [], ◌∷◌, ◌++◌, length, Option, Some, None, Result, Ok, Err}
 use Rattle.flash_traits.specs.declared.board.Board.{Ghosts}
 use Rattle.flash_traits.specs.Words.{Words}
 use Rattle.flash_traits.specs.Losses.{Received, SentFrame, Outcome}
@@ -7,21 +7,27 @@ use Rattle.flash_traits.specs.Calls.{Passes}
 use Rattle.sector_image.specs.Stands.{Stands}
 use Rattle.vehicle_node.specs.Safe.{Safe, SafeSince, Adds}
 use Rattle.flash_traits.specs.Counts.{counts}
-use Rattle.vehicle_node.specs.Standing.{Node, StandsForRun}
+use Rattle.vehicle_core.specs.Acts.{Act}
+use Rattle.vehicle_node.specs.Arming.{IsArmedOnce}
+use Rattle.vehicle_node.specs.Reading.{Reads}
+use Rattle.vehicle_node.specs.Standing.{Node, StandsForRun, armed_in}
 use Rattle.storage_cli.specs.declared.stop.Served.{Served}
 use Rattle.storage_cli.specs.declared.stop.Stop.{Stop}
 use Rattle.storage_cli.specs.declared.stop.Stop.TheVariants as stop
-use Rattle.storage_cli.specs.Serving.{HasNoEnd, EndsOnce, IsWhole}
+use Rattle.session_boards.specs.Session.{HasNoEnd, EndsOnce}
+use Rattle.vehicle_node.specs.Runs.{Run, run_of}
+use Rattle.storage_cli.specs.Serving.{IsWhole, is_armed_after_events}
 
 -- what has been added since an outcome is safe, with all events finished or all but one
-pub record IsSafe (b : List ℕ) (events : List Received) (frames : List SentFrame)
+pub record IsSafe (budget : ℕ) (b : List ℕ) (events : List Received) (frames : List SentFrame)
     (from o : Outcome) : Type 0 where
   pub finished : ℕ
-  pub since : SafeSince b events frames finished from o
+  pub since : SafeSince budget b events frames finished from o
 
 -- Events were received and finished, and frames were sent: whatever run the node stood for, it
--- stands for the run with these, and each loss inside is safe.
-pub record Progress {B : Type 0} (g : Ghosts B) (old : Node) (board : B) (new : Node)
+-- stands for the run with these, each loss inside is safe, and the acts say whether the vehicle is
+-- armed.
+pub record Progress {B : Type 0} (g : Ghosts B) (budget : ℕ) (old : Node) (board : B) (new : Node)
     (after_board : B) (events : List Received) (frames : List SentFrame) : Type 0 where
   pub told : g.tells after_board → g.tells board
   pub lists : (e : List Received) (f : List SentFrame) → g.has_lists board e f
@@ -31,7 +37,10 @@ pub record Progress {B : Type 0} (g : Ghosts B) (old : Node) (board : B) (new : 
       → StandsForRun new b (e ++ events) (f ++ frames) (m + length events)
   pub losses : (b : List ℕ) (e : List Received) (f : List SentFrame) (m : ℕ)
       → (g.tells board → StandsForRun old b e f m)
-      → Passes g board after_board (IsSafe b e f) (Adds events frames)
+      → Passes g board after_board (IsSafe budget b e f) (Adds events frames)
+  pub acts : List (List Act)
+  pub reads : Reads old.rests events acts new.rests
+  pub armed : armed_in new ≡ is_armed_after_events (armed_in old) acts
 
 -- how many events came before the end, where it came within so many turns
 abbrev pub EndsSo : Option ℕ → ℕ → List Received → Type 0
@@ -39,11 +48,11 @@ EndsSo (Some count) turns events = EndsOnce events × (count ≡ length events -
 EndsSo None turns events = HasNoEnd events × (length events ≡ turns)
 
 -- the events that were finished within so many turns
-pub record Finishes {B : Type 0} (g : Ghosts B) (old : Node) (board : B) (new : Node)
+pub record Finishes {B : Type 0} (g : Ghosts B) (budget : ℕ) (old : Node) (board : B) (new : Node)
     (after_board : B) (turns : ℕ) (end : Option ℕ) : Type 0 where
   pub events : List Received
   pub frames : List SentFrame
-  pub progress : Progress g old board new after_board events frames
+  pub progress : Progress g budget old board new after_board events frames
   pub ends : EndsSo end turns events
 
 -- the events of a serve of so many turns that was not cut off
@@ -57,18 +66,42 @@ abbrev pub CountsFrames : Result Served Stop → List SentFrame → Type 0
 CountsFrames (Ok served) frames = served.frames ≡ counts (length frames)
 CountsFrames (Err _) frames = Unit {0}
 
+-- the number of lines that a serve tells
+abbrev pub CountsLines : Result Served Stop → Run → Type 0
+CountsLines (Ok served) r = served.lines ≡ counts (length r.issued)
+CountsLines (Err _) r = Unit {0}
+
+-- the whole run, whose lines are counted
+pub record IsCounted (budget : ℕ) (result : Result Served Stop) (b : List ℕ)
+    (events : List Received) (frames : List SentFrame) (words : Words) : Type 0 where
+  pub whole : IsWhole budget b events frames words
+  pub lines : CountsLines result (run_of budget b whole.acts)
+
 -- How a serve that was not cut off has left the board, from these words; `begun` says that the
 -- lists were empty at its start.
-pub record Completes {B : Type 0} (g : Ghosts B) (before : Words) (begun : Type 0) (board : B)
+pub record Completes {B : Type 0} (g : Ghosts B) (budget : ℕ) (before : Words) (begun : Type 0) (board : B)
     (turns : ℕ) (result : Result Served Stop) : Type 0 where
   pub events : List Received
   pub frames : List SentFrame
   pub lists : begun → g.has_lists board events frames
   pub ends : EndsBy result turns events
   pub whole : g.tells board → (b : List ℕ) → Stands before b
-      → IsWhole b events frames (g.words board)
+      → IsCounted budget result b events frames (g.words board)
   pub counted : g.tells board → CountsFrames result frames
 
+-- An event was received after some that were finished, in which the vehicle was armed, at its start
+-- or after one of its acts.
+pub record WasArmedSince {B : Type 0} (g : Ghosts B) (old : Node) (board after_board : B)
+    : Type 0 where
+  pub events : List Received
+  pub lists : (e : List Received) (f : List SentFrame) → g.has_lists board e f
+      → (sent : List SentFrame) × g.has_lists after_board (e ++ events) (f ++ sent)
+  pub acts : List (List Act)
+  pub last : List Act
+  pub rests : List (List ℕ)
+  pub reads : Reads old.rests events (acts ++ last ∷ []) rests
+  pub armed : IsArmedOnce (is_armed_after_events (armed_in old) acts) last
+
 -- what a loss leaves of a serve
-abbrev pub IsSafeRun : List ℕ → Outcome → Type 0
-IsSafeRun b o = Safe b o.events o.frames (length o.events - 1) o.words
+abbrev pub IsSafeRun : ℕ → List ℕ → Outcome → Type 0
+IsSafeRun budget b o = Safe budget b o.events o.frames (length o.events - 1) o.words

@@ -142,8 +142,10 @@ impl Node {
         requires few { length batch.now.items ≤ BATCH_LINES }
         requires room { length self.old.lines.pending ≤ ROOM_FROM }
         ensures issued { self.new
-            ≡ record self.old { lines = lines_of self.old.lines.store
-            (self.old.lines.pending ++ batch.now.items) } }
+            ≡ record self.old {
+              lines = lines_of self.old.lines.store
+                  (self.old.lines.pending ++ batch.now.items);
+            } }
     {
         match self.lines.issue(batch) {
             Ok(()) => {}

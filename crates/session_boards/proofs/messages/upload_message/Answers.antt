@@ -1,4 +1,4 @@
-use Rattle.std.proofs.Common.{rules, ◌≡◌, ◌≢◌, ◌≤◌, ◌+◌, ◌-◌, ℕ, pos, w32, ◌∙◌, arith, ap}
+use Rattle.std.proofs.Common.{rules, ◌+◌, ◌-◌, ℕ, pos, w32, ◌∙◌, arith, ap}
 use Rattle.std.specs.Int.RustNames.{FitsSigned}
 use Rattle.std.proofs.lemmas.Int.{to_z-of_z}
 use Rattle.session_boards.specs.Session.{Gives}

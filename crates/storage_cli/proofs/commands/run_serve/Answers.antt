@@ -1,4 +1,5 @@
 use Rattle.std.proofs.Common.{◌≡◌, ◌∙◌, ap, sym, subst, refl, arith, ℕ, List, ◌++◌}
+use Rattle.flash_traits.specs.Budget.{budget_of}
 use Rattle.storage_cli.specs.declared.stop.Served.{Served}
 use Rattle.storage_cli.specs.Texts.{Line}
 use Rattle.storage_cli.specs.Texts as texts
@@ -34,7 +35,7 @@ returns-in-Ok-clause-cut_short g c = λ failed told.
 
 pub returns-in-Ok-clause-serves : goal.returns-in-Ok-clause-serves
 returns-in-Ok-clause-serves g c = λ over.
-    serves_done g.B.Board c.serve.new.board (g.B.Board.words c.args.board.now) c.args.turns c.print.result.0 _ c.in-Ok.served c.print.ensures.status (c.in-Ok.ensures.completes tt)
+    serves_done g.B.Board (budget_of (g.B.Board.sector_bytes c.serve.new.board)) c.serve.new.board (g.B.Board.words c.args.board.now) c.args.turns c.print.result.0 _ c.in-Ok.served c.print.ensures.status (c.in-Ok.ensures.completes tt)
     (λ whole told. c.print.ensures.line whole told ∙ ap (λ (l : List ℕ). g.K.Sink.written c.args.out.now ++ l) (c.as_slice.ensures.value ∙ c.served_line-line.ensures))
 
 pub returns-in-Ok-clause-worn_only : goal.returns-in-Ok-clause-worn_only
@@ -93,11 +94,11 @@ returns-in-Err-clause-left_alone g c = λ past.
 
 pub returns-in-Err-clause-serves : goal.returns-in-Err-clause-serves
 returns-in-Err-clause-serves g c = λ over.
-    serves_stopped g.B.Board c.serve.new.board (g.B.Board.words c.args.board.now) c.args.turns c.print_stop.result.0 _ c.in-Err.stop c.print_stop.ensures.status c.in-Err.ensures.completes over
+    serves_stopped g.B.Board (budget_of (g.B.Board.sector_bytes c.serve.new.board)) c.serve.new.board (g.B.Board.words c.args.board.now) c.args.turns c.print_stop.result.0 _ c.in-Err.stop c.print_stop.ensures.status c.in-Err.ensures.completes over
 
 pub returns-in-Err-clause-turns : goal.returns-in-Err-clause-turns
 returns-in-Err-clause-turns g c =
-    turns_printed g.B.Board c.serve.new.board (g.B.Board.words c.args.board.now) c.args.turns c.print_stop.result.0
+    turns_printed g.B.Board (budget_of (g.B.Board.sector_bytes c.serve.new.board)) c.serve.new.board (g.B.Board.words c.args.board.now) c.args.turns c.print_stop.result.0
     (λ line. g.K.Sink.tells_written c.print_stop.new.out → g.K.Sink.written c.print_stop.new.out ≡ g.K.Sink.written c.args.out.now ++ line) c.in-Err.stop c.print_stop.ensures.status c.in-Err.ensures.completes c.print_stop.ensures.line
 
 pub returns-in-Err-clause-complete : goal.returns-in-Err-clause-complete

@@ -1,8 +1,10 @@
-use Rattle.std.proofs.Common.{◌∙◌, sym, subst}
+use Rattle.std.proofs.Common.{◌∙◌, sym, subst, ℕ, []}
+use Rattle.flash_traits.specs.Budget.{budget_of}
 use Rattle.flash_traits.specs.Words.{Words}
 use Rattle.sector_image.specs.FirstBad.{FirstBad}
 use Rattle.sector_image.specs.Stands.{Stands}
 use Rattle.storage_cli.specs.Serving.{HasToVoid}
+use Rattle.storage_cli.specs.Steps.Progress.{IsSafeRun, Completes}
 use Rattle.storage_cli.proofs.Causes.{void_from, worn_in, foreign_in}
 use Rattle.storage_cli.proofs.Formatting.{on_ok_part}
 use Rattle.storage_cli.proofs.Serves.{safe_run, completes_attached}
@@ -13,15 +15,18 @@ returns-clause-losses g c = λ attached b stands o left.
     let a = c.attach.ensures in
     let ok = sym c.is_err.ensures.value ∙ c.if-is_err.false in
     let begins = λ (t : g.B.Board.tells c.attach.new.self). subst (λ (w : Words). Stands w b) (sym (on_ok_part c.attach.result _ ok a.words t)) (stands (a.told t)) in
-    safe_run g.B.Board g.met.B.Board.reads g.met.B.Board.only_now c.args.board.now c.attach.new.self c.serve_image.new.board b a.moment (on_ok_part c.attach.result _ ok a.starts) begins
-    (c.serve_image.ensures.losses b begins) o left
+    let safe = safe_run g.B.Board g.met.B.Board.reads g.met.B.Board.only_now c.args.board.now c.attach.new.self c.serve_image.new.board (budget_of (g.B.Board.sector_bytes c.attach.new.self)) b a.moment (on_ok_part c.attach.result _ ok a.starts) begins
+    (c.serve_image.ensures.losses b begins) o left in
+    subst (λ (n : ℕ). IsSafeRun (budget_of n) b o) (sym c.serve_image.ensures.geometry) safe
 
 pub returns-clause-completes : goal.returns-clause-completes
 returns-clause-completes g c = λ done.
     let a = c.attach.ensures in
     let ok = sym c.is_err.ensures.value ∙ c.if-is_err.false in
-    completes_attached g.B.Board c.attach.new.self c.serve_image.new.board (g.B.Board.words c.args.board.now) c.args.turns c.serve_image.result
-    (λ t. on_ok_part c.attach.result _ ok a.words (c.serve_image.ensures.told t)) (on_ok_part c.attach.result _ ok a.lists) (c.serve_image.ensures.completes done)
+    let budget = budget_of (g.B.Board.sector_bytes c.serve_image.new.board) in
+    completes_attached g.B.Board budget c.attach.new.self c.serve_image.new.board (g.B.Board.words c.args.board.now) c.args.turns c.serve_image.result
+    (λ t. on_ok_part c.attach.result _ ok a.words (c.serve_image.ensures.told t)) (on_ok_part c.attach.result _ ok a.lists)
+    (subst (λ (n : ℕ). Completes g.B.Board (budget_of n) (g.B.Board.words c.attach.new.self) (g.B.Board.has_lists c.attach.new.self [] []) c.serve_image.new.board c.args.turns c.serve_image.result) (sym c.serve_image.ensures.geometry) (c.serve_image.ensures.completes done))
 
 pub returns-clause-foreign_where : goal.returns-clause-foreign_where
 returns-clause-foreign_where g c = λ told place bad.
@@ -35,8 +40,9 @@ returns-clause-worn_only g c =
     let words = g.B.Board.words c.attach.new.self in
     let before = g.B.Board.words c.args.board.now in
     let same = λ (t : g.B.Board.tells c.serve_image.new.board). on_ok_part c.attach.result _ ok c.attach.ensures.words (c.serve_image.ensures.told t) in
-    worn_in c.serve_image.result (HasToVoid g.B.Board words c.serve_image.new.board) (HasToVoid g.B.Board before c.serve_image.new.board)
-    (void_from g.B.Board words before c.serve_image.new.board same) c.serve_image.ensures.worn_only
+    let begun = on_ok_part c.attach.result _ ok c.attach.ensures.lists in
+    worn_in c.serve_image.result (g.B.Board.has_lists c.attach.new.self [] [] → HasToVoid g.B.Board words c.serve_image.new.board) (HasToVoid g.B.Board before c.serve_image.new.board)
+    (λ void. void_from g.B.Board words before c.serve_image.new.board same (void begun)) c.serve_image.ensures.worn_only
 
 pub returns-clause-foreign_idle : goal.returns-clause-foreign_idle
 returns-clause-foreign_idle g c =

@@ -1,15 +1,19 @@
-use Rattle.std.proofs.Common.{◌≤◌, arith, inr, refl, subst, ◌+◌, [], length, Result}
+use Rattle.std.proofs.Common.{◌≡◌, ◌≤◌, ◌∙◌, ap, arith, inl, inr, refl, subst, ◌+◌, [], length, ℕ, Result}
+use Rattle.flash_traits.specs.Budget.{budget_of}
+use Rattle.flash_traits.specs.Calls.{Passes}
 use Rattle.flash_traits.specs.declared.board.Fault.{Fault}
 use Rattle.storage_cli.specs.declared.stop.Served.{Served}
 use Rattle.storage_cli.specs.declared.stop.Stop.{Stop}
 use Rattle.storage_cli.specs.Serving.{HasToVoid}
+use Rattle.storage_cli.specs.Steps.Progress.{IsSafe}
 use Rattle.storage_cli.specs.Steps.Stops.{stop_of, IsFirst, IsServeStop, IsDone, OnForeign, OnMemory, OnWorn, StopsEarly, StopsWorn}
 use Rattle.storage_cli.proofs.Causes.{never_both, is_first, opens_early, opens_worn, not_done, on_stop, on_result, caused, node_cause, cause_later, event_stop, serve_event, serve_stop, event_memory, event_first, event_foreign, memory_stop, foreign_stop, worn_stop, worn_map, stopped_by}
-use Rattle.storage_cli.proofs.Serves.{open_lost, open_then, open_closed, completes_end, completes_turns}
+use Rattle.storage_cli.proofs.Serves.{open_lost, open_then, open_closed, completes_end, completes_turns, finished_at, void_opened, void_served}
+use Rattle.storage_cli.proofs.Calls.{losses_at}
 use Rattle.storage_cli.proofs.serving.serve_image.Goals as goal
 
 pub returns-in_err-node-clause-losses : goal.returns-in_err-node-clause-losses
-returns-in_err-node-clause-losses g c = λ b stands. open_lost g.B.Board b c.args.board.now c.open.new.board (c.in_err-node.ensures.losses b stands)
+returns-in_err-node-clause-losses g c = λ b stands. open_lost g.B.Board (budget_of (g.B.Board.sector_bytes c.args.board.now)) b c.args.board.now c.open.new.board (c.in_err-node.ensures.losses b stands)
 
 pub returns-in_err-node-clause-foreign : goal.returns-in_err-node-clause-foreign
 returns-in_err-node-clause-foreign g c = λ told.
@@ -36,8 +40,8 @@ returns-in_err-node-clause-worn g c =
 pub returns-in_err-node-clause-worn_only : goal.returns-in_err-node-clause-worn_only
 returns-in_err-node-clause-worn_only g c =
     on_stop c.from_residual.result (stop_of c.in_err-node.field-0.0) c.from_residual.ensures.1
-    (λ why. OnWorn why (HasToVoid g.B.Board (g.B.Board.words c.args.board.now) c.open.new.board))
-    (worn_stop c.in_err-node.field-0.0 _ _ (λ count void. void) c.in_err-node.ensures.worn_where)
+    (λ why. OnWorn why (g.B.Board.has_lists c.args.board.now [] [] → HasToVoid g.B.Board (g.B.Board.words c.args.board.now) c.open.new.board))
+    (worn_stop c.in_err-node.field-0.0 _ _ (λ count void begun. void_opened g.B.Board (g.B.Board.words c.args.board.now) c.open.new.board void) c.in_err-node.ensures.worn_where)
 
 pub returns-in_err-node-clause-foreign_idle : goal.returns-in_err-node-clause-foreign_idle
 returns-in_err-node-clause-foreign_idle g c =
@@ -60,8 +64,10 @@ returns-in_err-node-clause-cause g c =
 pub returns-in_err-end-clause-losses : goal.returns-in_err-end-clause-losses
 returns-in_err-end-clause-losses g c = λ b stands.
     let o = c.in_ok-node.ensures in
-    open_then g.B.Board b c.args.board.now c.open.new.board (o.losses b stands) o.here c.serve_events.new.board
-    (c.in_err-end.ensures.losses b [] [] 0 (λ t. o.stands t b (stands (o.told t))))
+    let budget = budget_of (g.B.Board.sector_bytes c.args.board.now) in
+    let same : c.in_ok-node.node.budget ≡ budget = o.fits.budget ∙ ap budget_of o.geometry in
+    open_then g.B.Board budget b c.args.board.now c.open.new.board (o.losses b stands) o.here c.serve_events.new.board
+    (subst (λ (n : ℕ). Passes g.B.Board c.open.new.board c.serve_events.new.board (IsSafe n b [] []) (IsSafe n b [] [])) same (c.in_err-end.ensures.losses b [] [] 0 (λ t. o.stands t b (stands (o.told t)))))
 
 pub returns-in_err-end-clause-completes : goal.returns-in_err-end-clause-completes
 returns-in_err-end-clause-completes g c = λ done.
@@ -77,9 +83,11 @@ returns-in_err-end-clause-worn g c = on_stop c.from_residual-in_err-end.result c
 
 pub returns-in_err-end-clause-worn_only : goal.returns-in_err-end-clause-worn_only
 returns-in_err-end-clause-worn_only g c =
+    let o = c.in_ok-node.ensures in
     on_stop c.from_residual-in_err-end.result c.in_err-end.field-0.0 c.from_residual-in_err-end.ensures.1
-    (λ why. OnWorn why (HasToVoid g.B.Board (g.B.Board.words c.args.board.now) c.serve_events.new.board))
-    (worn_map c.in_err-end.field-0.0 _ _ (λ next. inr next) (c.in_err-end.ensures.worn_next c.in_ok-node.ensures.alone))
+    (λ why. OnWorn why (g.B.Board.has_lists c.args.board.now [] [] → HasToVoid g.B.Board (g.B.Board.words c.args.board.now) c.serve_events.new.board))
+    (worn_map c.in_err-end.field-0.0 _ _ (λ next begun. void_served g.B.Board (g.B.Board.words c.args.board.now) c.in_ok-node.node c.open.new.board c.serve_events.new.board c.in_err-end.ensures.told o.not_foreign o.stands (o.lists [] [] begun) o.unarmed next)
+    (c.in_err-end.ensures.worn_next o.alone))
 
 pub returns-in_err-end-clause-worn_where : goal.returns-in_err-end-clause-worn_where
 returns-in_err-end-clause-worn_where g c = λ told used.
@@ -113,10 +121,12 @@ returns-in_err-end-clause-foreign_where g c = λ told place bad.
 pub returns-in_err-close-clause-losses : goal.returns-in_err-close-clause-losses
 returns-in_err-close-clause-losses g c = λ b stands.
     let o = c.in_ok-node.ensures in
-    let p = c.in_ok-end.ensures.finished in
+    let budget = budget_of (g.B.Board.sector_bytes c.args.board.now) in
+    let same : c.in_ok-node.node.budget ≡ budget = o.fits.budget ∙ ap budget_of o.geometry in
+    let p = finished_at g.B.Board c.in_ok-node.node.budget budget same c.in_ok-node.node c.open.new.board c.serve_events.new.node c.serve_events.new.board c.args.turns c.in_ok-end.end c.in_ok-end.ensures.finished in
     let begins = λ (t : g.B.Board.tells c.open.new.board). o.stands t b (stands (o.told t)) in
-    open_closed g.B.Board b c.args.board.now c.open.new.board (o.losses b stands) o.here c.serve_events.new.board c.close.new.board p.events p.frames (0 + length p.events)
-    (p.progress.losses b [] [] 0 begins) (c.close.ensures.losses b p.events p.frames (0 + length p.events) (λ t. p.progress.stands b [] [] 0 (begins (p.progress.told t))))
+    open_closed g.B.Board budget b c.args.board.now c.open.new.board (o.losses b stands) o.here c.serve_events.new.board c.close.new.board p.events p.frames (0 + length p.events)
+    (p.progress.losses b [] [] 0 begins) (losses_at g.B.Board budget c.serve_events.new.node.budget (c.in_ok-end.ensures.budget ∙ same) c.serve_events.new.node c.serve_events.new.board c.close.new.board (λ k. k) c.close.ensures.losses b p.events p.frames (0 + length p.events) (λ t. p.progress.stands b [] [] 0 (begins (p.progress.told t))))
 
 pub returns-in_err-close-clause-completes : goal.returns-in_err-close-clause-completes
 returns-in_err-close-clause-completes g c = λ done.
@@ -135,8 +145,8 @@ returns-in_err-close-clause-worn g c =
 pub returns-in_err-close-clause-worn_only : goal.returns-in_err-close-clause-worn_only
 returns-in_err-close-clause-worn_only g c =
     on_stop c.from_residual-in_err-close.result (stop_of c.in_err-close.field-0.0) c.from_residual-in_err-close.ensures.1
-    (λ why. OnWorn why (HasToVoid g.B.Board (g.B.Board.words c.args.board.now) c.close.new.board))
-    (worn_stop c.in_err-close.field-0.0 _ _ (λ count next. inr (next (c.in_ok-end.ensures.alone c.in_ok-node.ensures.alone))) c.in_err-close.ensures.worn_next)
+    (λ why. OnWorn why (g.B.Board.has_lists c.args.board.now [] [] → HasToVoid g.B.Board (g.B.Board.words c.args.board.now) c.close.new.board))
+    (worn_stop c.in_err-close.field-0.0 _ _ (λ count next begun. inr (inl (next (c.in_ok-end.ensures.alone c.in_ok-node.ensures.alone)))) c.in_err-close.ensures.worn_next)
 
 pub returns-in_err-close-clause-worn_where : goal.returns-in_err-close-clause-worn_where
 returns-in_err-close-clause-worn_where g c = λ told used.
@@ -170,17 +180,22 @@ returns-in_err-close-clause-foreign_where g c = λ told place bad.
 pub returns-in-Some-clause-losses : goal.returns-in-Some-clause-losses
 returns-in-Some-clause-losses g c = λ b stands.
     let o = c.in_ok-node.ensures in
-    let p = c.in_ok-end.ensures.finished in
+    let budget = budget_of (g.B.Board.sector_bytes c.args.board.now) in
+    let same : c.in_ok-node.node.budget ≡ budget = o.fits.budget ∙ ap budget_of o.geometry in
+    let p = finished_at g.B.Board c.in_ok-node.node.budget budget same c.in_ok-node.node c.open.new.board c.serve_events.new.node c.serve_events.new.board c.args.turns c.in_ok-end.end c.in_ok-end.ensures.finished in
     let begins = λ (t : g.B.Board.tells c.open.new.board). o.stands t b (stands (o.told t)) in
-    open_closed g.B.Board b c.args.board.now c.open.new.board (o.losses b stands) o.here c.serve_events.new.board c.close.new.board p.events p.frames (0 + length p.events)
-    (p.progress.losses b [] [] 0 begins) (c.close.ensures.losses b p.events p.frames (0 + length p.events) (λ t. p.progress.stands b [] [] 0 (begins (p.progress.told t))))
+    open_closed g.B.Board budget b c.args.board.now c.open.new.board (o.losses b stands) o.here c.serve_events.new.board c.close.new.board p.events p.frames (0 + length p.events)
+    (p.progress.losses b [] [] 0 begins) (losses_at g.B.Board budget c.serve_events.new.node.budget (c.in_ok-end.ensures.budget ∙ same) c.serve_events.new.node c.serve_events.new.board c.close.new.board (λ k. k) c.close.ensures.losses b p.events p.frames (0 + length p.events) (λ t. p.progress.stands b [] [] 0 (begins (p.progress.told t))))
 
 pub returns-in-Some-clause-completes : goal.returns-in-Some-clause-completes
 returns-in-Some-clause-completes g c = λ _.
     let o = c.in_ok-node.ensures in
-    completes_end g.B.Board c.args.board.now c.open.new.board c.serve_events.new.board c.close.new.board c.in_ok-node.node c.serve_events.new.node c.args.turns
-    c.in_ok-close.ensures.told o.lists o.stands o.not_foreign c.in_ok-close.ensures.lists c.in_ok-close.ensures.done c.in_ok-end.end c.in_ok-end.ensures.finished
-    c.in-Some.events c.frames-frames.result c.in-Some.is c.frames-frames.ensures
+    let budget = budget_of (g.B.Board.sector_bytes c.args.board.now) in
+    let same : c.in_ok-node.node.budget ≡ budget = o.fits.budget ∙ ap budget_of o.geometry in
+    completes_end g.B.Board budget c.args.board.now c.open.new.board c.serve_events.new.board c.close.new.board c.in_ok-node.node c.serve_events.new.node c.args.turns (c.in_ok-end.ensures.budget ∙ same)
+    c.in_ok-close.ensures.told o.lists o.stands o.not_foreign c.in_ok-close.ensures.lists c.in_ok-close.ensures.done c.in_ok-end.end
+    (finished_at g.B.Board c.in_ok-node.node.budget budget same c.in_ok-node.node c.open.new.board c.serve_events.new.node c.serve_events.new.board c.args.turns c.in_ok-end.end c.in_ok-end.ensures.finished)
+    c.in-Some.events c.frames-frames.result c.issued-lines.result c.in-Some.is c.frames-frames.ensures c.issued-lines.ensures
 
 pub returns-in-Some-clause-foreign_where : goal.returns-in-Some-clause-foreign_where
 returns-in-Some-clause-foreign_where g c = λ told place bad.
@@ -189,16 +204,21 @@ returns-in-Some-clause-foreign_where g c = λ told place bad.
 pub returns-in-None-clause-losses : goal.returns-in-None-clause-losses
 returns-in-None-clause-losses g c = λ b stands.
     let o = c.in_ok-node.ensures in
-    let p = c.in_ok-end.ensures.finished in
+    let budget = budget_of (g.B.Board.sector_bytes c.args.board.now) in
+    let same : c.in_ok-node.node.budget ≡ budget = o.fits.budget ∙ ap budget_of o.geometry in
+    let p = finished_at g.B.Board c.in_ok-node.node.budget budget same c.in_ok-node.node c.open.new.board c.serve_events.new.node c.serve_events.new.board c.args.turns c.in_ok-end.end c.in_ok-end.ensures.finished in
     let begins = λ (t : g.B.Board.tells c.open.new.board). o.stands t b (stands (o.told t)) in
-    open_closed g.B.Board b c.args.board.now c.open.new.board (o.losses b stands) o.here c.serve_events.new.board c.close.new.board p.events p.frames (0 + length p.events)
-    (p.progress.losses b [] [] 0 begins) (c.close.ensures.losses b p.events p.frames (0 + length p.events) (λ t. p.progress.stands b [] [] 0 (begins (p.progress.told t))))
+    open_closed g.B.Board budget b c.args.board.now c.open.new.board (o.losses b stands) o.here c.serve_events.new.board c.close.new.board p.events p.frames (0 + length p.events)
+    (p.progress.losses b [] [] 0 begins) (losses_at g.B.Board budget c.serve_events.new.node.budget (c.in_ok-end.ensures.budget ∙ same) c.serve_events.new.node c.serve_events.new.board c.close.new.board (λ k. k) c.close.ensures.losses b p.events p.frames (0 + length p.events) (λ t. p.progress.stands b [] [] 0 (begins (p.progress.told t))))
 
 pub returns-in-None-clause-completes : goal.returns-in-None-clause-completes
 returns-in-None-clause-completes g c = λ _.
     let o = c.in_ok-node.ensures in
-    completes_turns g.B.Board c.args.board.now c.open.new.board c.serve_events.new.board c.close.new.board c.in_ok-node.node c.serve_events.new.node c.args.turns
-    c.in_ok-close.ensures.told o.lists o.stands o.not_foreign c.in_ok-close.ensures.lists c.in_ok-close.ensures.done c.in_ok-end.end c.in_ok-end.ensures.finished
+    let budget = budget_of (g.B.Board.sector_bytes c.args.board.now) in
+    let same : c.in_ok-node.node.budget ≡ budget = o.fits.budget ∙ ap budget_of o.geometry in
+    completes_turns g.B.Board budget c.args.board.now c.open.new.board c.serve_events.new.board c.close.new.board c.in_ok-node.node c.serve_events.new.node c.args.turns (c.in_ok-end.ensures.budget ∙ same)
+    c.in_ok-close.ensures.told o.lists o.stands o.not_foreign c.in_ok-close.ensures.lists c.in_ok-close.ensures.done c.in_ok-end.end
+    (finished_at g.B.Board c.in_ok-node.node.budget budget same c.in_ok-node.node c.open.new.board c.serve_events.new.node c.serve_events.new.board c.args.turns c.in_ok-end.end c.in_ok-end.ensures.finished)
     c.in-None.is
 
 pub returns-in-None-clause-foreign_where : goal.returns-in-None-clause-foreign_where

@@ -1,4 +1,4 @@
-use Rattle.std.proofs.Common.{◌≡◌, ◌+◌, length, ◌∙◌, ap, sym, subst, arith, ℕ, Ok}
+use Rattle.std.proofs.Common.{◌≡◌, ◌+◌, length, ◌∙◌, ap, sym, subst, arith, Ok}
 use Rattle.vehicle_core.specs.Vehicle.{Vehicle}
 use Rattle.dirty_lines.specs.Lines.{Lines}
 use Rattle.block_store.specs.Store as store

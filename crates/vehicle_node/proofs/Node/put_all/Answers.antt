@@ -1,4 +1,3 @@
-use Rattle.std.proofs.Common.{length}
 use Rattle.vehicle_node.specs.Steps.Calls.{OfFlash}
 use Rattle.vehicle_node.proofs.Keeping.{keeps_then}
 use Rattle.vehicle_node.proofs.Putting.{settle_short, settle_armed, settle_unarmed}

@@ -1,0 +1,60 @@
+-- A fresh image stands for zeros.
+use Rattle.std.proofs.Common.{◌≡◌, ℕ, zero, suc, ◌<◌, List, [], ◌∷◌, length, replicate, slice_set, refl, sym, ◌∙◌, ap, arith, get_or, rules}
+use Rattle.std.specs.List.{All}
+use Rattle.std.proofs.lemmas.List.{length-replicate, get_or-replicate}
+use Rattle.flash_traits.specs.declared.board.Mark.{Mark}
+use Rattle.flash_traits.specs.declared.board.Mark.TheVariants.{Available, InUse}
+use Rattle.flash_traits.specs.declared.numbers.TheConstants.{ERASED, SIGNATURE, GUARD_HALFWORDS}
+use Rattle.flash_traits.specs.Marks.{mark_word}
+use Rattle.guard_row.specs.Row.{IsGuardRow}
+use Rattle.sector_log.specs.Storage.{storage_bytes}
+use Rattle.sector_log.specs.Entries.{Entry, IsEntry}
+use Rattle.sector_log.specs.Sector.{IsSector}
+use Rattle.sector_log.specs.Bytes.{IsValue}
+use Rattle.sector_image.specs.Stands.{Stands, Reading, Both, IsBoth}
+use Rattle.session_boards.specs.Device.{fresh}
+use Rattle.session_boards.specs.Sizes.{begun}
+use Rattle.storage_cli.specs.Sessions.{zeros, fresh_bytes}
+
+no_entries : All IsEntry []
+no_entries i d lt = absurd (omega (arith, lt))
+
+begun_at : (n mark : ℕ) → slice_set (slice_set (replicate (suc (suc n)) ERASED) 0 mark) 1 SIGNATURE ≡ mark ∷ SIGNATURE ∷ replicate n ERASED
+begun_at n mark = refl
+
+all_erased : (n : ℕ) → All (λ word. word ≡ ERASED) (replicate n ERASED)
+all_erased n i d lt = get_or-replicate n i ERASED d (omega (arith, length-replicate n ERASED, lt))
+
+begun_sector : (mark : Mark) → IsSector (begun (mark_word mark)) mark []
+begun_sector mark = record {
+  rest = replicate 65534 ERASED;
+  whole = begun_at 65534 (mark_word mark);
+  each = no_entries;
+  available = λ is. refl;
+  erased = all_erased 65534;
+}
+
+no_count : IsGuardRow (replicate GUARD_HALFWORDS ERASED) 0
+no_count = record { erased = GUARD_HALFWORDS; whole = refl }
+
+zeros_value : (size : ℕ) → size ≡ storage_bytes → IsValue [] (zeros size)
+unfolding zeros
+zeros_value size is = record {
+  size = length-replicate size 0 ∙ is;
+  each = λ k lt. get_or-replicate size k 0 0 (omega (arith, is, lt));
+}
+
+pub fresh_stands : Stands fresh fresh_bytes
+fresh_stands = (
+  Both 0 InUse Available [] [],
+  record {
+    guard = no_count;
+    even = refl;
+    home_may = search rules;
+    other_may = search rules;
+    first = begun_sector InUse;
+    second = begun_sector Available;
+    room = search rules;
+  },
+  zeros_value storage_bytes refl,
+)

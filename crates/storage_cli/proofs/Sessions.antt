@@ -1,0 +1,76 @@
+-- A generated session that was run in memory.
+use Rattle.std.proofs.Common.{inl, inr, ◌≡◌, ◌≢◌, ◌≤◌, ◌*◌, ◌-◌, ◌^◌, ℕ, List, [], length, sym, ◌∙◌, ap, subst, arith, Result, Ok, Err}
+use Rattle.std.proofs.lemmas.Slice.Zip.{AllZip-long}
+use Rattle.flash_traits.specs.Causes.{Rose}
+use Rattle.flash_traits.specs.declared.board.Fault.{Fault}
+use Rattle.flash_traits.specs.declared.board.Fault.TheVariants.{Attach, Read, Flash, Recv, Send}
+use Rattle.flash_traits.specs.Budget.{budget_of}
+use Rattle.flash_traits.specs.Counts.{counts}
+use Rattle.flash_traits.specs.Words.{Words}
+use Rattle.flash_traits.specs.Losses.{Received, SentFrame}
+use Rattle.sha2.specs.Sha256.{sha256}
+use Rattle.storage_lines.specs.Lines.{after}
+use Rattle.sector_image.specs.FirstBad.{FirstBad}
+use Rattle.sector_image.specs.Laws.{OneOfBoth}
+use Rattle.sector_image.specs.Stands.{Stands}
+use Rattle.session_boards.specs.Laws.{SessionEnds}
+use Rattle.session_boards.specs.declared.device.TheConstants.{SECTOR_BYTES}
+use Rattle.session_boards.specs.Session.{AreFirst, EndsOnce, HasNoEnd}
+use Rattle.vehicle_node.specs.Frames.{IsFrameOf}
+use Rattle.storage_cli.specs.declared.stop.Served.{Served}
+use Rattle.storage_cli.specs.declared.stop.Stop.{Stop}
+use Rattle.storage_cli.specs.declared.stop.Stop.TheVariants as stop
+use Rattle.storage_cli.specs.declared.stop.Summary.{Summary}
+use Rattle.storage_cli.specs.Sessions.{fresh_bytes, fresh_run, digest_after, line_of_session}
+use Rattle.storage_cli.specs.Texts.{session_line}
+use Rattle.storage_cli.specs.Steps.Sessions.{IsSessionStop, IsSummary}
+use Rattle.storage_cli.specs.Steps.Progress.{IsCounted}
+use Rattle.storage_cli.specs.Steps.Stops.{IsServeStop, IsCausedBy, IsFirst}
+
+-- a count that is 0 hasn't risen
+never_rose : (before now : ℕ) → now ≡ 0 → Rose before now → ⊥
+never_rose before now is rose = omega (arith, is, rose)
+
+-- a serve over a board whose calls never fail, of a fresh image, with turns enough
+pub session_stop : (why : Stop) (before now : Fault → ℕ) (words : Words) (bytes : List ℕ) → IsServeStop why → ((k : Fault) → now k ≡ 0) → IsCausedBy why before now → OneOfBoth → Stands words bytes → IsFirst words why
+    → ((n : ℕ) → why ≢ stop.Turns n) → IsSessionStop why
+session_stop stop.Words before now words bytes serves zero cause law stands first on = serves
+session_stop stop.Memory before now words bytes serves zero cause law stands first on = tt
+session_stop (stop.Foreign found) before now words bytes serves zero cause law stands first on = law.never_both words bytes _ stands first
+session_stop stop.Read before now words bytes serves zero cause law stands first on = never_rose (before Read) (now Read) (zero Read) cause
+session_stop stop.Flash before now words bytes serves zero cause law stands first on = never_rose (before Flash) (now Flash) (zero Flash) cause
+session_stop stop.Link before now words bytes serves zero (inl cause) law stands first on = never_rose (before Recv) (now Recv) (zero Recv) cause
+session_stop stop.Link before now words bytes serves zero (inr cause) law stands first on = never_rose (before Send) (now Send) (zero Send) cause
+session_stop stop.Worn before now words bytes serves zero cause law stands first on = tt
+session_stop (stop.Turns n) before now words bytes serves zero cause law stands first on = absurd (on n (λ i. stop.Turns n))
+session_stop stop.Attach before now words bytes serves zero cause law stands first on = never_rose (before Attach) (now Attach) (zero Attach) cause
+
+-- no session has so many turns
+pub never_over : (rounds turns : ℕ) (events : List Received) → SessionEnds → rounds ≤ 1000 → turns ≡ 2 ^ 32 - 1 → AreFirst rounds events → HasNoEnd events × (length events ≡ turns) → ⊥
+never_over rounds turns events law few many first over = omega (arith, law.few rounds events first over.0, few, many, over.1)
+
+-- what the session came to
+pub summary_of : (rounds : ℕ) (served : Served) (digest whole : List ℕ) (events : List Received) (frames : List SentFrame) (words : Words)
+    → SessionEnds → OneOfBoth → AreFirst rounds events → EndsOnce events × (served.events ≡ length events - 1) → served.frames ≡ counts (length frames)
+    → IsCounted (budget_of SECTOR_BYTES) (Ok served) fresh_bytes events frames words → Stands words whole → digest ≡ sha256 whole
+    → IsSummary rounds (record { rounds = rounds; events = served.events; frames = served.frames; lines = served.lines; digest = digest })
+unfolding digest_after
+summary_of rounds served digest whole events frames words ends law first ended sent run stands is = record {
+  session = record { events = events; generated = ends.whole rounds events first ended.0; acts = run.whole.acts; rests = run.whole.rests; reads = run.whole.reads };
+  rounds_are = λ i. rounds;
+  events_are = ended.1;
+  frames_are = sent ∙ ap counts (AllZip-long IsFrameOf (fresh_run run.whole.acts).answers frames run.whole.all_answers);
+  lines_are = run.lines;
+  digest_is = is ∙ ap sha256 (law.one_value words whole (after fresh_bytes (fresh_run run.whole.acts).issued) stands run.whole.all_lines);
+}
+
+-- the line of the summary is that of its session
+pub summary_line : (rounds : ℕ) (summary : Summary) (is : IsSummary rounds summary)
+    → session_line summary.rounds summary.events summary.frames summary.lines summary.digest ≡ line_of_session is.session
+summary_line rounds summary is =
+    let run = fresh_run is.session.acts in
+    ap (λ (n : ℕ). session_line n summary.events summary.frames summary.lines summary.digest) is.rounds_are
+    ∙ ap (λ (n : ℕ). session_line rounds n summary.frames summary.lines summary.digest) is.events_are
+    ∙ ap (λ (n : ℕ). session_line rounds (length is.session.events - 1) n summary.lines summary.digest) is.frames_are
+    ∙ ap (λ (n : ℕ). session_line rounds (length is.session.events - 1) (counts (length run.answers)) n summary.digest) is.lines_are
+    ∙ ap (λ (d : List ℕ). session_line rounds (length is.session.events - 1) (counts (length run.answers)) (counts (length run.issued)) d) is.digest_is
