@@ -1,0 +1,3 @@
+pub mod Halfwords
+pub mod Odd
+pub mod Unread

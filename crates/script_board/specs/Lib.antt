@@ -1,0 +1,6 @@
+pub mod Image
+pub mod Waiting
+pub mod Printing
+pub mod Taking
+pub mod Marks
+pub mod Boards
