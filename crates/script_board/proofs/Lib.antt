@@ -1,3 +1,5 @@
 pub mod Halfwords
 pub mod Odd
 pub mod Unread
+pub mod TakenLines
+pub mod Waits

@@ -1,5 +1,6 @@
 -- The unread bytes of a buffer.
-use Rattle.std.proofs.Common.{◌≡◌, ◌⊎◌, inl, inr, ℕ, ◌+◌, ◌-◌, ◌≤◌, ◌<◌, List, [], ◌∷◌, ◌++◌, length, take, drop, refl, sym, ◌∙◌, ap, subst, arith, length-append, length-drop, append_assoc, append-nil}
+use Rattle.std.proofs.Common.{◌≡◌, ◌⊎◌, inl, inr, ℕ, zero, suc, ◌+◌, ◌-◌, ◌≤◌, ◌<◌, List, [], ◌∷◌, ◌++◌, length, take, drop, refl, sym, ◌∙◌, ap, subst, arith, length-append, length-drop, append_assoc, append-nil}
+use Rattle.std.proofs.Math.Seq.{drop-nil}
 use Rattle.script_lines.specs.Script.{ScriptLine, Spells, line_feed}
 use Rattle.script_lines.specs.Reading.{unread_of, Finds, FindsLine, FindsLast}
 use Rattle.script_lines.specs.declared.reading.Next.{Next}
@@ -8,6 +9,20 @@ use Rattle.script_board.specs.Taking.{IsAhead, HasNoLine}
 
 pub unread_length : (buffer : List ℕ) (ahead : ℕ) → ahead ≤ length buffer → length (unread_of buffer ahead) ≡ ahead
 unread_length buffer ahead le = length-drop (length buffer - ahead) buffer ∙ omega (arith, le)
+
+more : (n k : ℕ) → n + suc k ≡ suc (n + k)
+more n k = omega arith
+
+drop_drop : (n k : ℕ) (l : List ℕ) → drop (n + k) l ≡ drop n (drop k l)
+drop_drop n zero l = ap (λ (m : ℕ). drop m l) (omega arith)
+drop_drop n (suc k) [] = drop-nil (n + suc k) ∙ sym (drop-nil n)
+drop_drop n (suc k) (x ∷ l) = ap (λ (m : ℕ). drop m (x ∷ l)) (more n k) ∙ drop_drop n k l
+
+-- so many of the unread bytes are taken
+pub unread_drop : (buffer : List ℕ) (ahead bytes : ℕ) → bytes ≤ ahead → ahead ≤ length buffer → unread_of buffer (ahead - bytes) ≡ drop bytes (unread_of buffer ahead)
+unread_drop buffer ahead bytes few fits =
+    let place : length buffer - (ahead - bytes) ≡ bytes + (length buffer - ahead) = omega (arith, few, fits) in
+    ap (λ (n : ℕ). drop n buffer) place ∙ drop_drop bytes (length buffer - ahead) buffer
 
 take_first : (text later : List ℕ) → take (length text) (text ++ later) ≡ text
 take_first [] later = refl

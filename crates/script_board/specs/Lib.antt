@@ -4,3 +4,4 @@ pub mod Printing
 pub mod Taking
 pub mod Marks
 pub mod Boards
+pub mod Hearing

@@ -9,6 +9,7 @@ mod ahead;
 mod board;
 mod image;
 mod printing;
+mod taking;
 mod waiting;
 
 pub use board::{ScriptBoard, ScriptMark};

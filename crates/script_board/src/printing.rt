@@ -3,8 +3,9 @@ ghost use Rattle.std.specs.Prelude.{◌≡◌, ◌≤◌, ◌+◌, ◌++◌, len
 ghost use Rattle.flash_traits.specs.Losses.{sent_frame};
 ghost use Rattle.script_board.specs.Printing.{frame_line};
 
+use crate::board::{ScriptBoard, ScriptMark};
 use arrayvec::ArrayVec;
-use flash_traits::FRAME_BYTES;
+use flash_traits::{FRAME_BYTES, Failed, Sink, Source};
 
 /// The most hexadecimal digits of a frame.
 const FRAME_DIGITS: usize = 2 * FRAME_BYTES;
@@ -39,4 +40,43 @@ pub(crate) fn frame_line(peer: u8, bytes: &[u8]) -> ArrayVec<u8, FRAME_LINE_BYTE
     push(&mut line, &digits[..count]);
     push(&mut line, b"\n");
     line
+}
+
+impl<'a, S: Source, K: Sink> ScriptBoard<'a, S, K> {
+    ghost use Rattle.std.specs.Prelude.{◌≡◌, ◌≤◌, ◌+◌, ◌-◌, ◌^◌, ◌++◌, min, ℕ, length, take, Some, OnOk, OnErr, MatchResult};
+    ghost use Rattle.flash_traits.specs.Causes.{HasOneCause};
+    ghost use Rattle.flash_traits.specs.Losses.{sent_frame};
+    ghost use Rattle.script_board.specs.Printing.{frame_line};
+    ghost use Rattle.script_board.specs.Boards.{OnlySink};
+    ghost use Rattle.script_board.specs.declared.board.ScriptMark.TheVariants.{Output};
+
+    /// Prints the line of a frame. It fails only where the sink does.
+    pub fn print_frame(&mut self, peer: u8, bytes: &[u8]) -> Result<(), Failed>
+        requires { length bytes.now ≤ FRAME_BYTES }
+        ensures told { K.tells_written self.new.out.now → K.tells_written self.old.out.now }
+        ensures written { K.tells_written self.new.out.now → MatchResult result
+            (λ _. K.written self.new.out.now
+            ≡ K.written self.old.out.now ++ frame_line (sent_frame peer bytes.now))
+            (λ _. (count : ℕ) × (K.written self.new.out.now
+            ≡ K.written self.old.out.now ++ take count (frame_line (sent_frame peer bytes.now)))) }
+        ensures given { OnOk result (self.new.given ≡ min
+            (self.old.given + length (frame_line (sent_frame peer bytes.now))) (2 ^ 64 - 1)) }
+        ensures same_given { OnErr result (self.new.given ≡ self.old.given) }
+        ensures unmarked { OnOk result (self.new.mark ≡ self.old.mark) }
+        ensures marked { OnErr result (self.new.mark ≡ Some Output) }
+        ensures cause { HasOneCause (K.faults self.old.out.now) (K.faults self.new.out.now) result }
+        ensures others { OnlySink self.old self.new }
+    {
+        let line = frame_line(peer, bytes);
+        match self.out.write_all(line.as_slice()) {
+            Ok(()) => {
+                self.given = self.given.saturating_add(line.len() as u64);
+                Ok(())
+            }
+            Err(failed) => {
+                self.mark = Some(ScriptMark::Output);
+                Err(failed)
+            }
+        }
+    }
 }

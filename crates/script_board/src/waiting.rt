@@ -1,5 +1,5 @@
 //! The losses of power that wait for their call.
-ghost use Rattle.std.specs.Prelude.{◌≡◌, true, false, drop, IfSome, IfNone};
+ghost use Rattle.std.specs.Prelude.{◌≡◌, ◌≢◌, ◌<◌, ◌++◌, [], ◌∷◌, true, false, length, drop, IfSome, IfNone};
 ghost use Rattle.script_board.specs.Waiting.{falls_now, counted, first_leaves};
 
 use arrayvec::ArrayVec;
@@ -32,4 +32,17 @@ pub(crate) fn next_call(
     waiting.remove(0);
     *since = 0;
     Some(first.how)
+}
+
+/// A loss begins to wait. Where none waited before, calls are counted from here.
+pub(crate) fn wait(waiting: &mut ArrayVec<Waiting, WAITING_LOSSES>, since: &mut u32, loss: Waiting)
+    requires { length waiting.old.items < WAITING_LOSSES }
+    ensures waits { waiting.new.items ≡ waiting.old.items ++ loss ∷ [] }
+    ensures alone { waiting.old.items ≡ [] → since.new ≡ 0 }
+    ensures more { waiting.old.items ≢ [] → since.new ≡ since.old }
+{
+    if waiting.is_empty() {
+        *since = 0;
+    }
+    waiting.push(loss);
 }
