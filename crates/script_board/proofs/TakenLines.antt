@@ -1,5 +1,5 @@
 -- Lines that were taken, one after another.
-use Rattle.std.proofs.Common.{◌≡◌, ◌⊎◌, inl, inr, ℕ, ◌+◌, ◌-◌, ◌≤◌, List, [], ◌∷◌, ◌++◌, length, drop, refl, sym, ◌∙◌, ap, subst, arith, append_assoc, append-nil}
+use Rattle.std.proofs.Common.{◌≡◌, ◌⊎◌, inl, inr, ℕ, ◌+◌, ◌-◌, ◌≤◌, List, [], ◌∷◌, ◌++◌, length, drop, refl, sym, ◌∙◌, ap, subst, arith, append_assoc, append-nil, length-append}
 use Rattle.std.specs.Prelude.{Option, Some, None, IfSome, IfNone}
 use Rattle.flash_traits.specs.declared.stream.Source.{Ghosts}
 use Rattle.script_lines.specs.Script.{ScriptLine, Datagram, Idle, LossNow, LossLater, End, Spells, AreLines, line_feed}
@@ -61,10 +61,11 @@ no_second [] y is = is
 no_second (a ∷ x) y is = absurd (cc)
 
 module _ {S : Type 0} (g : Ghosts S) where
-  pub took_nothing : (s : S) (unread : List ℕ) → Took g s s unread unread []
+  pub took_nothing : (s : S) (unread : List ℕ) → Took g s s unread unread [] 0
   took_nothing s unread = record {
     fresh = [];
     bytes = [];
+    long = refl;
     unread = append-nil unread;
     given = λ told. sym (append-nil (g.given s));
     rest = λ told. refl;
@@ -73,10 +74,11 @@ module _ {S : Type 0} (g : Ghosts S) where
     whole = λ told. inl refl;
   }
 
-  pub took_none : (old new : S) (before now fresh : List ℕ) → Reads g old new before now fresh → Took g old new before now []
+  pub took_none : (old new : S) (before now fresh : List ℕ) → Reads g old new before now fresh → Took g old new before now [] 0
   took_none old new before now fresh reads = record {
     fresh = fresh;
     bytes = [];
+    long = refl;
     unread = sym reads.unread;
     given = reads.given;
     rest = reads.rest;
@@ -85,21 +87,22 @@ module _ {S : Type 0} (g : Ghosts S) where
     whole = λ told. inl refl;
   }
 
-  pub took_refused : (old mid new : S) (before between now fresh : List ℕ) → Reads g old mid before between fresh → new ≡ mid → now ≡ between → Took g old new before now []
+  pub took_refused : (old mid new : S) (before between now fresh : List ℕ) → Reads g old mid before between fresh → new ≡ mid → now ≡ between → Took g old new before now [] 0
   took_refused old mid new before between now fresh reads same is =
-      subst (λ (s : S). Took g old s before now []) (sym same) (subst (λ (l : List ℕ). Took g old mid before l []) (sym is) (took_none old mid before between fresh reads))
+      subst (λ (s : S). Took g old s before now [] 0) (sym same) (subst (λ (l : List ℕ). Took g old mid before l [] 0) (sym is) (took_none old mid before between fresh reads))
 
-  pub took_same : (old new : S) (before now : List ℕ) → new ≡ old → now ≡ before → Took g old new before now []
+  pub took_same : (old new : S) (before now : List ℕ) → new ≡ old → now ≡ before → Took g old new before now [] 0
   took_same old new before now same is =
-      subst (λ (s : S). Took g old s before now []) (sym same) (subst (λ (l : List ℕ). Took g old old before l []) (sym is) (took_nothing old before))
+      subst (λ (s : S). Took g old s before now [] 0) (sym same) (subst (λ (l : List ℕ). Took g old old before l [] 0) (sym is) (took_nothing old before))
 
   pub took_line : (old new : S) (before mid now fresh : List ℕ) (line : ScriptLine) (bytes : ℕ) → Reads g old new before mid fresh
-      → IsAhead line bytes mid (g.tells_rest new) (g.rest new) → now ≡ drop bytes mid → Took g old new before now (line ∷ [])
+      → IsAhead line bytes mid (g.tells_rest new) (g.rest new) → now ≡ drop bytes mid → Took g old new before now (line ∷ []) bytes
   took_line old new before mid now fresh line bytes reads ahead is =
       let later : now ≡ ahead.later = is ∙ ap (λ (n : ℕ). drop n mid) (sym ahead.long) ∙ ap (drop (length ahead.takes)) ahead.unread_are ∙ drop_first ahead.takes ahead.later in
       record {
         fresh = fresh;
         bytes = ahead.takes;
+        long = ahead.long;
         unread = sym reads.unread ∙ ahead.unread_are ∙ ap (λ (l : List ℕ). ahead.takes ++ l) (sym later);
         given = reads.given;
         rest = reads.rest;
@@ -116,10 +119,11 @@ module _ {S : Type 0} (g : Ghosts S) where
         ap (λ (l : List ℕ). l ++ g.rest new) (later ∙ last.1) ∙ last.2 told,
       )
 
-  pub took_then : (a b c : S) (u v w : List ℕ) (ls ms : List ScriptLine) → Took g a b u v ls → Took g b c v w ms → Took g a c u w (ls ++ ms)
-  took_then a b c u v w ls ms first second = record {
+  pub took_then : (a b c : S) (u v w : List ℕ) (ls ms : List ScriptLine) (m n : ℕ) → Took g a b u v ls m → Took g b c v w ms n → Took g a c u w (ls ++ ms) (m + n)
+  took_then a b c u v w ls ms m n first second = record {
     fresh = first.fresh ++ second.fresh;
     bytes = first.bytes ++ second.bytes;
+    long = length-append first.bytes second.bytes ∙ omega (arith, first.long, second.long);
     unread = sym (append_assoc u first.fresh second.fresh) ∙ ap (λ (l : List ℕ). l ++ second.fresh) first.unread
         ∙ append_assoc first.bytes v second.fresh ∙ ap (λ (l : List ℕ). first.bytes ++ l) second.unread ∙ sym (append_assoc first.bytes second.bytes w);
     given = λ told. second.given told ∙ ap (λ (l : List ℕ). l ++ second.fresh) (first.given (second.told_given told)) ∙ append_assoc (g.given a) first.fresh second.fresh;
@@ -158,6 +162,6 @@ module _ {S : Type 0} (g : Ghosts S) where
           last x (inr y) none ending = absurd (no_line ms (subst (λ (l : List ℕ). AreLines ms (l ++ line_feed ∷ [])) none y.0))
 
   -- what stays as it was behind it
-  pub took_still : (a b c : S) (u v w : List ℕ) (ls : List ScriptLine) → Took g a b u v ls → c ≡ b → w ≡ v → Took g a c u w ls
-  took_still a b c u v w ls took same is =
-      subst (λ (s : S). Took g a s u w ls) (sym same) (subst (λ (l : List ℕ). Took g a b u l ls) (sym is) took)
+  pub took_still : (a b c : S) (u v w : List ℕ) (ls : List ScriptLine) (m : ℕ) → Took g a b u v ls m → c ≡ b → w ≡ v → Took g a c u w ls m
+  took_still a b c u v w ls m took same is =
+      subst (λ (s : S). Took g a s u w ls m) (sym same) (subst (λ (l : List ℕ). Took g a b u l ls m) (sym is) took)

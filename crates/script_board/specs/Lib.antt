@@ -5,3 +5,4 @@ pub mod Taking
 pub mod Marks
 pub mod Boards
 pub mod Hearing
+pub mod Lists

@@ -37,12 +37,13 @@ abbrev pub AreTaken : List ScriptLine → List ℕ → List ℕ → Type 0
 AreTaken lines bytes rest =
     AreLines lines bytes ⊎ (AreLines lines (bytes ++ line_feed ∷ []) × (rest ≡ []))
 
--- These lines were taken, and the source gave what was wanting for that: the bytes that are unread
--- now follow those of the lines. What the source tells, it told before.
+-- These lines were taken, so many bytes, and the source gave what was wanting for that: the bytes
+-- that are unread now follow those of the lines. What the source tells, it told before.
 pub record Took {S : Type 0} (g : Ghosts S) (old new : S) (unread_before unread_now : List ℕ)
-    (lines : List ScriptLine) : Type 0 where
+    (lines : List ScriptLine) (count : ℕ) : Type 0 where
   pub fresh : List ℕ
   pub bytes : List ℕ
+  pub long : length bytes ≡ count
   pub unread : unread_before ++ fresh ≡ bytes ++ unread_now
   pub given : g.tells_given new → g.given new ≡ g.given old ++ fresh
   pub rest : g.tells_rest new → g.rest old ≡ fresh ++ g.rest new

@@ -23,6 +23,7 @@ fn unheard(mark: Option<ScriptMark>, failures: u64) -> Option<ScriptMark>
 
 impl<'a, S: Source, K: Sink> ScriptBoard<'a, S, K> {
     ghost use Rattle.std.specs.Prelude.{◌≡◌, ◌⊎◌, ◌<◌, ◌≤◌, ◌+◌, ◌-◌, ◌^◌, ◌++◌, [], ◌∷◌, min, List, ℕ, length, slice_set, slice_index, Some, Ok, IsSome, OnOk, OnErr, IfOk};
+    ghost use Rattle.flash_traits.specs.Counts.{raised_by};
     ghost use Rattle.flash_traits.specs.Causes.{HasOneCause, Rose};
     ghost use Rattle.flash_traits.specs.declared.numbers.TheConstants.{DATAGRAM_BYTES};
     ghost use Rattle.flash_traits.specs.Losses.{received, IsEventInRange};
@@ -43,6 +44,7 @@ impl<'a, S: Source, K: Sink> ScriptBoard<'a, S, K> {
         ensures line { self.new.line ≡ self.old.line }
         ensures input { self.new.input ≡ self.old.input }
         ensures unread { unread_in self.new ≡ unread_in self.old }
+        ensures taken { self.new.taken ≡ self.old.taken }
         ensures waits { self.new.waiting ≡ self.old.waiting }
         ensures since { self.new.since ≡ self.old.since }
         ensures others { OnlyScript self.old self.new }
@@ -55,8 +57,9 @@ impl<'a, S: Source, K: Sink> ScriptBoard<'a, S, K> {
 
     /// Takes the next line. A loss at a later call begins to wait.
     fn next_line(&mut self) -> Result<ScriptLine, Failed>
-        ensures took { Took S.Source self.old.input.now self.new.input.now
-            (unread_in self.old) (unread_in self.new) (lines_of result) }
+        ensures took { (count : ℕ) × Took S.Source self.old.input.now self.new.input.now
+            (unread_in self.old) (unread_in self.new) (lines_of result) count
+            × (self.new.taken ≡ raised_by count self.old.taken) }
         ensures spells { IfOk result (λ line. (text : List ℕ) × script.Spells (line_of line) text) }
         ensures unfailed { OnOk result
             (slice_index self.new.faults 3 ≡ slice_index self.old.faults 3) }
@@ -107,6 +110,7 @@ impl<'a, S: Source, K: Sink> ScriptBoard<'a, S, K> {
         ensures line { self.new.line ≡ self.old.line }
         ensures input { self.new.input ≡ self.old.input }
         ensures unread { unread_in self.new ≡ unread_in self.old }
+        ensures taken { self.new.taken ≡ self.old.taken }
         ensures waits { self.new.waiting ≡ self.old.waiting }
         ensures others { OnlyScript self.old self.new }
     {
@@ -121,9 +125,10 @@ impl<'a, S: Source, K: Sink> ScriptBoard<'a, S, K> {
     pub fn take_event(&mut self, into: &mut [u8]) -> Result<Event, Failed>
         requires { length into.old ≡ DATAGRAM_BYTES }
         ensures bounds { IfOk result IsEventInRange }
-        ensures took { (lines : List script.ScriptLine)
+        ensures took { (lines : List script.ScriptLine) × (count : ℕ)
             × Took S.Source self.old.input.now self.new.input.now
-            (unread_in self.old) (unread_in self.new) lines
+            (unread_in self.old) (unread_in self.new) lines count
+            × (self.new.taken ≡ raised_by count self.old.taken)
             × HearsSo result into.new (self.new.mark ≡ marked self.old.mark Lost) lines
             × (length self.new.waiting.items ≤ length self.old.waiting.items + loses lines) }
         ensures counted { OnOk result (self.old.line < self.new.line) }

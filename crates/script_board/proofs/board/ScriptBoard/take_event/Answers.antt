@@ -14,7 +14,7 @@ use Rattle.script_board.proofs.board.ScriptBoard.take_event.Goals as goal
 
 pub lines-init : goal.lines-init
 lines-init g c = record {
-  took = ([], took_nothing g.S.Source _ _, tt, omega arith);
+  took = ([], 0, took_nothing g.S.Source _ _, omega arith, tt, omega arith);
   line = omega arith;
   mark = refl;
   hears = omega arith;
@@ -26,15 +26,18 @@ lines-init g c = record {
 pub lines-preserved : goal.lines-preserved
 lines-preserved g c =
     let i = c.lines.invariant.took in
+    let t = c.in-Ok.ensures.took in
     let line = line_of c.in-Ok.line in
     let is : line ≡ script.LossLater c.in-LossLater.field-0.call c.in-LossLater.field-0.how = ap line_of c.in-LossLater.is in
     let long = waits_more line c.lines.self.waiting.items c.next_line.new.self.waiting.items c.in-Ok.ensures.waits in
     record {
       took = (
         i.0 ++ line ∷ [],
-        took_then g.S.Source _ _ _ _ _ _ i.0 (line ∷ []) i.1 c.in-Ok.ensures.took,
-        later-append i.0 (line ∷ []) i.2 ((c.in-LossLater.field-0.call, c.in-LossLater.field-0.how, is), tt),
-        omega (arith, i.3, long, loses_more i.0 line),
+        i.1 + t.0,
+        took_then g.S.Source _ _ _ _ _ _ i.0 (line ∷ []) i.1 t.0 i.2 t.1,
+        omega (arith, i.3, t.2),
+        later-append i.0 (line ∷ []) i.4 ((c.in-LossLater.field-0.call, c.in-LossLater.field-0.how, is), tt),
+        omega (arith, i.5, long, loses_more i.0 line),
       );
       line = omega (arith, c.lines.invariant.line, c.in-Ok.ensures.counted);
       mark = c.in-Ok.ensures.unmarked ∙ c.lines.invariant.mark;
@@ -47,15 +50,18 @@ lines-preserved g c =
 pub returns-in-LossNow-clause-took : goal.returns-in-LossNow-clause-took
 returns-in-LossNow-clause-took g c =
     let i = c.lines.invariant.took in
+    let t = c.in-Ok.ensures.took in
     let line = line_of c.in-Ok.line in
     let is : line ≡ script.LossNow = ap line_of c.in-LossNow.is in
     let long = waits_more line c.lines.self.waiting.items c.next_line.new.self.waiting.items c.in-Ok.ensures.waits in
     let same = ap (λ v. length v.items) c.lose_now.ensures.waits in
     let mark = c.in-Ok.ensures.unmarked ∙ c.lines.invariant.mark in (
       i.0 ++ line ∷ [],
-      took_still g.S.Source _ _ _ _ _ _ (i.0 ++ line ∷ []) (took_then g.S.Source _ _ _ _ _ _ i.0 (line ∷ []) i.1 c.in-Ok.ensures.took) (ap (λ i. i.now) c.lose_now.ensures.input) c.lose_now.ensures.unread,
-      (event_last i.0 line i.2 ∙ ap events_in is, inr ((i.0, ap (λ (l : ScriptLine). i.0 ++ l ∷ []) is, no_loss_now i.0 i.2), c.lose_now.ensures.mark ∙ ap (λ m. marked m Lost) mark)),
-      omega (arith, i.3, long, same, loses_more i.0 line),
+      i.1 + t.0,
+      took_still g.S.Source _ _ _ _ _ _ (i.0 ++ line ∷ []) (i.1 + t.0) (took_then g.S.Source _ _ _ _ _ _ i.0 (line ∷ []) i.1 t.0 i.2 t.1) (ap (λ i. i.now) c.lose_now.ensures.input) c.lose_now.ensures.unread,
+      omega (arith, i.3, t.2, c.lose_now.ensures.taken),
+      (event_last i.0 line i.4 ∙ ap events_in is, inr ((i.0, ap (λ (l : ScriptLine). i.0 ++ l ∷ []) is, no_loss_now i.0 i.4), c.lose_now.ensures.mark ∙ ap (λ m. marked m Lost) mark)),
+      omega (arith, i.5, long, same, loses_more i.0 line),
     )
 
 pub returns-in-LossNow-clause-cause : goal.returns-in-LossNow-clause-cause
@@ -67,24 +73,30 @@ returns-in-LossNow-clause-cause g c = record {
 pub returns-in-Idle-clause-took : goal.returns-in-Idle-clause-took
 returns-in-Idle-clause-took g c =
     let i = c.lines.invariant.took in
+    let t = c.in-Ok.ensures.took in
     let line = line_of c.in-Ok.line in
     let is : line ≡ script.Idle = ap line_of c.in-Idle.is in
     let long = waits_more line c.lines.self.waiting.items c.next_line.new.self.waiting.items c.in-Ok.ensures.waits in (
       i.0 ++ line ∷ [],
-      took_then g.S.Source _ _ _ _ _ _ i.0 (line ∷ []) i.1 c.in-Ok.ensures.took,
-      (event_last i.0 line i.2 ∙ ap events_in is, no_loss_then i.0 line i.2 (λ e. not_idle (sym is ∙ e))),
-      omega (arith, i.3, long, loses_more i.0 line),
+      i.1 + t.0,
+      took_then g.S.Source _ _ _ _ _ _ i.0 (line ∷ []) i.1 t.0 i.2 t.1,
+      omega (arith, i.3, t.2),
+      (event_last i.0 line i.4 ∙ ap events_in is, no_loss_then i.0 line i.4 (λ e. not_idle (sym is ∙ e))),
+      omega (arith, i.5, long, loses_more i.0 line),
     )
 
 pub returns-in-End-clause-took : goal.returns-in-End-clause-took
 returns-in-End-clause-took g c =
     let i = c.lines.invariant.took in
+    let t = c.in-Ok.ensures.took in
     let line = line_of c.in-Ok.line in
     let is : line ≡ script.End = ap line_of c.in-End.is in
     let none = ap length c.clear.ensures in (
       i.0 ++ line ∷ [],
-      took_then g.S.Source _ _ _ _ _ _ i.0 (line ∷ []) i.1 c.in-Ok.ensures.took,
-      (event_last i.0 line i.2 ∙ ap events_in is, no_loss_then i.0 line i.2 (λ e. not_end (sym is ∙ e))),
+      i.1 + t.0,
+      took_then g.S.Source _ _ _ _ _ _ i.0 (line ∷ []) i.1 t.0 i.2 t.1,
+      omega (arith, i.3, t.2),
+      (event_last i.0 line i.4 ∙ ap events_in is, no_loss_then i.0 line i.4 (λ e. not_end (sym is ∙ e))),
       omega (arith, none),
     )
 
@@ -97,26 +109,32 @@ returns-in-Datagram-clause-bounds g c = (
 pub returns-in-Datagram-clause-took : goal.returns-in-Datagram-clause-took
 returns-in-Datagram-clause-took g c =
     let i = c.lines.invariant.took in
+    let t = c.in-Ok.ensures.took in
     let line = line_of c.in-Ok.line in
     let is : line ≡ script.Datagram c.in-Datagram.station c.in-Datagram.bytes.items = ap line_of c.in-Datagram.is in
     let long = waits_more line c.lines.self.waiting.items c.next_line.new.self.waiting.items c.in-Ok.ensures.waits in
     let copied : c.copy_from_slice.new.self ≡ c.in-Datagram.bytes.items = c.copy_from_slice.ensures.after ∙ c.as_slice.ensures.value in
     let front = take_front c.len-len.result c.copy_from_slice.new.self _ (c.len-len.ensures.value ∙ ap length (sym copied)) ∙ copied in (
       i.0 ++ line ∷ [],
-      took_then g.S.Source _ _ _ _ _ _ i.0 (line ∷ []) i.1 c.in-Ok.ensures.took,
+      i.1 + t.0,
+      took_then g.S.Source _ _ _ _ _ _ i.0 (line ∷ []) i.1 t.0 i.2 t.1,
+      omega (arith, i.3, t.2),
       (
-        event_last i.0 line i.2 ∙ ap events_in is ∙ ap (λ (b : List ℕ). link.Datagram c.in-Datagram.station b ∷ []) (sym front),
-        no_loss_then i.0 line i.2 (λ e. not_datagram c.in-Datagram.station c.in-Datagram.bytes.items (sym is ∙ e)),
+        event_last i.0 line i.4 ∙ ap events_in is ∙ ap (λ (b : List ℕ). link.Datagram c.in-Datagram.station b ∷ []) (sym front),
+        no_loss_then i.0 line i.4 (λ e. not_datagram c.in-Datagram.station c.in-Datagram.bytes.items (sym is ∙ e)),
       ),
-      omega (arith, i.3, long, loses_more i.0 line),
+      omega (arith, i.5, long, loses_more i.0 line),
     )
 
 pub returns-in-Err-clause-took : goal.returns-in-Err-clause-took
 returns-in-Err-clause-took g c =
     let i = c.lines.invariant.took in
+    let t = c.in-Err.ensures.took in
     let same = ap length c.in-Err.ensures.no_more in (
       i.0 ++ [],
-      took_then g.S.Source _ _ _ _ _ _ i.0 [] i.1 c.in-Err.ensures.took,
-      (events-append i.0 [] ∙ ap (λ (e : List Received). e ++ []) (no_events i.0 i.2), inl (no_loss_now (i.0 ++ []) (later-append i.0 [] i.2 tt))),
-      omega (arith, i.3, same, loses_nothing i.0),
+      i.1 + t.0,
+      took_then g.S.Source _ _ _ _ _ _ i.0 [] i.1 t.0 i.2 t.1,
+      omega (arith, i.3, t.2),
+      (events-append i.0 [] ∙ ap (λ (e : List Received). e ++ []) (no_events i.0 i.4), inl (no_loss_now (i.0 ++ []) (later-append i.0 [] i.4 tt))),
+      omega (arith, i.5, same, loses_nothing i.0),
     )
