@@ -3,3 +3,4 @@ pub mod Odd
 pub mod Unread
 pub mod TakenLines
 pub mod Waits
+pub mod Listed

@@ -60,6 +60,34 @@ no_second : (x y : List ℕ) → x ++ y ≡ [] → y ≡ []
 no_second [] y is = is
 no_second (a ∷ x) y is = absurd (cc)
 
+-- lines that were taken after others; nothing follows a last line that lacks its end
+pub taken_join : (ls ms : List ScriptLine) (x y v w f r0 r1 : List ℕ) → AreTaken ls x (v ++ r0) → AreTaken ms y (w ++ r1) → r0 ≡ f ++ r1 → v ++ f ≡ y ++ w
+    → AreTaken (ls ++ ms) (x ++ y) (w ++ r1)
+taken_join ls ms x y v w f r0 r1 (inl a) (inl b) rest unread = inl (lines-append ls ms x y a b)
+taken_join ls ms x y v w f r0 r1 (inl a) (inr b) rest unread = inr (
+  subst (AreLines (ls ++ ms)) (sym (append_assoc x y (line_feed ∷ []))) (lines-append ls ms x (y ++ line_feed ∷ []) a b.0),
+  b.1,
+)
+taken_join ls ms x y v w f r0 r1 (inr a) b rest unread =
+    let no_rest : f ++ r1 ≡ [] = sym rest ∙ no_second v r0 a.1 in
+    let no_more : v ++ f ≡ [] = ap (λ (l : List ℕ). l ++ f) (no_first v r0 a.1) ∙ no_first f r1 no_rest in
+    let none : y ++ w ≡ [] = sym unread ∙ no_more in
+    let no_bytes : y ≡ [] = no_first y w none in
+    let ending : w ++ r1 ≡ [] = ap (λ (l : List ℕ). l ++ r1) (no_second y w none) ∙ no_second f r1 no_rest in
+    last a.0 b no_bytes ending
+  where
+    last : AreLines ls (x ++ line_feed ∷ []) → AreTaken ms y (w ++ r1) → y ≡ [] → w ++ r1 ≡ [] → AreTaken (ls ++ ms) (x ++ y) (w ++ r1)
+    last a (inl b) none ending =
+        let no_lines : ms ≡ [] = none_of ms (subst (AreLines ms) none b) in
+        inr (
+          subst (AreLines (ls ++ ms)) (ap (λ (l : List ℕ). (x ++ l) ++ line_feed ∷ []) (sym none))
+              (subst (λ (l : List ℕ). AreLines (ls ++ ms) (l ++ line_feed ∷ [])) (sym (append-nil x))
+              (subst (λ (l : List ScriptLine). AreLines (ls ++ l) (x ++ line_feed ∷ [])) (sym no_lines)
+              (subst (λ (l : List ScriptLine). AreLines l (x ++ line_feed ∷ [])) (sym (append-nil ls)) a))),
+          ending,
+        )
+    last a (inr b) none ending = absurd (no_line ms (subst (λ (l : List ℕ). AreLines ms (l ++ line_feed ∷ [])) none b.0))
+
 module _ {S : Type 0} (g : Ghosts S) where
   pub took_nothing : (s : S) (unread : List ℕ) → Took g s s unread unread [] 0
   took_nothing s unread = record {
@@ -130,36 +158,9 @@ module _ {S : Type 0} (g : Ghosts S) where
     rest = λ told. first.rest (second.told_rest told) ∙ ap (λ (l : List ℕ). first.fresh ++ l) (second.rest told) ∙ sym (append_assoc first.fresh second.fresh (g.rest c));
     told_given = λ told. first.told_given (second.told_given told);
     told_rest = λ told. first.told_rest (second.told_rest told);
-    whole = λ told. join (first.whole (second.told_rest told)) (second.whole told) (second.rest told);
+    whole = λ told. taken_join ls ms first.bytes second.bytes v w second.fresh (g.rest b) (g.rest c)
+        (first.whole (second.told_rest told)) (second.whole told) (second.rest told) second.unread;
   }
-    where
-      join : AreTaken ls first.bytes (v ++ g.rest b) → AreTaken ms second.bytes (w ++ g.rest c) → g.rest b ≡ second.fresh ++ g.rest c
-          → AreTaken (ls ++ ms) (first.bytes ++ second.bytes) (w ++ g.rest c)
-      join (inl x) (inl y) rest = inl (lines-append ls ms first.bytes second.bytes x y)
-      join (inl x) (inr y) rest = inr (
-        subst (AreLines (ls ++ ms)) (sym (append_assoc first.bytes second.bytes (line_feed ∷ []))) (lines-append ls ms first.bytes (second.bytes ++ line_feed ∷ []) x y.0),
-        y.1,
-      )
-      join (inr x) y rest =
-          let no_rest : second.fresh ++ g.rest c ≡ [] = sym rest ∙ no_second v (g.rest b) x.1 in
-          let no_more : v ++ second.fresh ≡ [] = ap (λ (l : List ℕ). l ++ second.fresh) (no_first v (g.rest b) x.1) ∙ no_first second.fresh (g.rest c) no_rest in
-          let none : second.bytes ++ w ≡ [] = sym second.unread ∙ no_more in
-          let no_bytes : second.bytes ≡ [] = no_first second.bytes w none in
-          let ending : w ++ g.rest c ≡ [] = ap (λ (l : List ℕ). l ++ g.rest c) (no_second second.bytes w none) ∙ no_second second.fresh (g.rest c) no_rest in
-          last x.0 y no_bytes ending
-        where
-          last : AreLines ls (first.bytes ++ line_feed ∷ []) → AreTaken ms second.bytes (w ++ g.rest c) → second.bytes ≡ [] → w ++ g.rest c ≡ []
-              → AreTaken (ls ++ ms) (first.bytes ++ second.bytes) (w ++ g.rest c)
-          last x (inl y) none ending =
-              let no_lines : ms ≡ [] = none_of ms (subst (AreLines ms) none y) in
-              inr (
-                subst (AreLines (ls ++ ms)) (ap (λ (l : List ℕ). (first.bytes ++ l) ++ line_feed ∷ []) (sym none))
-                    (subst (λ (l : List ℕ). AreLines (ls ++ ms) (l ++ line_feed ∷ [])) (sym (append-nil first.bytes))
-                    (subst (λ (l : List ScriptLine). AreLines (ls ++ l) (first.bytes ++ line_feed ∷ [])) (sym no_lines)
-                    (subst (λ (l : List ScriptLine). AreLines l (first.bytes ++ line_feed ∷ [])) (sym (append-nil ls)) x))),
-                ending,
-              )
-          last x (inr y) none ending = absurd (no_line ms (subst (λ (l : List ℕ). AreLines ms (l ++ line_feed ∷ [])) none y.0))
 
   -- what stays as it was behind it
   pub took_still : (a b c : S) (u v w : List ℕ) (ls : List ScriptLine) (m : ℕ) → Took g a b u v ls m → c ≡ b → w ≡ v → Took g a c u w ls m

@@ -6,3 +6,4 @@ pub mod Marks
 pub mod Boards
 pub mod Hearing
 pub mod Lists
+pub mod Shape

@@ -7,6 +7,7 @@
 
 mod ahead;
 mod board;
+mod device;
 mod image;
 mod printing;
 mod taking;
