@@ -4,3 +4,4 @@ pub mod Unread
 pub mod TakenLines
 pub mod Waits
 pub mod Listed
+pub mod Leaving

@@ -1,5 +1,5 @@
 -- The lists that a script's board stands for, call by call.
-use Rattle.std.proofs.Common.{◌≡◌, ◌≢◌, ◌⊎◌, inl, inr, ℕ, zero, suc, ◌+◌, ◌*◌, ◌-◌, ◌^◌, ◌≤◌, ◌<◌, max, min, List, [], ◌∷◌, ◌++◌, length, replicate, drop, Option, Some, None, refl, sym, ◌∙◌, ap, subst, arith, append_assoc, append-nil, length-append}
+use Rattle.std.proofs.Common.{◌≡◌, ◌≢◌, ◌⊎◌, inl, inr, ℕ, zero, suc, ◌+◌, ◌*◌, ◌-◌, ◌^◌, ◌≤◌, ◌<◌, max, min, List, [], ◌∷◌, ◌++◌, length, replicate, take, drop, Result, Ok, Err, Option, Some, None, refl, sym, ◌∙◌, ap, subst, arith, append_assoc, append-nil, length-append}
 use Rattle.std.proofs.lemmas.List.{length-replicate}
 use Rattle.flash_traits.specs.declared.stream.Source as source
 use Rattle.flash_traits.specs.declared.stream.Sink as sink
@@ -8,6 +8,10 @@ use Rattle.flash_traits.specs.Losses.{Received, SentFrame, sent_frame}
 use Rattle.flash_traits.specs.Counts.{raised_by}
 use Rattle.script_lines.specs.Script.{ScriptLine, Datagram, Idle, LossNow, LossLater, End, AreLines, line_feed}
 use Rattle.script_lines.specs.Reading.{unread_of}
+use Rattle.std.specs.Prelude.{MatchResult, OnOk, OnErr}
+use Rattle.flash_traits.specs.declared.board.Event.{Event}
+use Rattle.flash_traits.specs.declared.board.Failed.{Failed}
+use Rattle.script_board.specs.Hearing.{HearsSo}
 use Rattle.script_board.specs.Taking.{Took, AreTaken, events_in, events_of}
 use Rattle.script_board.specs.Printing.{frame_line, frame_lines}
 use Rattle.script_board.specs.Marks.{marked}
@@ -26,7 +30,6 @@ still_output (Some Lost) new other is = cc
 still_output (Some (Refused line)) new other is = cc
 still_output (Some Input) new other is = cc
 still_output (Some Output) new other is = other refl
-
 
 module _ {S K : Type 0} (g : source.Ghosts S) (h : sink.Ghosts K) where
   -- nothing of the link changed
@@ -132,3 +135,61 @@ any_frames written n any =
     let one = (any (sent_frame 0 [] ∷ [])).count in
     let long : 1 ≤ length (frame_lines (sent_frame 0 [] ∷ [])) = omega arith in
     omega (arith, none, one, long)
+
+pub unread_by : (x y : List ℕ) (m n : ℕ) → x ≡ y → m ≡ n → unread_of x m ≡ unread_of y n
+unread_by x y m n same is = ap (λ (l : List ℕ). unread_of l m) same ∙ ap (unread_of y) is
+
+module _ {S K : Type 0} (g : source.Ghosts S) (h : sink.Ghosts K) (a b : ScriptBoard S K g h) where
+  -- a reception
+  pub lists_heard : (r : Result Event Failed) (buffer : List ℕ) (lost : Type 0) (lines : List ScriptLine) (count : ℕ) → Took g a.input.now b.input.now (unread_in a) (unread_in b) lines count
+      → b.taken ≡ raised_by count a.taken → HearsSo r buffer lost lines → b.out ≡ a.out → b.given ≡ a.given → (a.mark ≡ Some Output → b.mark ≡ Some Output)
+      → (e : List Received) (f : List SentFrame) → HasLists g h a e f → MatchResult r (λ event. HasLists g h b (e ++ link.received event buffer ∷ []) f) (λ x. HasLists g h b e f)
+  lists_heard r buffer lost lines count took taken hears out given mark e f had = by_result r hears
+    where
+      more : (x : List Received) → events_of lines ≡ x → HasLists g h b (e ++ x) f
+      more x events = record {
+        taken = λ told rest few. taken_more g a.input.now b.input.now (unread_in a) (unread_in b) a.taken b.taken count lines e x took taken few told rest events had.taken;
+        printed = λ no_output told few.
+            subst (λ o. HasPrinted (h.written o.now) b.given f) (sym out)
+            (subst (λ (n : ℕ). HasPrinted (h.written a.out.now) n f) (sym given)
+            (had.printed (λ is. no_output (mark is)) (subst (λ o. h.tells_written o.now) out told) (subst (λ (n : ℕ). n < 2 ^ 64 - 1) given few)));
+      }
+
+      by_result : (r : Result Event Failed) → HearsSo r buffer lost lines → MatchResult r (λ event. HasLists g h b (e ++ link.received event buffer ∷ []) f) (λ x. HasLists g h b e f)
+      by_result (Ok event) hears = more (link.received event buffer ∷ []) hears.0
+      by_result (Err x) hears = subst (λ (l : List Received). HasLists g h b l f) (append-nil e) (more [] hears.0)
+
+  -- a sending
+  pub lists_sent : (r : Result (Unit {0}) Failed) (x : SentFrame) → b.input ≡ a.input → unread_in b ≡ unread_in a → b.taken ≡ a.taken
+      → (h.tells_written b.out.now → h.tells_written a.out.now)
+      → (h.tells_written b.out.now → MatchResult r (λ done. h.written b.out.now ≡ h.written a.out.now ++ frame_line x) (λ failed. (count : ℕ) × (h.written b.out.now ≡ h.written a.out.now ++ take count (frame_line x))))
+      → OnOk r (b.given ≡ min (a.given + length (frame_line x)) (2 ^ 64 - 1)) → OnOk r (b.mark ≡ a.mark) → OnErr r (b.mark ≡ Some Output)
+      → (e : List Received) (f : List SentFrame) → HasLists g h a e f → MatchResult r (λ done. HasLists g h b e (f ++ x ∷ [])) (λ failed. HasLists g h b e f ⊎ HasLists g h b e (f ++ x ∷ []))
+  lists_sent r x input unread taken told written given unmarked marked e f had = by_result r written given unmarked marked
+    where
+      events : g.tells_given b.input.now → g.tells_rest b.input.now → b.taken < 2 ^ 64 - 1 → HasTaken (g.given b.input.now) (g.rest b.input.now) (unread_in b) b.taken e
+      events told rest few =
+          subst (λ i. HasTaken (g.given i.now) (g.rest i.now) (unread_in b) b.taken e) (sym input)
+          (subst (λ (u : List ℕ). HasTaken (g.given a.input.now) (g.rest a.input.now) u b.taken e) (sym unread)
+          (subst (λ (n : ℕ). HasTaken (g.given a.input.now) (g.rest a.input.now) (unread_in a) n e) (sym taken)
+          (had.taken (subst (λ i. g.tells_given i.now) input told) (subst (λ i. g.tells_rest i.now) input rest) (subst (λ (n : ℕ). n < 2 ^ 64 - 1) taken few))))
+
+      by_result : (r : Result (Unit {0}) Failed)
+          → (h.tells_written b.out.now → MatchResult r (λ done. h.written b.out.now ≡ h.written a.out.now ++ frame_line x) (λ failed. (count : ℕ) × (h.written b.out.now ≡ h.written a.out.now ++ take count (frame_line x))))
+          → OnOk r (b.given ≡ min (a.given + length (frame_line x)) (2 ^ 64 - 1)) → OnOk r (b.mark ≡ a.mark) → OnErr r (b.mark ≡ Some Output)
+          → MatchResult r (λ done. HasLists g h b e (f ++ x ∷ [])) (λ failed. HasLists g h b e f ⊎ HasLists g h b e (f ++ x ∷ []))
+      by_result (Ok done) written given unmarked marked = record {
+        taken = events;
+        printed = λ no_output tell few. printed_more (h.written a.out.now) a.given b.given f x given few (had.printed (λ is. no_output (unmarked ∙ is)) (told tell)) (h.written b.out.now) (written tell);
+      }
+      by_result (Err failed) written given unmarked marked = inl (record { taken = events; printed = λ no_output tell few. absurd (no_output marked) })
+
+  -- an attach, after which the lists begin anew
+  pub lists_anew : (unread_in b ≡ []) → (b.taken < 2 ^ 64 - 1 → a.taken < 2 ^ 64 - 1) → (b.given < 2 ^ 64 - 1 → a.given < 2 ^ 64 - 1) → b.input ≡ a.input → b.out ≡ a.out → b.mark ≡ a.mark
+      → ((e : List Received) (f : List SentFrame) → HasLists g h a e f) → (e : List Received) (f : List SentFrame) → HasLists g h b e f
+  lists_anew none taken given input out mark any e f = record {
+    taken = λ told rest few. absurd (any_events (g.given a.input.now) (g.rest a.input.now) (unread_in a) a.taken
+        (λ l. (any l []).taken (subst (λ i. g.tells_given i.now) input told) (subst (λ i. g.tells_rest i.now) input rest) (taken few)));
+    printed = λ no_output told few. absurd (any_frames (h.written a.out.now) a.given
+        (λ l. (any [] l).printed (λ is. no_output (mark ∙ is)) (subst (λ o. h.tells_written o.now) out told) (given few)));
+  }

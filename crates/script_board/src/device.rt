@@ -78,6 +78,7 @@ impl<'a, S: Source, K: Sink> Board for ScriptBoard<'a, S, K> {
 
     fn erase(&mut self, region: Region) -> Result<(), Failed> {
         self.moment[1] = self.moment[1].saturating_add(1);
+        image::has_shape(&self.image, self.geometry.sector_bytes);
         match self.erase_or_lose(region) {
             Ok(()) => Ok(()),
             Err(failed) => {

@@ -33,7 +33,7 @@ impl<'a, S: Source, K: Sink> ScriptBoard<'a, S, K> {
     ghost use Rattle.script_board.specs.Taking.{Took};
     ghost use Rattle.script_board.specs.Hearing.{lines_of, waiting_after, IsRefused, HearsSo, loses};
     ghost use Rattle.script_board.specs.Boards.{unread_in, hears, OnlyScript};
-    ghost use Rattle.script_board.specs.declared.board.ScriptMark.TheVariants.{Lost, Input, Refused};
+    ghost use Rattle.script_board.specs.declared.board.ScriptMark.TheVariants.{Lost, Refused, Output};
 
     /// Refuses the next line.
     fn refuse(&mut self) -> Failed
@@ -74,6 +74,7 @@ impl<'a, S: Source, K: Sink> ScriptBoard<'a, S, K> {
             (S.tells_rest self.new.input.now) (S.rest self.new.input.now)) }
         ensures unmarked { OnOk result (self.new.mark ≡ self.old.mark) }
         ensures marked { OnErr result (slice_index self.old.faults 3 ≡ 0 → IsSome self.new.mark) }
+        ensures output { self.old.mark ≡ Some Output → self.new.mark ≡ Some Output }
         ensures cause { HasOneCause (hears S.Source self.old) (hears S.Source self.new) result }
         ensures others { OnlyScript self.old self.new }
     {
@@ -136,6 +137,7 @@ impl<'a, S: Source, K: Sink> ScriptBoard<'a, S, K> {
         ensures last { result ≡ Ok Event.End → self.new.waiting.items ≡ [] }
         ensures unmarked { OnOk result (self.new.mark ≡ self.old.mark) }
         ensures marked { OnErr result (slice_index self.old.faults 3 ≡ 0 → IsSome self.new.mark) }
+        ensures output { self.old.mark ≡ Some Output → self.new.mark ≡ Some Output }
         ensures cause { HasOneCause (hears S.Source self.old) (hears S.Source self.new) result }
         ensures others { OnlyScript self.old self.new }
     {
