@@ -1,0 +1,9 @@
+pub mod Image
+pub mod Waiting
+pub mod Printing
+pub mod Taking
+pub mod Marks
+pub mod Boards
+pub mod Hearing
+pub mod Lists
+pub mod Shape
