@@ -10,6 +10,7 @@ use std::alloc::Global;
 use std::test::Fail;
 use vehicle_node::{Node, NodeError};
 
+mod arming;
 mod boot;
 mod noise;
 mod prefixes;

@@ -1,10 +1,11 @@
 -- A node opened: the lines of boot are issued and put; and closed: all pending lines are put.
 use Rattle.std.proofs.Common.{◌≡◌, ◌≢◌, inl, ℕ, ◌+◌, ◌*◌, ◌-◌, ◌^◌, ◌<◌, ◌≤◌, min, Bool, true, false, cond, List, [], ◌++◌, length, get_or, take, drop, refl, sym, ◌∙◌, ap, subst, arith, append-nil, append_assoc, Some, Result, Ok, Err}
-use Rattle.std.specs.Prelude.{◌↔◌, ⊤, OnOk, IfErr, IfSome, IsTrue, if◌then◌else◌, map, slice_get}
+use Rattle.std.specs.Prelude.{◌↔◌, ⊤, OnOk, IfErr, IfSome, IsTrue, map, slice_get}
 use Rattle.std.specs.Str.{bytes_eq}
 use Rattle.std.proofs.lemmas.Option.{slice_get-get_or}
 use Rattle.std.proofs.lemmas.Slice.Eq.{bytes_eq-Decides}
 use Rattle.flash_traits.specs.Words.{Words}
+use Rattle.flash_traits.specs.Budget.{budget_of}
 use Rattle.flash_traits.specs.declared.board.Board.{Ghosts}
 use Rattle.flash_traits.specs.declared.board.Fault.{Fault}
 use Rattle.flash_traits.specs.Calls.{Passes, Changes}
@@ -35,18 +36,22 @@ use Rattle.sector_image.specs.FirstBad.{Place}
 use Rattle.block_store.specs.declared.OpenError.{OpenError}
 use Rattle.block_store.specs.declared.OpenError.TheVariants as open_error
 use Rattle.block_store.specs.Refusals.{OnOpenFault, OnOpenForeign, OnOpenWorn}
-use Rattle.block_store.specs.Store.{Store, State, Alone, Spilled, Spent, in_one_sector, in_both_sectors, durable_of, guard_in, guard_of, guard_ahead, is_alone}
+use Rattle.block_store.specs.Store.{Store, durable_of, guard_of, guard_ahead, is_alone}
 use Rattle.block_store.specs.Store as store
 use Rattle.dirty_lines.specs.Lines.{Lines, lines_of, current_of}
+use Rattle.dirty_lines.specs.Losses.{IsWornForNext}
+use Rattle.vehicle_core.specs.Vehicle.{is_armed}
 use Rattle.vehicle_node.specs.declared.NodeError.{NodeError}
 use Rattle.vehicle_node.specs.declared.NodeError.TheVariants as node_error
 use Rattle.vehicle_node.specs.Refusals.{OnFault, OnForeign, OnWorn}
+use Rattle.vehicle_node.specs.Frames.{Machine}
 use Rattle.vehicle_node.specs.Reading.{no_rests}
 use Rattle.vehicle_node.specs.Runs.{Run, BootStep, format_step, convert_step, boot_steps, boot, run_of}
 use Rattle.vehicle_node.specs.Guard.{CountsUpTo, RisesWithin}
 use Rattle.vehicle_node.specs.Safe.{Safe, SafeSince, Adds}
-use Rattle.vehicle_node.specs.Standing.{Node, Fits, IsAlone, StandsAt, StandsForRun, StaysWithin, counts, ceiling, raised_in}
-use Rattle.vehicle_node.specs.Steps.Answering.{Flushed, Flushing, FlushedAll, FlushDone}
+use Rattle.vehicle_node.specs.Standing.{Node, Fits, HasRoomSince, IsAlone, IsAloneUnlessArmed, StandsAt, StandsForRun, StaysWithin, armed_in, counts, ceiling, raised_in}
+use Rattle.vehicle_node.specs.Steps.Calls.{WornAlone}
+use Rattle.vehicle_node.specs.Steps.Answering.{OnlyPuts, Flushing, FlushedAll, FlushDone}
 use Rattle.vehicle_node.specs.Steps.Opening.{error_of, IsBooted}
 use Rattle.vehicle_node.proofs.RunLaws.{run_of_none, safe_by}
 use Rattle.vehicle_node.proofs.At.{current_is}
@@ -54,8 +59,9 @@ use Rattle.vehicle_node.proofs.ActAnswers.{counts_more}
 use Rattle.vehicle_node.proofs.Events.{since_put, rises_still}
 use Rattle.vehicle_node.proofs.Finishing.{Leaves}
 use Rattle.block_store.proofs.StoreLaws.{fits_stands, fits_guard}
-use Rattle.vehicle_node.proofs.Putting.{nothing_sent}
-use Rattle.vehicle_node.proofs.Passing.{going_on}
+use Rattle.vehicle_node.proofs.Putting.{guard_alone, nothing_sent}
+use Rattle.vehicle_node.proofs.Passing.{worn_more, going_on}
+use Rattle.std.proofs.lemmas.Result.{IfErr-weaker}
 
 boot_cases : (due begins : Bool) (x : List ℕ) (writes : List LineWrite) → ((due ≡ true) ↔ (x ≢ magic)) → (begins ≡ true → x ≡ magic) → (x ≡ magic → begins ≡ true) → cond due writes [] ≡ cond begins [] writes
 boot_cases true true x writes due is back = absurd (due.0 refl (is refl))
@@ -153,72 +159,79 @@ fault_at e error P is p = subst (λ (n : NodeError). OnFault n P) (sym is) (on_f
     on_fault (open_error.Worn count) P p = tt
 
 -- a prefix of the lines of boot is put
-safe_boot : (b : List ℕ) (put rest : List LineWrite) (words : Words) → put ++ rest ≡ boot b → Stands words (after b put) → Safe b [] [] 0 words
-safe_boot b put rest words split stands = record {
+safe_boot : (budget : ℕ) (b : List ℕ) (put rest : List LineWrite) (words : Words) → put ++ rest ≡ boot b → Stands words (after b put) → Safe budget b [] [] 0 words
+safe_boot budget b put rest words split stands = record {
   acts = [];
   rests = no_rests;
   reads = (refl, refl);
   count = inl refl;
-  finished = omega (arith, ap (λ (r : Run). length r.answers) (run_of_none b));
-  at = safe_by b (run_of b []) 0 [] words put rest tt (split ∙ sym (ap (λ (r : Run). r.issued) (run_of_none b))) (omega arith) stands;
+  finished = omega (arith, ap (λ (r : Run). length r.answers) (run_of_none budget b));
+  at = safe_by b (run_of budget b []) 0 [] words put rest tt (split ∙ sym (ap (λ (r : Run). r.issued) (run_of_none budget b))) (omega arith) stands;
 }
 
-pub since_boot : (b : List ℕ) (put rest : List LineWrite) (from o : Outcome) → put ++ rest ≡ boot b → Stands o.words (after b put) → o.events ≡ from.events → o.frames ≡ from.frames → SafeSince b [] [] 0 from o
-since_boot b put rest from o split stands events frames = record {
+pub since_boot : (budget : ℕ) (b : List ℕ) (put rest : List LineWrite) (from o : Outcome) → put ++ rest ≡ boot b → Stands o.words (after b put) → o.events ≡ from.events → o.frames ≡ from.frames → SafeSince budget b [] [] 0 from o
+since_boot budget b put rest from o split stands events frames = record {
   added_events = [];
   events_are = events ∙ sym (append-nil from.events);
   added_frames = [];
   frames_are = frames ∙ sym (append-nil from.frames);
-  safe = safe_boot b put rest o.words split stands;
+  safe = safe_boot budget b put rest o.words split stands;
 }
 
 -- all lines of boot are put
-pub all_put : (lines : Lines) (node last : Node) → IsBooted lines node → (w : Flushed (length node.lines.pending) node last) → last.lines.pending ≡ [] → w.put ≡ boot (durable_of lines.store)
-all_put lines node last booted w none = sym (append-nil w.put) ∙ ap (λ (l : List LineWrite). w.put ++ l) (sym none) ∙ w.split ∙ ap (λ (l : Lines). l.pending) booted.lines_are
+pub all_put : (budget : ℕ) (lines : Lines) (node last : Node) → IsBooted budget lines node → (w : OnlyPuts false node last) → last.lines.pending ≡ [] → w.put ≡ boot (durable_of lines.store)
+all_put budget lines node last booted w none = sym (append-nil w.put) ∙ ap (λ (l : List LineWrite). w.put ++ l) (sym none) ∙ w.split ∙ ap (λ (l : Lines). l.pending) booted.lines_are
 
-abbrev pub stands_booted : (lines : Lines) (node last : Node) → IsBooted lines node → Flushed (length node.lines.pending) node last → last.lines.pending ≡ [] → StandsForRun last (durable_of lines.store) [] [] 0
-stands_booted lines node last booted w none = record {
+abbrev pub stands_booted : (budget : ℕ) (lines : Lines) (node last : Node) → IsBooted budget lines node → OnlyPuts false node last → last.lines.pending ≡ [] → StandsForRun last (durable_of lines.store) [] [] 0
+stands_booted budget lines node last booted w none = record {
   acts = [];
   reads = (refl, w.rests ∙ booted.rests);
   finished = refl;
-  at = subst (λ (r : Run). StandsAt last (durable_of lines.store) r []) (sym (run_of_none (durable_of lines.store))) (record {
+  at = subst (λ (r : Run). StandsAt last (durable_of lines.store) r []) (sym (run_of_none last.budget (durable_of lines.store))) (record {
     machine = w.machine ∙ booted.machine;
     sent = tt;
     put = boot (durable_of lines.store);
     split = ap (λ (l : List LineWrite). boot (durable_of lines.store) ++ l) none ∙ append-nil (boot (durable_of lines.store));
-    durable = w.durable ∙ ap (λ (l : Lines). after (durable_of l.store) w.put) booted.lines_are ∙ ap (after (durable_of lines.store)) (all_put lines node last booted w none);
+    durable = w.durable ∙ ap (λ (l : Lines). after (durable_of l.store) w.put) booted.lines_are ∙ ap (after (durable_of lines.store)) (all_put budget lines node last booted w none);
     enough = omega arith;
     frame_count = w.frame_count ∙ booted.frames;
     line_count = w.line_count ∙ booted.issued;
   });
 }
 
+-- a node that was opened fits its board, and isn't armed
+pub booted_fits : {B : Type 0} (g : Ghosts B) (budget : ℕ) (lines : Lines) (node last : Node) (board : B) → IsBooted budget lines node → OnlyPuts false node last → store.Fits g board last.lines.store
+    → budget ≡ budget_of (g.sector_bytes board) → Fits g board last
+booted_fits g budget lines node last board booted w fits is = record {
+  store = fits;
+  budget = w.budget ∙ booted.budget_is ∙ is;
+  armed = subst (λ (m : Machine). IfSome m.vehicle.armed (HasRoomSince last)) (sym (w.machine ∙ booted.machine)) tt;
+}
+
+pub booted_unarmed : (budget : ℕ) (lines : Lines) (node last : Node) → IsBooted budget lines node → OnlyPuts false node last → armed_in last ≡ false
+booted_unarmed budget lines node last booted w = ap (λ (m : Machine). is_armed m.vehicle) (w.machine ∙ booted.machine)
+
 -- what a loss leaves before anything was received
-rises_boot : (count : ℕ) (b : List ℕ) (from o : Outcome) (n : ℕ) → n ≤ count + 2 + 2 * length (boot b) → o.events ≡ from.events → CountsUpTo n o.words.guard → RisesWithin count b [] from o
-rises_boot count b from o n le events guard = record {
+rises_boot : (budget count : ℕ) (b : List ℕ) (from o : Outcome) (n : ℕ) → n ≤ count + 2 + 2 * length (boot b) → o.events ≡ from.events → CountsUpTo n o.words.guard → RisesWithin budget count b [] from o
+rises_boot budget count b from o n le events guard = record {
   added_events = [];
   events_are = events ∙ sym (append-nil from.events);
   acts = [];
   rests = no_rests;
   reads = (refl, refl);
-  guard = subst (λ (r : Run). CountsUpTo (raised_in count r) o.words.guard) (sym (run_of_none b)) (counts_more n (count + 2 + 2 * length (boot b)) o.words.guard le guard);
+  guard = subst (λ (r : Run). CountsUpTo (raised_in count r) o.words.guard) (sym (run_of_none budget b)) (counts_more n (count + 2 + 2 * length (boot b)) o.words.guard le guard);
 }
 
-guard_alone : (state : State) → IsTrue (in_one_sector state) → guard_in state + (if in_both_sectors state then 2 else 0) ≡ guard_in state
-guard_alone (Alone kept) is = omega arith
-guard_alone (Spilled kept) is = cc
-guard_alone Spent is = cc
-
 module _ {B : Type 0} (g : Ghosts B) (reads : (b : B) (o : Outcome) → g.now b o → g.tells b × (o.words ≡ g.words b)) (old mid : B) (changes : Changes g old mid (KeepsBytes 2) (KeepsBytes 2))
-    (b : List ℕ) (told : g.tells old → Stands (g.words old) b) where
+    (budget : ℕ) (b : List ℕ) (told : g.tells old → Stands (g.words old) b) where
   -- while the store is opened
-  pub open_losses : Passes g old mid (SafeSince b [] [] 0) (SafeSince b [] [] 0)
-  open_losses = weaker (SafeSince b [] [] 0) (SafeSince b [] [] 0) (elapses_of g changes) kept kept
+  pub open_losses : Passes g old mid (SafeSince budget b [] [] 0) (SafeSince budget b [] [] 0)
+  open_losses = weaker (SafeSince budget b [] [] 0) (SafeSince budget b [] [] 0) (elapses_of g changes) kept kept
     where
-      kept : (s o : Outcome) → g.now old s → OnWords (KeepsBytes 2) s o → SafeSince b [] [] 0 s o
+      kept : (s o : Outcome) → g.now old s → OnWords (KeepsBytes 2) s o → SafeSince budget b [] [] 0 s o
       kept s o is x =
           let tell = reads old s is in
-          since_boot b [] (boot b) s o refl (x.words.bytes b (subst (λ (w : Words). Stands w b) (sym tell.1) (told tell.0))) x.events x.frames
+          since_boot budget b [] (boot b) s o refl (x.words.bytes b (subst (λ (w : Words). Stands w b) (sym tell.1) (told tell.0))) x.events x.frames
 
   open_here : (o : Outcome) → g.now mid o → After (g.now old) (Adds [] []) o
   open_here = (nothing_sent g changes).here
@@ -228,13 +241,13 @@ module _ {B : Type 0} (g : Ghosts B) (reads : (b : B) (o : Outcome) → g.now b 
     same_bytes tells = one_value (g.words old) (durable_of lines.store) b (stands tells) (told (changes.told tells))
 
     -- while the lines of boot are put
-    pub boot_losses : (node : Node) → IsBooted lines node → (n : ℕ) (result : Result ⊤ NodeError) (last : Node) (new : B) → FlushDone g n node mid result last new → Passes g old new (SafeSince b [] [] 0) (SafeSince b [] [] 0)
-    boot_losses node booted n result last new f = going_on g (SafeSince b [] [] 0) [] [] open_losses open_here f.losses put
+    pub boot_losses : (taken : ℕ) (node : Node) → IsBooted taken lines node → (n : ℕ) (result : Result ⊤ NodeError) (last : Node) (new : B) → FlushDone g n false node mid result last new → Passes g old new (SafeSince budget b [] [] 0) (SafeSince budget b [] [] 0)
+    boot_losses taken node booted n result last new f = going_on g (SafeSince budget b [] [] 0) [] [] open_losses open_here f.losses put
       where
-        put : (s m o : Outcome) → g.now old s → g.now mid m → Adds [] [] s m → Flushing node m o → SafeSince b [] [] 0 s o
+        put : (s m o : Outcome) → g.now old s → g.now mid m → Adds [] [] s m → Flushing node m o → SafeSince budget b [] [] 0 s o
         put s m o was is adds x =
             let same = same_bytes (reads mid m is).0 in
-            since_boot b x.put x.rest s o
+            since_boot budget b x.put x.rest s o
             (x.split ∙ ap (λ (l : Lines). l.pending) booted.lines_are ∙ ap boot same)
             (subst (λ (l : List ℕ). Stands o.words (after l x.put)) (ap (λ (l : Lines). durable_of l.store) booted.lines_are ∙ same) x.stands)
             (x.events ∙ adds.events_are ∙ append-nil s.events)
@@ -242,20 +255,20 @@ module _ {B : Type 0} (g : Ghosts B) (reads : (b : B) (o : Outcome) → g.now b 
 
 -- the guard count at an opening
 module _ {B : Type 0} (g : Ghosts B) (reads : (b : B) (o : Outcome) → g.now b o → g.tells b × (o.words ≡ g.words b)) (old mid : B) (changes : Changes g old mid (KeepsBytes 2) (KeepsBytes 2))
-    (count : ℕ) (b : List ℕ) (told : g.tells old → IsGuardRow (g.words old).guard count × Stands (g.words old) b) where
+    (budget count : ℕ) (b : List ℕ) (told : g.tells old → IsGuardRow (g.words old).guard count × Stands (g.words old) b) where
   raised_by_two : (u w : Words) → IsGuardRow u.guard count → KeepsBytes 2 u w → CountsUpTo (count + 2) w.guard
   raised_by_two u w row keeps = let x = keeps.guard count row in (x.0, x.1, x.3)
 
-  pub open_rises : Passes g old mid (RisesWithin count b []) (RisesWithin count b [])
-  open_rises = weaker (RisesWithin count b []) (RisesWithin count b []) (elapses_of g changes) kept kept
+  pub open_rises : Passes g old mid (RisesWithin budget count b []) (RisesWithin budget count b [])
+  open_rises = weaker (RisesWithin budget count b []) (RisesWithin budget count b []) (elapses_of g changes) kept kept
     where
-      kept : (s o : Outcome) → g.now old s → OnWords (KeepsBytes 2) s o → RisesWithin count b [] s o
+      kept : (s o : Outcome) → g.now old s → OnWords (KeepsBytes 2) s o → RisesWithin budget count b [] s o
       kept s o is x =
           let tell = reads old s is in
-          rises_boot count b s o (count + 2) (omega arith) x.events
+          rises_boot budget count b s o (count + 2) (omega arith) x.events
           (raised_by_two s.words o.words (subst (λ (w : Words). IsGuardRow w.guard count) (sym tell.1) (told tell.0).0) x.words)
 
-  module _ (lines : Lines) (fits : store.Fits g mid lines.store) (alone : IsTrue (is_alone lines.store)) (stands : g.tells mid → Stands (g.words old) (durable_of lines.store)) (node : Node) (booted : IsBooted lines node) where
+  module _ (lines : Lines) (fits : store.Fits g mid lines.store) (alone : IsTrue (is_alone lines.store)) (stands : g.tells mid → Stands (g.words old) (durable_of lines.store)) (taken : ℕ) (node : Node) (booted : IsBooted taken lines node) where
     -- what the lines of boot may raise it to
     pub boot_ceiling : g.tells mid → ceiling node ≤ count + 2 + 2 * length (boot b)
     boot_ceiling tells =
@@ -267,33 +280,42 @@ module _ {B : Type 0} (g : Ghosts B) (reads : (b : B) (o : Outcome) → g.now b 
         subst (λ (l : Lines). guard_ahead l.store + 2 * length l.pending ≤ count + 2 + 2 * length (boot b)) (sym booted.lines_are)
         (omega (arith, risen.2, now, ahead, ap (λ (l : List ℕ). length (boot l)) same))
 
-    pub boot_rises : (n : ℕ) (result : Result ⊤ NodeError) (last : Node) (new : B) → FlushDone g n node mid result last new → Passes g old new (RisesWithin count b []) (RisesWithin count b [])
+    pub boot_rises : (n : ℕ) (result : Result ⊤ NodeError) (last : Node) (new : B) → FlushDone g n false node mid result last new → Passes g old new (RisesWithin budget count b []) (RisesWithin budget count b [])
     boot_rises n result last new f =
-        going_on g (RisesWithin count b []) [] [] open_rises (nothing_sent g changes).here f.losses
-        (λ s m o was is adds x. rises_boot count b s o (ceiling node) (boot_ceiling (reads mid m is).0) (x.events ∙ adds.events_are ∙ append-nil s.events) x.guard)
+        going_on g (RisesWithin budget count b []) [] [] open_rises (nothing_sent g changes).here f.losses
+        (λ s m o was is adds x. rises_boot budget count b s o (ceiling node) (boot_ceiling (reads mid m is).0) (x.events ∙ adds.events_are ∙ append-nil s.events) x.guard)
 
-    pub boot_within : (last : Node) → Flushed (length node.lines.pending) node last → last.lines.pending ≡ [] → g.tells mid → StaysWithin count last b [] [] 0
+    pub boot_within : (last : Node) → OnlyPuts false node last → last.lines.pending ≡ [] → g.tells mid → StaysWithin count last b [] [] 0
     boot_within last w none tells =
         let same : durable_of lines.store ≡ b = one_value (g.words old) (durable_of lines.store) b (stands tells) (told (changes.told tells)).1 in
         subst (λ (l : List ℕ). StaysWithin count last l [] [] 0) same (record {
-          run = stands_booted lines node last booted w none;
-          ahead = subst (λ (r : Run). ceiling last ≤ raised_in count r) (sym (run_of_none (durable_of lines.store)))
+          run = stands_booted taken lines node last booted w none;
+          ahead = subst (λ (r : Run). ceiling last ≤ raised_in count r) (sym (run_of_none last.budget (durable_of lines.store)))
               (omega (arith, w.ahead, boot_ceiling tells, ap (λ (l : List ℕ). length (boot l)) same));
         })
 
 -- all pending lines are put
-pub closed : {B : Type 0} (g : Ghosts B) (node last : Node) (new : B) → Flushed (length node.lines.pending) node last → last.lines.pending ≡ [] → Fits g new last → g.tells new
+pub closed : {B : Type 0} (g : Ghosts B) (armed : Bool) (node last : Node) (new : B) → OnlyPuts armed node last → last.lines.pending ≡ [] → store.Fits g new last.lines.store → g.tells new
     → (b : List ℕ) (r : Run) (sent : List SentFrame) → StandsAt node b r sent → Stands (g.words new) (after b r.issued)
-closed g node last new w none fits tells b r sent at =
+closed g armed node last new w none fits tells b r sent at =
     let whole : w.put ≡ node.lines.pending = sym (append-nil w.put) ∙ ap (λ (l : List LineWrite). w.put ++ l) (sym none) ∙ w.split in
-    subst (Stands (g.words new)) (w.durable ∙ ap (after (durable_of node.lines.store)) whole ∙ current_is node b r sent at) (fits_stands g new last.lines.store fits.store tells)
+    subst (Stands (g.words new)) (w.durable ∙ ap (after (durable_of node.lines.store)) whole ∙ current_is node b r sent at) (fits_stands g new last.lines.store fits tells)
 
-pub closed_at : {B : Type 0} (g : Ghosts B) (result : Result ⊤ NodeError) (node : Node) (board : B) (last : Node) (new : B) → FlushDone g (length node.lines.pending) node board result last new → OnOk result (last.lines.pending ≡ []) → OnOk result (Fits g new last)
+pub closed_at : {B : Type 0} (g : Ghosts B) (armed : Bool) (result : Result ⊤ NodeError) (node : Node) (board : B) (last : Node) (new : B) → FlushDone g (length node.lines.pending) armed node board result last new
+    → OnOk result (last.lines.pending ≡ []) → OnOk result (store.Fits g new last.lines.store)
     → OnOk result (g.tells new → (b : List ℕ) (r : Run) (sent : List SentFrame) → StandsAt node b r sent → Stands (g.words new) (after b r.issued))
-closed_at g (Ok v) node board last new f none fits =
-    let w : FlushedAll g (length node.lines.pending) node board last new = f.done in
-    closed g node last new w.flushed none fits
-closed_at g (Err e) node board last new f none fits = tt
+closed_at g armed (Ok v) node board last new f none fits =
+    let w : FlushedAll g (length node.lines.pending) armed node board last new = f.done in
+    closed g armed node last new w.flushed.puts none fits
+closed_at g armed (Err e) node board last new f none fits = tt
+
+-- where the flush of a closing finds the guard row used up, the vehicle isn't armed
+pub closed_worn : {B : Type 0} (g : Ghosts B) (armed : Bool) (node last : Node) (new : B) (r : Result ⊤ NodeError) → armed ≡ armed_in node → IfErr r (WornAlone g armed node last new)
+    → IfErr r (λ e. OnWorn e (λ count. IsAloneUnlessArmed node → (lines : Lines) × IsWornForNext g new lines))
+closed_worn g armed node last new r is worn =
+    IfErr-weaker r (WornAlone g armed node last new) (λ e. OnWorn e (λ count. IsAloneUnlessArmed node → (lines : Lines) × IsWornForNext g new lines))
+    (λ e worn. worn_more e ((armed ≡ false) × (IsAlone node → IsWornForNext g new last.lines)) (IsAloneUnlessArmed node → (lines : Lines) × IsWornForNext g new lines)
+    (λ w unless. (last.lines, w.1 (unless (sym is ∙ w.0)))) worn) worn
 
 -- what a loss leaves while lines are put
 pub flushing_leaves : (node : Node) (s o : Outcome) → Flushing node s o → Leaves node s o
@@ -321,19 +343,5 @@ worn_anyway (node_error.Fault kind) Q all = tt
 worn_anyway (node_error.Foreign region offset word) Q all = tt
 worn_anyway (node_error.Worn count) Q all = all count
 
-pub booted_alone : (lines : Lines) (node : Node) → IsBooted lines node → IsTrue (is_alone lines.store) → IsAlone node
-booted_alone lines node booted alone = subst (λ (l : Lines). IsTrue (is_alone l.store)) (sym booted.lines_are) alone
-
--- where a premise holds, and as a weaker claim
-pub worn_from : (e : NodeError) (P W V : Type 0) → (W → V) → P → OnWorn e (λ count. P → W) → OnWorn e (λ count. V)
-worn_from node_error.Memory P W V more p worn = tt
-worn_from (node_error.Fault kind) P W V more p worn = tt
-worn_from (node_error.Foreign region offset word) P W V more p worn = tt
-worn_from (node_error.Worn count) P W V more p worn = more (worn p)
-
-pub some_lines : (r : Result ⊤ NodeError) (P : Type 0) (W : Lines → Type 0) (lines : Lines) → IfErr r (λ e. OnWorn e (λ count. P → W lines)) → IfErr r (λ e. OnWorn e (λ count. P → (l : Lines) × W l))
-some_lines (Ok v) P W lines worn = tt
-some_lines (Err node_error.Memory) P W lines worn = tt
-some_lines (Err (node_error.Fault kind)) P W lines worn = tt
-some_lines (Err (node_error.Foreign region offset word)) P W lines worn = tt
-some_lines (Err (node_error.Worn count)) P W lines worn = λ p. (lines, worn p)
+pub booted_alone : (budget : ℕ) (lines : Lines) (node : Node) → IsBooted budget lines node → IsTrue (is_alone lines.store) → IsAlone node
+booted_alone budget lines node booted alone = subst (λ (l : Lines). IsTrue (is_alone l.store)) (sym booted.lines_are) alone

@@ -1,29 +1,34 @@
 -- One event, from its reception to the flush at its end.
-use Rattle.std.proofs.Common.{◌≡◌, inl, inr, ℕ, ◌+◌, ◌*◌, ◌≤◌, List, [], ◌∷◌, ◌++◌, length, refl, sym, ◌∙◌, ap, subst, arith, append_assoc, append-nil, length-append, Result, Ok, Err, Option, Some, None}
+use Rattle.std.proofs.Common.{◌≡◌, ◌⊎◌, inl, inr, Bool, true, false, ℕ, ◌+◌, ◌*◌, ◌≤◌, List, [], ◌∷◌, ◌++◌, length, refl, sym, ◌∙◌, ap, subst, arith, append_assoc, append-nil, length-append, Result, Ok, Err, Option, Some, None}
 use Rattle.std.specs.Prelude.{◌↔◌, ⊤, IsErr, option_to_list}
 use Rattle.flash_traits.specs.declared.board.Board.{Ghosts}
 use Rattle.flash_traits.specs.declared.board.Event.{Event}
 use Rattle.flash_traits.specs.declared.board.Event.TheVariants as event
 use Rattle.flash_traits.specs.Calls.{Passes}
-use Rattle.flash_traits.specs.Losses.{Received, received, IsEventInRange, End, after_recv, ByResult, SentFrame, Outcome, After, Unchanged, Receives, Either}
+use Rattle.flash_traits.specs.Losses.{Received, received, IsEventInRange, End, Moment, after_recv, ByResult, SentFrame, Outcome, After, Unchanged, Receives, Either}
 use Rattle.flash_traits.proofs.Moments.{weaker}
 use Rattle.storage_lines.specs.declared.lines.LineWrite.{LineWrite}
+use Rattle.block_store.specs.Store as store
+use Rattle.dirty_lines.specs.Losses.{IsWornForNext}
+use Rattle.vehicle_core.specs.Vehicle.{is_armed}
 use Rattle.vehicle_node.specs.declared.NodeError.{NodeError}
 use Rattle.vehicle_node.specs.declared.Turn.{Turn}
 use Rattle.vehicle_node.specs.declared.Turn.TheVariants as turn
+use Rattle.vehicle_node.specs.Frames.{Machine}
 use Rattle.vehicle_node.specs.Guard.{RisesWithin}
 use Rattle.vehicle_node.specs.Reading.{IsEvent}
 use Rattle.vehicle_node.specs.Runs.{Run, all_acts, run_of}
 use Rattle.vehicle_node.specs.Safe.{SafeSince, Adds}
-use Rattle.vehicle_node.specs.Standing.{Node, Fits, StandsForRun, StaysWithin, Finished, ceiling, raised_in}
-use Rattle.vehicle_node.specs.Steps.Calls.{MaySend}
+use Rattle.vehicle_node.specs.Standing.{Node, IsAlone, IsAloneUnlessArmed, StandsForRun, StaysWithin, Finished, WasArmed, armed_in, ceiling, raised_in}
+use Rattle.vehicle_node.specs.Steps.Calls.{MaySend, WornAlone, WornWhere}
 use Rattle.vehicle_node.specs.Steps.Answering.{Flushing, FlushedAll, FlushDone}
-use Rattle.vehicle_node.specs.Steps.Hearing.{StandsBelow, SafeTaken, TakenAll, TakeDone}
+use Rattle.vehicle_node.specs.Steps.Hearing.{StandsBelow, SafeTaken, ArmedTaking, TakenAll, TakeDone}
 use Rattle.vehicle_node.specs.Laws.{FramesAreRead, IsInRange}
 use Rattle.vehicle_node.proofs.RunLaws.{run_of_push}
+use Rattle.vehicle_node.proofs.Orders.{throughout_last}
 use Rattle.vehicle_node.proofs.Putting.{now_stands, now_within}
 use Rattle.vehicle_node.proofs.ActAnswers.{counts_more}
-use Rattle.vehicle_node.proofs.Passing.{adds_none, going_on, ending, adds_both}
+use Rattle.vehicle_node.proofs.Passing.{worn_more, adds_none, going_on, ending, adds_both}
 use Rattle.vehicle_node.proofs.ActsDone.{below_then}
 use Rattle.vehicle_node.proofs.Events.{since_still, since_taking, received_taking, since_flushing, since_finished, stands_for_more, rises_still, rises_event}
 
@@ -34,23 +39,23 @@ received_in_range event.End buffer in_range = tt
 
 -- What a loss leaves of a node inside an event or while it is closed: of whatever run it stood for.
 pub record Leaves (node : Node) (from o : Outcome) : Type 0 where
-  pub since : (b : List ℕ) (events : List Received) (sent : List SentFrame) (m : ℕ) → StandsForRun node b events sent m → SafeSince b events sent m from o
-  pub rises : (count : ℕ) (b : List ℕ) (events : List Received) (sent : List SentFrame) (m : ℕ) → StaysWithin count node b events sent m → RisesWithin count b events from o
+  pub since : (b : List ℕ) (events : List Received) (sent : List SentFrame) (m : ℕ) → StandsForRun node b events sent m → SafeSince node.budget b events sent m from o
+  pub rises : (count : ℕ) (b : List ℕ) (events : List Received) (sent : List SentFrame) (m : ℕ) → StaysWithin count node b events sent m → RisesWithin node.budget count b events from o
 
 -- the run that a node stands for, with room for what is pending
-below_any : (node : Node) (b : List ℕ) (events : List Received) (sent : List SentFrame) (m : ℕ) → (s : StandsForRun node b events sent m) → StandsBelow (ceiling node) node b (run_of b s.acts) sent
+below_any : (node : Node) (b : List ℕ) (events : List Received) (sent : List SentFrame) (m : ℕ) → (s : StandsForRun node b events sent m) → StandsBelow (ceiling node) node b (run_of node.budget b s.acts) sent
 below_any node b events sent m s = record { at = s.at; ahead = omega arith }
 
-below_start : (count : ℕ) (node : Node) (b : List ℕ) (events : List Received) (sent : List SentFrame) (m : ℕ) → (s : StaysWithin count node b events sent m) → StandsBelow (count + 2) node b (run_of b s.run.acts) sent
+below_start : (count : ℕ) (node : Node) (b : List ℕ) (events : List Received) (sent : List SentFrame) (m : ℕ) → (s : StaysWithin count node b events sent m) → StandsBelow (count + 2) node b (run_of node.budget b s.run.acts) sent
 below_start count node b events sent m s = record { at = s.run.at; ahead = s.ahead }
 
 -- inside the next event
 taking_leaves : (node : Node) (event : Received) (s m o : Outcome) → Adds (event ∷ []) [] s m → SafeTaken event node m o → Leaves node s o
 taking_leaves node event s m o adds x = record {
   since = λ b events sent k stands.
-      since_taking node b events sent k stands (ceiling node) event s m o adds (x (ceiling node) b (run_of b stands.acts) sent (below_any node b events sent k stands));
+      since_taking node b events sent k stands (ceiling node) event s m o adds (x (ceiling node) b (run_of node.budget b stands.acts) sent (below_any node b events sent k stands));
   rises = λ count b events sent k within.
-      let y = x (count + 2) b (run_of b within.run.acts) sent (below_start count node b events sent k within) in
+      let y = x (count + 2) b (run_of node.budget b within.run.acts) sent (below_start count node b events sent k within) in
       rises_event node b events sent k within.run count event y.acts y.new_rests y.reads s o (y.inside.events_are ∙ adds.events_are) y.inside.guard;
 }
 
@@ -58,11 +63,11 @@ taking_leaves node event s m o adds x = record {
 split_twice : (put more mid last pending issued : List LineWrite) → put ++ mid ≡ pending ++ issued → more ++ last ≡ mid → (put ++ more) ++ last ≡ pending ++ issued
 split_twice put more mid last pending issued first second = append_assoc put more last ∙ ap (λ (l : List LineWrite). put ++ l) second ∙ first
 
-module _ {B : Type 0} (g : Ghosts B) (reads : (b : B) (o : Outcome) → g.now b o → g.tells b × (o.words ≡ g.words b)) (old : Node) (board : B) (fits : Fits g board old) where
+module _ {B : Type 0} (g : Ghosts B) (reads : (b : B) (o : Outcome) → g.now b o → g.tells b × (o.words ≡ g.words b)) (old : Node) (board : B) (fits : store.Fits g board old.lines.store) where
   pub leaves_still : (o : Outcome) → g.now board o → Leaves old o o
   leaves_still o is = record {
-    since = λ b events sent m stands. since_still old b events sent m stands o o (adds_none o) (now_stands g reads board old.lines.store fits.store o is);
-    rises = λ count b events sent m within. rises_still old b events sent m within.run count within.ahead o o refl (now_within g reads board old fits.store o is);
+    since = λ b events sent m stands. since_still old b events sent m stands o o (adds_none o) (now_stands g reads board old.lines.store fits o is);
+    rises = λ count b events sent m within. rises_still old b events sent m within.run count within.ahead o o refl (now_within g reads board old fits o is);
   }
 
   -- the reception failed
@@ -90,10 +95,10 @@ module _ {B : Type 0} (g : Ghosts B) (reads : (b : B) (o : Outcome) → g.now b 
             since = λ b events sent m stands.
                 since_taking old b events sent m stands (ceiling old) got s (got_now s) (got_now s) (got_adds s)
                 (received_taking old b events sent m stands read (ceiling old) got in_range (below_any old b events sent m stands) (got_now s)
-                (now_stands g reads board old.lines.store fits.store s is) (now_within g reads board old fits.store s is));
+                (now_stands g reads board old.lines.store fits s is) (now_within g reads board old fits s is));
             rises = λ count b events sent m within.
                 let y = received_taking old b events sent m within.run read (count + 2) got in_range (below_start count old b events sent m within) (got_now s)
-                (now_stands g reads board old.lines.store fits.store s is) (now_within g reads board old fits.store s is) in
+                (now_stands g reads board old.lines.store fits s is) (now_within g reads board old fits s is) in
                 rises_event old b events sent m within.run count got y.acts y.new_rests y.reads s (got_now s) refl y.inside.guard;
           })
     ]
@@ -122,20 +127,35 @@ module _ {B : Type 0} (g : Ghosts B) (reads : (b : B) (o : Outcome) → g.now b 
       flushing : (s m o : Outcome) → Adds (got ∷ []) all.answered.frames s m → Flushing mid m o → Leaves old s o
       flushing s m o adds a = record {
         since = λ b events sent k stands.
-            since_flushing old b events sent k stands got all.acts mid all.answered.frames all.reads (all.answered.stands b (run_of b stands.acts) sent stands.at) s m o adds a;
+            since_flushing old b events sent k stands got all.acts mid all.answered.frames all.reads (all.answered.stands b (run_of old.budget b stands.acts) sent stands.at) s m o adds a;
         rises = λ count b events sent k within.
-            let below = below_then g (count + 2) old next all.acts mid between b (run_of b within.run.acts) sent all.answered (below_start count old b events sent k within) in
+            let below = below_then g (count + 2) old next all.acts mid between b (run_of old.budget b within.run.acts) sent all.answered (below_start count old b events sent k within) in
             rises_event old b events sent k within.run count got all.acts mid.rests all.reads s o (a.events ∙ adds.events_are)
-            (counts_more (ceiling mid) (count + 2 + 2 * length (all_acts b (run_of b within.run.acts) all.acts).issued) o.words.guard below.ahead a.guard);
+            (counts_more (ceiling mid) (count + 2 + 2 * length (all_acts old.budget b (run_of old.budget b within.run.acts) all.acts).issued) o.words.guard below.ahead a.guard);
       }
 
-      pub flushed_leaves : (n : ℕ) (result : Result ⊤ NodeError) (new : Node) (last : B) → FlushDone g n mid between result new last → Passes g board last (Leaves old) (Leaves old)
-      flushed_leaves n result new last f =
+      pub flushed_leaves : (n : ℕ) (armed : Bool) (result : Result ⊤ NodeError) (new : Node) (last : B) → FlushDone g n armed mid between result new last → Passes g board last (Leaves old) (Leaves old)
+      flushed_leaves n armed result new last f =
           going_on g (Leaves old) (got ∷ []) all.answered.frames (taken_leaves (Ok tt) mid between d) taken_here f.losses (λ s m o was is adds a. flushing s m o adds a)
 
-      module _ (n : ℕ) (eight : 8 ≤ n) (new : Node) (last : B) (f : FlushDone g n mid between (Ok tt) new last) where
-        w : FlushedAll g n mid between new last
+      -- where the flush at the end finds the guard row used up
+      pub flushed_worn : (P : Type 0) (armed : Bool) → armed ≡ armed_in mid → (new : Node) (last : B) (e : NodeError) → WornAlone g armed mid new last e → WornWhere g old P new last e
+      flushed_worn P armed is new last e worn =
+          worn_more e ((armed ≡ false) × (IsAlone mid → IsWornForNext g last new.lines)) (IsAloneUnlessArmed old → IsWornForNext g last new.lines ⊎ P)
+          (λ w unless. inl (w.1 (all.answered.alone unless (sym is ∙ w.0)))) worn
+
+      pub alone_at_end : (n : ℕ) (armed : Bool) → armed ≡ armed_in mid → (new : Node) (last : B) → FlushDone g n armed mid between (Ok tt) new last → IsAloneUnlessArmed old → IsAloneUnlessArmed new
+      alone_at_end n armed is new last f unless not =
+          let w : FlushedAll g n armed mid between new last = f.done in
+          let same : armed_in mid ≡ false = sym (ap (λ (m : Machine). is_armed m.vehicle) w.flushed.puts.machine) ∙ not in
+          w.flushed.puts.alone (is ∙ same) (all.answered.alone unless same)
+
+      module _ (n : ℕ) (armed : Bool) (eight : 8 ≤ n) (new : Node) (last : B) (f : FlushDone g n armed mid between (Ok tt) new last) where
+        w : FlushedAll g n armed mid between new last
         w = f.done
+
+        budget_is : new.budget ≡ old.budget
+        budget_is = w.flushed.puts.budget ∙ all.answered.budget
 
         flushed_here : (o : Outcome) → g.now last o → After (g.now board) (Adds (got ∷ []) all.answered.frames) o
         flushed_here o is =
@@ -144,62 +164,71 @@ module _ {B : Type 0} (g : Ghosts B) (reads : (b : B) (o : Outcome) → g.now b 
 
         abbrev done_stands : (b : List ℕ) (events : List Received) (sent : List SentFrame) (m : ℕ) → StandsForRun old b events sent m → StandsForRun new b (events ++ got ∷ []) (sent ++ all.answered.frames) (m + 1)
         done_stands b events sent m stands =
-            stands_for_more old b events sent m stands got all.acts mid all.answered.frames new all.reads (all.answered.stands b (run_of b stands.acts) sent stands.at) n eight w.flushed
+            stands_for_more old b events sent m stands got all.acts mid all.answered.frames new all.reads (all.answered.stands b (run_of old.budget b stands.acts) sent stands.at) n armed eight w.flushed budget_is
 
         done_within : (count : ℕ) (b : List ℕ) (events : List Received) (sent : List SentFrame) (m : ℕ) → StaysWithin count old b events sent m → StaysWithin count new b (events ++ got ∷ []) (sent ++ all.answered.frames) (m + 1)
         done_within count b events sent m s =
-            let below = below_then g (count + 2) old next all.acts mid between b (run_of b s.run.acts) sent all.answered (below_start count old b events sent m s) in
+            let below = below_then g (count + 2) old next all.acts mid between b (run_of old.budget b s.run.acts) sent all.answered (below_start count old b events sent m s) in
             record {
               run = done_stands b events sent m s.run;
-              ahead = subst (λ (t : Run). ceiling new ≤ raised_in count t) (sym (run_of_push b s.run.acts all.acts)) (omega (arith, below.ahead, w.flushed.ahead));
+              ahead = subst (λ (k : ℕ). ceiling new ≤ raised_in count (run_of k b (s.run.acts ++ all.acts ∷ []))) (sym budget_is)
+                  (subst (λ (t : Run). ceiling new ≤ raised_in count t) (sym (run_of_push old.budget b s.run.acts all.acts)) (omega (arith, below.ahead, w.flushed.puts.ahead)));
             }
 
-        pub done_losses : Fits g last new → (b : List ℕ) (events : List Received) (sent : List SentFrame) (m : ℕ) → (g.tells board → StandsForRun old b events sent m)
-            → Passes g board last (SafeSince b events sent m) (SafeSince b events sent (m + 1))
+        pub done_losses : store.Fits g last new.lines.store → (b : List ℕ) (events : List Received) (sent : List SentFrame) (m : ℕ) → (g.tells board → StandsForRun old b events sent m)
+            → Passes g board last (SafeSince old.budget b events sent m) (SafeSince old.budget b events sent (m + 1))
         done_losses fits_last b events sent m stands =
-            ending g (SafeSince b events sent (m + 1))
-            (weaker (SafeSince b events sent m) (SafeSince b events sent m) (flushed_leaves n (Ok tt) new last f)
+            let S = SafeSince old.budget b events sent m in
+            ending g (SafeSince old.budget b events sent (m + 1))
+            (weaker S S (flushed_leaves n armed (Ok tt) new last f)
             (λ s o is x. x.since b events sent m (stands (reads board s is).0)) (λ s o is x. x.since b events sent m (stands (reads board s is).0)))
             (λ o is.
             let s = flushed_here o is in
             record {
               from = s.from;
               was = s.was;
-              steps = since_finished new b events sent m got all.answered.frames (done_stands b events sent m (stands (reads board s.from s.was).0)) s.from o s.steps (now_stands g reads last new.lines.store fits_last.store o is);
+              steps = subst (λ (k : ℕ). SafeSince k b events sent (m + 1) s.from o) budget_is
+                  (since_finished new b events sent m got all.answered.frames (done_stands b events sent m (stands (reads board s.from s.was).0)) s.from o s.steps (now_stands g reads last new.lines.store fits_last o is));
             })
 
         -- the event is finished
-        pub event_finished : n ≤ 8 → ((e : List Received) (l : List SentFrame) → g.has_lists board e l → g.has_lists next (e ++ got ∷ []) l)
-            → (g.moment next).receptions ≡ (after_recv (g.moment board)).receptions → (answer : Turn) → ((answer ≡ turn.End) ↔ (got ≡ End)) → Finished g old board new last answer
-        event_finished most lists moment answer is = record {
+        pub event_finished : n ≤ 8 → armed ≡ armed_in mid → ((e : List Received) (l : List SentFrame) → g.has_lists board e l → g.has_lists next (e ++ got ∷ []) l)
+            → g.moment next ≡ after_recv (g.moment board) → (answer : Turn) → ((answer ≡ turn.End) ↔ (got ≡ End)) → Finished g old board new last answer
+        event_finished most is lists moment answer end = record {
           event = got;
           frames = all.answered.frames;
-          last = is;
+          last = end;
           lists = λ e sent stood. subst (g.has_lists last (e ++ got ∷ [])) (append-nil (sent ++ all.answered.frames))
               (w.sent.lists (e ++ got ∷ []) (sent ++ all.answered.frames) (all.answered.sent.lists (e ++ got ∷ []) sent (lists e sent stood)));
           here = flushed_here;
-          one_reception = w.sent.receptions ∙ all.answered.sent.receptions ∙ moment;
+          one_reception = w.sent.receptions ∙ all.answered.sent.receptions ∙ ap (λ (t : Moment). t.receptions) moment;
           stands = done_stands;
           acts = all.acts;
-          reads = subst (IsEvent old.rests got all.acts) (sym w.flushed.rests) all.reads;
+          reads = subst (IsEvent old.rests got all.acts) (sym w.flushed.puts.rests) all.reads;
           issued = all.answered.issued;
           grew = λ b r sent at. all.answered.grew b r sent at;
-          counted = w.flushed.line_count ∙ all.answered.counted;
-          put = all.answered.put ++ w.flushed.put;
-          split = split_twice all.answered.put w.flushed.put mid.lines.pending new.lines.pending old.lines.pending all.answered.issued all.answered.split w.flushed.split;
-          few = λ few. omega (arith, most, w.flushed.few, ap length (all.answered.few few), length-append all.answered.put w.flushed.put);
+          counted = w.flushed.puts.line_count ∙ all.answered.counted;
+          armed = ap (λ (m : Machine). is_armed m.vehicle) w.flushed.puts.machine ∙ all.answered.armed;
+          still = λ throughout.
+              let last_armed : armed_in mid ≡ true = all.answered.armed ∙ throughout_last (armed_in old) all.acts throughout in
+              record { erases = (w.still (is ∙ last_armed)).erases ∙ (all.answered.still throughout).erases ∙ ap (λ (t : Moment). t.erases) moment };
+          put = all.answered.put ++ w.flushed.puts.put;
+          split = split_twice all.answered.put w.flushed.puts.put mid.lines.pending new.lines.pending old.lines.pending all.answered.issued all.answered.split w.flushed.puts.split;
+          few = λ none few. omega (arith, most, w.flushed.few, ap length (all.answered.few none few), length-append all.answered.put w.flushed.puts.put);
           within = done_within;
         }
 
 -- what clauses say of losses, where the call was cut short
 module _ {B : Type 0} (g : Ghosts B) (reads : (b : B) (o : Outcome) → g.now b o → g.tells b × (o.words ≡ g.words b)) (old : Node) (board last : B) (p : Passes g board last (Leaves old) (Leaves old)) where
-  pub leaves_safe : (b : List ℕ) (events : List Received) (sent : List SentFrame) (m : ℕ) → (g.tells board → StandsForRun old b events sent m) → Passes g board last (SafeSince b events sent m) (SafeSince b events sent m)
+  pub leaves_safe : (b : List ℕ) (events : List Received) (sent : List SentFrame) (m : ℕ) → (g.tells board → StandsForRun old b events sent m)
+      → Passes g board last (SafeSince old.budget b events sent m) (SafeSince old.budget b events sent m)
   leaves_safe b events sent m stands =
-      weaker (SafeSince b events sent m) (SafeSince b events sent m) p (λ s o is x. x.since b events sent m (stands (reads board s is).0)) (λ s o is x. x.since b events sent m (stands (reads board s is).0))
+      weaker (SafeSince old.budget b events sent m) (SafeSince old.budget b events sent m) p (λ s o is x. x.since b events sent m (stands (reads board s is).0)) (λ s o is x. x.since b events sent m (stands (reads board s is).0))
 
-  pub leaves_rising : (count : ℕ) (b : List ℕ) (events : List Received) (sent : List SentFrame) (m : ℕ) → (g.tells board → StaysWithin count old b events sent m) → Passes g board last (RisesWithin count b events) (RisesWithin count b events)
+  pub leaves_rising : (count : ℕ) (b : List ℕ) (events : List Received) (sent : List SentFrame) (m : ℕ) → (g.tells board → StaysWithin count old b events sent m)
+      → Passes g board last (RisesWithin old.budget count b events) (RisesWithin old.budget count b events)
   leaves_rising count b events sent m within =
-      weaker (RisesWithin count b events) (RisesWithin count b events) p (λ s o is x. x.rises count b events sent m (within (reads board s is).0)) (λ s o is x. x.rises count b events sent m (within (reads board s is).0))
+      weaker (RisesWithin old.budget count b events) (RisesWithin old.budget count b events) p (λ s o is x. x.rises count b events sent m (within (reads board s is).0)) (λ s o is x. x.rises count b events sent m (within (reads board s is).0))
 
 pub passes_err : {B T E : Type 0} (g : Ghosts B) (old new : B) (result : Result T E) (lost done : Outcome → Outcome → Type 0) → IsErr result → Passes g old new lost lost → Passes g old new lost (ByResult result done lost)
 passes_err g old new (Ok v) lost done err passes = absurd (cc)
@@ -213,3 +242,15 @@ cut_none g a b kept e f stood = (None, [], subst (λ (l : List Received). g.has_
 pub cut_some : {B : Type 0} (g : Ghosts B) (got : Received) (a b c : B) → ((e : List Received) (f : List SentFrame) → g.has_lists a e f → g.has_lists b (e ++ got ∷ []) f) → MaySend g b c
     → (e : List Received) (f : List SentFrame) → g.has_lists a e f → (event : Option Received) × (sent : List SentFrame) × g.has_lists c (e ++ option_to_list event) (f ++ sent)
 cut_some g got a b c lists more e f stood = let s = more (e ++ got ∷ []) f (lists e f stood) in (Some got, s.0, s.1)
+
+-- the event in which the vehicle was armed, of those that the board received
+pub was_armed : {B : Type 0} (g : Ghosts B) (old : Node) (got : Received) (a b c : B) → ((e : List Received) (f : List SentFrame) → g.has_lists a e f → g.has_lists b (e ++ got ∷ []) f) → MaySend g b c
+    → ArmedTaking got old → WasArmed g old a c
+was_armed g old got a b c lists more x = record {
+  event = got;
+  lists = λ e f stood. more (e ++ got ∷ []) f (lists e f stood);
+  acts = x.acts;
+  rests = x.new_rests;
+  reads = x.reads;
+  armed = x.armed;
+}

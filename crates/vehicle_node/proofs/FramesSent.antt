@@ -10,10 +10,10 @@ use Rattle.vehicle_core.specs.Vehicle.{Content, speaks_v2}
 use Rattle.vehicle_core.specs.Replies.{Tells}
 use Rattle.mav_messages.specs.declared.messages.Message.{Message}
 use Rattle.mav_frames.specs.Frames.{IsSent}
-use Rattle.vehicle_node.specs.Frames.{Machine, Answer, Delivery, numbered, counted, counted_all, AreFramesOf}
+use Rattle.vehicle_node.specs.Frames.{Machine, Answer, Delivery, IsFrameOf, numbered, counted, counted_all, AreFramesOf}
 use Rattle.vehicle_node.specs.Standing.{Node, raised_by}
 use Rattle.vehicle_node.specs.Steps.Calls.{MaySend}
-use Rattle.vehicle_node.specs.Steps.Sending.{SendsFrames, SendsPrefix, delivery, SentAll, SendDone}
+use Rattle.vehicle_node.specs.Steps.Sending.{SendsFrames, SendsPrefix, answers_to, delivery, SentAll, SendDone}
 use Rattle.vehicle_node.proofs.Passing.{begun, lists_kept}
 
 -- the frames of some answers and then of others
@@ -43,11 +43,28 @@ frames_all [] (u ∷ us) all = absurd all
 frames_all (x ∷ xs) [] all = absurd all
 frames_all (x ∷ xs) (u ∷ us) all = (all.0, frames_all xs us all.1)
 
-pub numbered-append : (m : Machine) (xs ys : List Delivery) → numbered m (xs ++ ys) ≡ numbered m xs ++ numbered (counted_all m xs) ys
-numbered-append m [] ys = refl
-numbered-append m (d ∷ xs) ys =
-    let a : Answer = record { station = d.station; v2 = speaks_v2 m.vehicle d.station; sequence = slice_index m.sequences d.station; content = d.content } in
-    ap (λ (l : List Answer). a ∷ l) (numbered-append (counted m d) xs ys)
+pub numbered-append : (issued : ℕ) (m : Machine) (xs ys : List Delivery) → numbered issued m (xs ++ ys) ≡ numbered issued m xs ++ numbered issued (counted_all m xs) ys
+numbered-append issued m [] ys = refl
+numbered-append issued m (d ∷ xs) ys =
+    let a : Answer = record { station = d.station; v2 = speaks_v2 m.vehicle d.station; sequence = slice_index m.sequences d.station; content = d.content; issued = issued } in
+    ap (λ (l : List Answer). a ∷ l) (numbered-append issued (counted m d) xs ys)
+
+-- a frame doesn't say how many lines were issued before it
+frame_any : (issued : ℕ) (m : Machine) (d : Delivery) (f : SentFrame)
+    → IsFrameOf (record { station = d.station; v2 = speaks_v2 m.vehicle d.station; sequence = slice_index m.sequences d.station; content = d.content; issued = 0 }) f
+    → IsFrameOf (record { station = d.station; v2 = speaks_v2 m.vehicle d.station; sequence = slice_index m.sequences d.station; content = d.content; issued = issued }) f
+frame_any issued m d f is = record { peer = is.peer; message = is.message; tells = is.tells; sent = is.sent }
+
+pub frames_any : (issued : ℕ) (m : Machine) (ds : List Delivery) (frames : List SentFrame) → AreFramesOf (answers_to m ds) frames → AreFramesOf (numbered issued m ds) frames
+frames_any issued m [] [] are = are
+frames_any issued m [] (f ∷ frames) are = absurd are
+frames_any issued m (d ∷ ds) [] are = absurd are
+frames_any issued m (d ∷ ds) (f ∷ frames) are = (frame_any issued m d f are.0, frames_any issued (counted m d) ds frames are.1)
+
+pub first_any : (issued : ℕ) (m : Machine) (ds : List Delivery) (frames : List SentFrame) → AreFramesOf (take (length frames) (answers_to m ds)) frames → AreFramesOf (take (length frames) (numbered issued m ds)) frames
+first_any issued m ds [] are = tt
+first_any issued m [] (f ∷ frames) are = absurd are
+first_any issued m (d ∷ ds) (f ∷ frames) are = (frame_any issued m d f are.0, first_any issued (counted m d) ds frames are.1)
 
 pub counted-append : (m : Machine) (xs ys : List Delivery) → counted_all (counted_all m xs) ys ≡ counted_all m (xs ++ ys)
 counted-append m xs ys = sym (fold-append counted m xs ys)
@@ -66,7 +83,7 @@ sent_as v w p q m xs ys version sequence bytes sent =
 
 -- the frame of one delivery
 pub delivered : (old node : Node) (to : ℕ) (content : Content) (m : Message) (v : Bool) (xs ys : List ℕ) → old ≡ node → Tells content m → v ≡ speaks_v2 old.machine.vehicle to
-    → ys ≡ xs → IsSent v (slice_index old.machine.sequences to) 1 1 m xs → AreFramesOf (numbered node.machine (delivery to content ∷ [])) (sent_frame to ys ∷ [])
+    → ys ≡ xs → IsSent v (slice_index old.machine.sequences to) 1 1 m xs → AreFramesOf (answers_to node.machine (delivery to content ∷ [])) (sent_frame to ys ∷ [])
 delivered old node to content m v xs ys is tells version bytes sent = (
   record {
     peer = refl;
@@ -109,14 +126,14 @@ module _ (answers : List Answer) (f : SentFrame) (is : AreFramesOf answers (f �
   one_losses g r time = weaker (SendsPrefix answers) (SendsPrefix answers) time (λ s o now step. sends_maybe s o step) (λ s o now step. sends_so r s o step)
 
 -- a prefix of some answers is one of more
-pub prefix_more : (m : Machine) (xs ys : List Delivery) (s o : Outcome) → SendsPrefix (numbered m xs) s o → SendsPrefix (numbered m (xs ++ ys)) s o
+pub prefix_more : (m : Machine) (xs ys : List Delivery) (s o : Outcome) → SendsPrefix (answers_to m xs) s o → SendsPrefix (answers_to m (xs ++ ys)) s o
 prefix_more m xs ys s o some = record {
   words = some.words;
   events = some.events;
   sent = some.sent;
   frames = some.frames;
-  first = subst (λ (l : List Answer). AreFramesOf (take (length some.sent) l) some.sent) (sym (numbered-append m xs ys))
-      (frames_front (numbered m xs) (numbered (counted_all m xs) ys) some.sent some.first);
+  first = subst (λ (l : List Answer). AreFramesOf (take (length some.sent) l) some.sent) (sym (numbered-append 0 m xs ys))
+      (frames_front (answers_to m xs) (answers_to (counted_all m xs) ys) some.sent some.first);
 }
 
 -- one sending, whether it failed or not
@@ -150,29 +167,32 @@ module _ {B : Type 0} (g : Ghosts B) where
     lists = lists_kept g b b (λ e f stood. stood);
     done = record {
       frames = [];
-      sent = record { lines = refl; machine = refl; rests = refl; frames_are = tt; frame_count = omega arith; line_count = refl };
+      sent = record { budget = refl; lines = refl; machine = refl; rests = refl; frames_are = tt; frame_count = omega arith; line_count = refl };
       told = record {
         lists = λ e f stood. subst (g.has_lists b e) (sym (append-nil f)) stood;
         here = λ o now. record { from = o; was = now; steps = record { words = refl; events = refl; frames_are = sym (append-nil o.frames) } };
         receptions = refl;
       };
+      still = record { erases = refl };
     };
+    stopped = tt;
   }
 
   -- some deliveries, and then others
   module _ (xs ys : List Delivery) (old : Node) (a : B) (mid : Node) (b : B) (first : SentAll g xs old a mid b) where
-    answers_mid : numbered old.machine xs ++ numbered mid.machine ys ≡ numbered old.machine (xs ++ ys)
-    answers_mid = ap (λ (m : Machine). numbered old.machine xs ++ numbered m ys) first.sent.machine ∙ sym (numbered-append old.machine xs ys)
+    answers_mid : answers_to old.machine xs ++ answers_to mid.machine ys ≡ answers_to old.machine (xs ++ ys)
+    answers_mid = ap (λ (m : Machine). answers_to old.machine xs ++ answers_to m ys) first.sent.machine ∙ sym (numbered-append 0 old.machine xs ys)
 
     pub sent_then : (new : Node) (c : B) → SentAll g ys mid b new c → SentAll g (xs ++ ys) old a new c
     sent_then new c second = record {
       frames = first.frames ++ second.frames;
       sent = record {
+        budget = second.sent.budget ∙ first.sent.budget;
         lines = second.sent.lines ∙ first.sent.lines;
         machine = second.sent.machine ∙ ap (λ (m : Machine). counted_all m ys) first.sent.machine ∙ counted-append old.machine xs ys;
         rests = second.sent.rests ∙ first.sent.rests;
         frames_are = subst (λ (l : List Answer). AreFramesOf l (first.frames ++ second.frames)) answers_mid
-            (frames-append (numbered old.machine xs) (numbered mid.machine ys) first.frames second.frames first.sent.frames_are second.sent.frames_are);
+            (frames-append (answers_to old.machine xs) (answers_to mid.machine ys) first.frames second.frames first.sent.frames_are second.sent.frames_are);
         frame_count = second.sent.frame_count ∙ ap (λ (n : ℕ). raised_by (length second.frames) n) first.sent.frame_count
             ∙ raised-more old.frames (length first.frames) (length second.frames)
             ∙ ap (λ (n : ℕ). raised_by n old.frames) (sym (length-append first.frames second.frames));
@@ -194,23 +214,24 @@ module _ {B : Type 0} (g : Ghosts B) where
             };
         receptions = second.told.receptions ∙ first.told.receptions;
       };
+      still = record { erases = second.still.erases ∙ first.still.erases };
     }
 
-    then_some : (s m o : Outcome) → SendsFrames first.frames s m → SendsPrefix (numbered mid.machine ys) m o → SendsPrefix (numbered old.machine (xs ++ ys)) s o
+    then_some : (s m o : Outcome) → SendsFrames first.frames s m → SendsPrefix (answers_to mid.machine ys) m o → SendsPrefix (answers_to old.machine (xs ++ ys)) s o
     then_some s m o all some = record {
       words = some.words ∙ all.words;
       events = some.events ∙ all.events;
       sent = first.frames ++ some.sent;
       frames = some.frames ∙ ap (λ (l : List SentFrame). l ++ some.sent) all.frames_are ∙ append_assoc s.frames first.frames some.sent;
       first = subst (λ (l : List Answer). AreFramesOf (take (length (first.frames ++ some.sent)) l) (first.frames ++ some.sent)) answers_mid
-          (frames_over (numbered old.machine xs) (numbered mid.machine ys) first.frames some.sent first.sent.frames_are some.first);
+          (frames_over (answers_to old.machine xs) (answers_to mid.machine ys) first.frames some.sent first.sent.frames_are some.first);
     }
 
-    pub losses_then : (c : B) → Passes g a b (SendsPrefix (numbered old.machine xs)) (SendsPrefix (numbered old.machine xs))
-        → Passes g b c (SendsPrefix (numbered mid.machine ys)) (SendsPrefix (numbered mid.machine ys))
-        → Passes g a c (SendsPrefix (numbered old.machine (xs ++ ys))) (SendsPrefix (numbered old.machine (xs ++ ys)))
+    pub losses_then : (c : B) → Passes g a b (SendsPrefix (answers_to old.machine xs)) (SendsPrefix (answers_to old.machine xs))
+        → Passes g b c (SendsPrefix (answers_to mid.machine ys)) (SendsPrefix (answers_to mid.machine ys))
+        → Passes g a c (SendsPrefix (answers_to old.machine (xs ++ ys))) (SendsPrefix (answers_to old.machine (xs ++ ys)))
     losses_then c before now =
-        let all : Passes g a b (SendsPrefix (numbered old.machine xs)) (SendsFrames first.frames) =
+        let all : Passes g a b (SendsPrefix (answers_to old.machine xs)) (SendsFrames first.frames) =
         record { later = before.later; inside = before.inside; here = first.told.here; keeps = before.keeps } in
-        let whole = SendsPrefix (numbered old.machine (xs ++ ys)) in
+        let whole = SendsPrefix (answers_to old.machine (xs ++ ys)) in
         chained whole whole all now (prefix_more old.machine xs ys) (λ s m o is all some. then_some s m o all some) (λ s m o is all some. then_some s m o all some)

@@ -1,7 +1,8 @@
 -- A station's bytes, one after another.
-use Rattle.std.proofs.Common.{◌≡◌, inl, inr, ℕ, ◌+◌, ◌<◌, length, take, drop, get_or, take-append-drop, List, [], ◌∷◌, ◌++◌, refl, sym, ◌∙◌, ap, subst, append_assoc, arith, Option, Some, None, Result, Ok, Err}
-use Rattle.std.specs.Prelude.{⊤, IsOk, IsErr, MatchOption, slice_get, slice_set, option_to_list}
+use Rattle.std.proofs.Common.{◌≡◌, inl, inr, ℕ, ◌+◌, ◌<◌, length, take, drop, get_or, take-append-drop, List, [], ◌∷◌, ◌++◌, refl, sym, ◌∙◌, ap, subst, append_assoc, arith, Bool, Option, Some, None, Result, Ok, Err}
+use Rattle.std.specs.Prelude.{⊤, IsOk, IsErrAnd, MatchOption, slice_get, slice_set, option_to_list}
 use Rattle.std.proofs.lemmas.List.{append-nil, take_more, drop-take, take-take}
+use Rattle.std.proofs.lemmas.Result.{IfErr-weaker}
 use Rattle.flash_traits.specs.declared.board.Board.{Ghosts}
 use Rattle.flash_traits.specs.Losses.{SentFrame, Outcome}
 use Rattle.flash_traits.proofs.Moments.{weaker}
@@ -10,17 +11,19 @@ use Rattle.mav_frames.specs.Frames.{is_v2, IsReadFrom}
 use Rattle.mav_frames.specs.declared.frames.Frame.{Frame as Read}
 use Rattle.vehicle_core.specs.Acts.{Act, Said, heard_as}
 use Rattle.vehicle_node.specs.declared.NodeError.{NodeError}
+use Rattle.vehicle_node.specs.Arming.{IsArmedOnce}
 use Rattle.vehicle_node.specs.Reading.{AreSaid}
 use Rattle.vehicle_node.specs.Runs.{Run, all_acts}
-use Rattle.vehicle_node.specs.Standing.{Node, Fits}
+use Rattle.vehicle_node.specs.Standing.{Node, Fits, armed_in}
+use Rattle.vehicle_node.specs.Steps.Calls.{WornWhere}
 use Rattle.vehicle_node.specs.Steps.Answering.{FrameDone, ActDone}
-use Rattle.vehicle_node.specs.Steps.Hearing.{Pushed, KeepsButRests, HasRest, IsFront, StandsBelow, SafeInside, SafeIn, AnsweredAll, ActsAnswered, ActsDone, IsHeard, SafeHearing, SafeHeard, HeardAll, HearDone}
-use Rattle.vehicle_node.proofs.RunLaws.{all_acts_floor, all_acts-append}
+use Rattle.vehicle_node.specs.Steps.Hearing.{Pushed, KeepsButRests, HasRest, IsFront, StandsBelow, SafeIn, AnsweredAll, ActsAnswered, ActsDone, IsHeard, SafeHearing, SafeHeard, ArmedHearing, HeardAll, HearDone}
+use Rattle.vehicle_node.proofs.Orders.{once_after}
 use Rattle.vehicle_node.proofs.At.{stands_same}
 use Rattle.vehicle_node.proofs.Readings.{rest_kept, heard_nothing, heard_more}
 use Rattle.vehicle_node.proofs.Putting.{now_stands, now_within}
 use Rattle.vehicle_node.proofs.Passing.{on_ok, cut_call, begun, going_on, lists_kept, lists_then}
-use Rattle.vehicle_node.proofs.ActsDone.{inside_still, inside_later, answered_none, answered_then, acts_one, below_then}
+use Rattle.vehicle_node.proofs.ActsDone.{worn_later, inside_still, inside_after, answered_none, answered_then, acts_none, acts_one, below_then}
 
 heard_push : (station byte : ℕ) (frame : Option (List ℕ)) (old new : List (List ℕ)) (said : List Act) → Pushed station byte frame old new → AreSaid station (option_to_list frame) said → IsHeard station (byte ∷ []) old said new
 heard_push station byte frame old new said p are = record {
@@ -49,6 +52,10 @@ answered_from g old rests board acts new last a = record {
   split = a.split;
   few = a.few;
   ahead = a.ahead;
+  budget = a.budget;
+  armed = a.armed;
+  alone = a.alone;
+  still = a.still;
 }
 
 at_ok_result : (result : Result ⊤ NodeError) (P : Result ⊤ NodeError → Type 0) → IsOk result → P (Ok tt) → P result
@@ -85,6 +92,7 @@ module _ {B : Type 0} (g : Ghosts B) (reads : (b : B) (o : Outcome) → g.now b 
         });
         lists = lists_kept g board board (λ e f stood. stood);
         done = record { said = []; heard = heard; answered = answered_none g node board };
+        stopped = tt;
       }
 
   -- acts that bytes say, where the node has the rests after them
@@ -111,16 +119,10 @@ module _ {B : Type 0} (g : Ghosts B) (reads : (b : B) (o : Outcome) → g.now b 
               answered = answered_from g old rests board said new last all.answered;
             })
             d.done;
+        stopped = IfErr-weaker result (WornWhere g mid (IsArmedOnce (armed_in mid) said) new last) (WornWhere g old (ArmedHearing station bytes old) new last)
+            (λ e worn. worn_later g old mid (IsArmedOnce (armed_in mid) said) (ArmedHearing station bytes old) new last e (λ unless. unless)
+            (λ once. record { first = bytes; more = []; split = append-nil bytes; said = said; mid = rests; heard = heard; armed = once }) worn) d.stopped;
       }
-
-  -- nothing was said, and nothing has changed
-  nothing_done : (node : Node) (board : B) → Fits g board node → ActsDone g node board [] (Ok tt) node board
-  nothing_done node board fits = record {
-    losses = begun g board (SafeIn node [])
-        (λ s is limit b r sent below. inside_still node limit b r sent below s (now_stands g reads board node.lines.store fits.store s is) (now_within g reads board node fits.store s is));
-    lists = lists_kept g board board (λ e f stood. stood);
-    done = record { rests = refl; answered = answered_none g node board };
-  }
 
   -- a whole frame, where the station has no rest before it
   pub hear_whole : (old : Node) (board : B) (station : ℕ) (bytes : List ℕ) (result : Result ⊤ NodeError) (new : Node) (last : B)
@@ -132,7 +134,7 @@ module _ {B : Type 0} (g : Ghosts B) (reads : (b : B) (o : Outcome) → g.now b 
             at_ok_result result (λ t. HearDone g old board station bytes t new last) silent.1
             (subst (λ (n : Node). HearDone g old board station bytes (Ok tt) n last) (sym silent.2)
             (subst (λ (l : B). HearDone g old board station bytes (Ok tt) old l) (sym silent.3)
-            (heard_by old old.rests board station bytes [] (Ok tt) old board (heard [] (inl (silent.0, refl))) (nothing_done old board fits))))
+            (heard_by old old.rests board station bytes [] (Ok tt) old board (heard [] (inl (silent.0, refl))) (acts_none g reads old board fits.store))))
         | inr says ↦
             let said = Said station (heard_as (is_v2 bytes) says.0) in
             heard_by old old.rests board station bytes (said ∷ []) result new last (heard (said ∷ []) (inr (says.0, [], says.1, refl, refl)))
@@ -148,7 +150,7 @@ module _ {B : Type 0} (g : Ghosts B) (reads : (b : B) (o : Outcome) → g.now b 
     silent_byte : Fits g board old → AreSaid station (option_to_list frame) [] → HearDone g old board station (byte ∷ []) (Ok tt) (record old { rests = rests }) board
     silent_byte fits silent =
         let mid : Node = record old { rests = rests } in
-        heard_acts [] (Ok tt) mid board silent (nothing_done mid board (record { store = fits.store }))
+        heard_acts [] (Ok tt) mid board silent (acts_none g reads mid board fits.store)
 
   pub hear_silent : (old mid : Node) (board : B) (station byte : ℕ) (frame : Option (List ℕ)) → Fits g board old → KeepsButRests old mid → Pushed station byte frame old.rests mid.rests → AreSaid station (option_to_list frame) []
       → HearDone g old board station (byte ∷ []) (Ok tt) mid board
@@ -172,8 +174,8 @@ module _ {B : Type 0} (g : Ghosts B) (reads : (b : B) (o : Outcome) → g.now b 
         (acts_one g (record old { rests = mid.rests }) board said result new last done)
   ]
 
-hearing_sooner : (station : ℕ) (xs ys : List ℕ) (rests : List (List ℕ)) (limit : ℕ) (b : List ℕ) (r : Run) (sent : List SentFrame) (s o : Outcome) → SafeHearing station xs rests limit b r sent s o → SafeHearing station (xs ++ ys) rests limit b r sent s o
-hearing_sooner station xs ys rests limit b r sent s o x = record {
+hearing_sooner : (station : ℕ) (xs ys : List ℕ) (node : Node) (limit : ℕ) (b : List ℕ) (r : Run) (sent : List SentFrame) (s o : Outcome) → SafeHearing station xs node limit b r sent s o → SafeHearing station (xs ++ ys) node limit b r sent s o
+hearing_sooner station xs ys node limit b r sent s o x = record {
   first = x.first;
   more = x.more ++ ys;
   split = sym (append_assoc x.first x.more ys) ∙ ap (λ (l : List ℕ). l ++ ys) x.split;
@@ -181,6 +183,17 @@ hearing_sooner station xs ys rests limit b r sent s o x = record {
   mid = x.mid;
   heard = x.heard;
   inside = x.inside;
+}
+
+armed_sooner : (station : ℕ) (xs ys : List ℕ) (node : Node) → ArmedHearing station xs node → ArmedHearing station (xs ++ ys) node
+armed_sooner station xs ys node x = record {
+  first = x.first;
+  more = x.more ++ ys;
+  split = sym (append_assoc x.first x.more ys) ∙ ap (λ (l : List ℕ). l ++ ys) x.split;
+  said = x.said;
+  mid = x.mid;
+  heard = x.heard;
+  armed = x.armed;
 }
 
 -- so many bytes, and so many after them
@@ -201,11 +214,11 @@ module _ {B : Type 0} (g : Ghosts B) where
       record {
         losses = going_on g S [] answered.frames
             (weaker S S first.losses
-            (λ s o is x limit b r sent below. hearing_sooner station xs ys old.rests limit b r sent s o (x limit b r sent below))
-            (λ s o is x limit b r sent below. hearing_sooner station xs ys old.rests limit b r sent s o (x limit b r sent below)))
+            (λ s o is x limit b r sent below. hearing_sooner station xs ys old limit b r sent s o (x limit b r sent below))
+            (λ s o is x limit b r sent below. hearing_sooner station xs ys old limit b r sent s o (x limit b r sent below)))
             answered.sent.here second.losses
             (λ s m o was is adds y limit b r sent below.
-            let x = y limit b (all_acts b r all.said) (sent ++ answered.frames) (below_then g limit old board all.said mid mid_board b r sent answered below) in
+            let x = y limit b (all_acts old.budget b r all.said) (sent ++ answered.frames) (below_then g limit old board all.said mid mid_board b r sent answered below) in
             record {
               first = xs ++ x.first;
               more = x.more;
@@ -213,8 +226,7 @@ module _ {B : Type 0} (g : Ghosts B) where
               said = all.said ++ x.said;
               mid = x.mid;
               heard = heard_more station xs x.first old.rests mid.rests x.mid all.said x.said all.heard x.heard;
-              inside = inside_later limit b (all_acts b r all.said) (all_acts b r (all.said ++ x.said)) r.floor sent answered.frames s m o (all_acts_floor b r all.said) adds
-                  (subst (λ (t : Run). SafeInside limit b t (all_acts b r all.said).floor (sent ++ answered.frames) m o) (sym (all_acts-append b r all.said x.said)) x.inside);
+              inside = inside_after g limit old board all.said mid mid_board x.said b r sent answered s m o adds x.inside;
             });
         lists = lists_then g board mid_board last first.lists second.lists;
         done = on_ok result (HeardAll g mid mid_board station ys new last) (HeardAll g old board station (xs ++ ys) new last)
@@ -224,6 +236,17 @@ module _ {B : Type 0} (g : Ghosts B) where
               answered = answered_then g old board all.said mid mid_board more.said new last answered more.answered;
             })
             second.done;
+        stopped = IfErr-weaker result (WornWhere g mid (ArmedHearing station ys mid) new last) (WornWhere g old (ArmedHearing station (xs ++ ys) old) new last)
+            (λ e worn. worn_later g old mid (ArmedHearing station ys mid) (ArmedHearing station (xs ++ ys) old) new last e answered.alone
+            (λ x. record {
+              first = xs ++ x.first;
+              more = x.more;
+              split = append_assoc xs x.first x.more ∙ ap (λ (l : List ℕ). xs ++ l) x.split;
+              said = all.said ++ x.said;
+              mid = x.mid;
+              heard = heard_more station xs x.first old.rests mid.rests x.mid all.said x.said all.heard x.heard;
+              armed = once_after (armed_in old) all.said x.said (subst (λ (b : Bool). IsArmedOnce b x.said) answered.armed x.armed);
+            }) worn) second.stopped;
       }
 
   -- one byte more of a datagram
@@ -233,13 +256,15 @@ module _ {B : Type 0} (g : Ghosts B) where
       subst (λ (l : List ℕ). HearDone g old board station l result new last) (sym (take_more bytes at 0 lt)) (hear_then old board station (take at bytes) (get_or bytes at 0 ∷ []) mid mid_board result new last first second)
 
   -- where only a prefix of the bytes was heard
-  pub hear_cut : (old : Node) (board : B) (station : ℕ) (bytes : List ℕ) (at : ℕ) → at < length bytes → (mid : Node) (mid_board : B) (e result : Result ⊤ NodeError) (new : Node) (last : B) → IsErr result
-      → HearDone g old board station (take at bytes) (Ok tt) mid mid_board → HearDone g mid mid_board station (get_or bytes at 0 ∷ []) e new last → HearDone g old board station bytes result new last
+  pub hear_cut : (old : Node) (board : B) (station : ℕ) (bytes : List ℕ) (at : ℕ) → at < length bytes → (mid : Node) (mid_board : B) (e : NodeError) (result : Result ⊤ NodeError) (new : Node) (last : B) → IsErrAnd result (λ d. d ≡ e)
+      → HearDone g old board station (take at bytes) (Ok tt) mid mid_board → HearDone g mid mid_board station (get_or bytes at 0 ∷ []) (Err e) new last → HearDone g old board station bytes result new last
   hear_cut old board station bytes at lt mid mid_board e result new last err first second =
-      let some = hear_next old board station bytes at lt mid mid_board e new last first second in
-      cut_call g (HeardAll g old board station bytes new last) board last e result some err
-      (λ s o is x limit b r sent below. subst (λ (l : List ℕ). SafeHearing station l old.rests limit b r sent s o) (take-append-drop (at + 1) bytes)
-      (hearing_sooner station (take (at + 1) bytes) (drop (at + 1) bytes) old.rests limit b r sent s o (x limit b r sent below)))
+      let some = hear_next old board station bytes at lt mid mid_board (Err e) new last first second in
+      cut_call g (WornWhere g old (ArmedHearing station bytes old) new last) (HeardAll g old board station bytes new last) board last e result some err
+      (λ s o is x limit b r sent below. subst (λ (l : List ℕ). SafeHearing station l old limit b r sent s o) (take-append-drop (at + 1) bytes)
+      (hearing_sooner station (take (at + 1) bytes) (drop (at + 1) bytes) old limit b r sent s o (x limit b r sent below)))
+      (worn_later g old old (ArmedHearing station (take (at + 1) bytes) old) (ArmedHearing station bytes old) new last e (λ unless. unless)
+      (λ x. subst (λ (l : List ℕ). ArmedHearing station l old) (take-append-drop (at + 1) bytes) (armed_sooner station (take (at + 1) bytes) (drop (at + 1) bytes) old x)))
 
   -- more bytes of a datagram
   pub hear_more : (old : Node) (board : B) (station : ℕ) (bytes : List ℕ) (at count : ℕ) (mid : Node) (mid_board : B) (result : Result ⊤ NodeError) (new : Node) (last : B)
@@ -248,13 +273,15 @@ module _ {B : Type 0} (g : Ghosts B) where
       subst (λ (l : List ℕ). HearDone g old board station l result new last) (sym (take_add at count bytes)) (hear_then old board station (take at bytes) (take count (drop at bytes)) mid mid_board result new last first second)
 
   -- where only a prefix of them was heard
-  pub hear_more_cut : (old : Node) (board : B) (station : ℕ) (bytes : List ℕ) (at count : ℕ) (mid : Node) (mid_board : B) (e result : Result ⊤ NodeError) (new : Node) (last : B) → IsErr result
-      → HearDone g old board station (take at bytes) (Ok tt) mid mid_board → HearDone g mid mid_board station (take count (drop at bytes)) e new last → HearDone g old board station bytes result new last
+  pub hear_more_cut : (old : Node) (board : B) (station : ℕ) (bytes : List ℕ) (at count : ℕ) (mid : Node) (mid_board : B) (e : NodeError) (result : Result ⊤ NodeError) (new : Node) (last : B) → IsErrAnd result (λ d. d ≡ e)
+      → HearDone g old board station (take at bytes) (Ok tt) mid mid_board → HearDone g mid mid_board station (take count (drop at bytes)) (Err e) new last → HearDone g old board station bytes result new last
   hear_more_cut old board station bytes at count mid mid_board e result new last err first second =
-      let some = hear_more old board station bytes at count mid mid_board e new last first second in
-      cut_call g (HeardAll g old board station bytes new last) board last e result some err
-      (λ s o is x limit b r sent below. subst (λ (l : List ℕ). SafeHearing station l old.rests limit b r sent s o) (take-append-drop (at + count) bytes)
-      (hearing_sooner station (take (at + count) bytes) (drop (at + count) bytes) old.rests limit b r sent s o (x limit b r sent below)))
+      let some = hear_more old board station bytes at count mid mid_board (Err e) new last first second in
+      cut_call g (WornWhere g old (ArmedHearing station bytes old) new last) (HeardAll g old board station bytes new last) board last e result some err
+      (λ s o is x limit b r sent below. subst (λ (l : List ℕ). SafeHearing station l old limit b r sent s o) (take-append-drop (at + count) bytes)
+      (hearing_sooner station (take (at + count) bytes) (drop (at + count) bytes) old limit b r sent s o (x limit b r sent below)))
+      (worn_later g old old (ArmedHearing station (take (at + count) bytes) old) (ArmedHearing station bytes old) new last e (λ unless. unless)
+      (λ x. subst (λ (l : List ℕ). ArmedHearing station l old) (take-append-drop (at + count) bytes) (armed_sooner station (take (at + count) bytes) (drop (at + count) bytes) old x)))
 
 -- what the cutter makes of a byte, in the list of all rests
 pub pushed_by : (result : Option Read) (station byte : ℕ) (old new : List (List ℕ)) (rest new_rest : List ℕ) → slice_get old station ≡ Some rest → new ≡ slice_set old station new_rest

@@ -1,5 +1,5 @@
 -- What every call keeps, over calls one after another.
-use Rattle.std.proofs.Common.{◌≡◌, ◌≤◌, ◌⊎◌, inl, inr, false, ℕ, refl, sym, ◌∙◌, subst, arith, Result, Ok, Err}
+use Rattle.std.proofs.Common.{◌≡◌, ◌≤◌, ◌⊎◌, inl, inr, Bool, false, ℕ, refl, sym, ◌∙◌, subst, arith, Result, Ok, Err}
 use Rattle.std.specs.Prelude.{⊤, IsTrue}
 use Rattle.flash_traits.specs.declared.numbers.TheConstants.{GUARD_HALFWORDS}
 use Rattle.flash_traits.specs.declared.board.Board.{Ghosts}
@@ -7,17 +7,16 @@ use Rattle.flash_traits.specs.declared.board.Fault.{Fault}
 use Rattle.flash_traits.specs.declared.board.Fault.TheVariants.{Read, Flash, Send}
 use Rattle.flash_traits.specs.Causes.{Rose}
 use Rattle.flash_traits.specs.Losses.{KeepsWords}
-use Rattle.block_store.specs.Store.{State, Alone, Spilled, Spent, in_one_sector, in_both_sectors, is_alone, is_spilled}
+use Rattle.sector_image.specs.Images.{Bytes}
+use Rattle.block_store.specs.Store.{State, Alone, Spilled, Spent, in_one_sector, in_both_sectors, guard_of, is_spilled}
 use Rattle.block_store.specs.Refusals as put
 use Rattle.block_store.specs.declared.PutError.{PutError}
 use Rattle.block_store.specs.declared.PutError.TheVariants as put_error
-use Rattle.dirty_lines.specs.Lines.{Lines}
 use Rattle.dirty_lines.specs.Losses.{IsWornForNext}
-use Rattle.vehicle_node.specs.Standing.{Node, Fits, IsAlone}
+use Rattle.vehicle_node.specs.Standing.{Node}
 use Rattle.vehicle_node.specs.Refusals.{OnFault, OnWorn}
 use Rattle.vehicle_node.specs.Steps.Answering.{IsErrorOf}
-use Rattle.vehicle_node.specs.Steps.Calls.{Keeps, KeepsLines, OfFlash, OfAnswer}
-use Rattle.vehicle_node.proofs.ActAnswers.{fits_kept, fits_lines}
+use Rattle.vehicle_node.specs.Steps.Calls.{Keeps, KeepsLines, WornAlone, OfFlash, OfAnswer}
 use Rattle.vehicle_node.specs.declared.NodeError.{NodeError}
 use Rattle.vehicle_node.specs.declared.NodeError.TheVariants as node_error
 
@@ -29,17 +28,11 @@ fault_later (node_error.Fault kind) P Q first before now more later fault = (mor
 fault_later (node_error.Foreign region offset word) P Q first before now more later fault = tt
 fault_later (node_error.Worn count) P Q first before now more later fault = tt
 
-no_wear : (e : NodeError) (P : ℕ → Type 0) → OnWorn e (λ count. ⊥) → OnWorn e P
+pub no_wear : (e : NodeError) (P : ℕ → Type 0) → OnWorn e (λ count. ⊥) → OnWorn e P
 no_wear node_error.Memory P none = tt
 no_wear (node_error.Fault kind) P none = tt
 no_wear (node_error.Foreign region offset word) P none = tt
 no_wear (node_error.Worn count) P none = absurd none
-
-worn_later : (e : NodeError) (P Q W : Type 0) → (P → Q) → OnWorn e (λ count. Q → W) → OnWorn e (λ count. P → W)
-worn_later node_error.Memory P Q W from worn = tt
-worn_later (node_error.Fault kind) P Q W from worn = tt
-worn_later (node_error.Foreign region offset word) P Q W from worn = tt
-worn_later (node_error.Worn count) P Q W from worn = λ p. worn (from p)
 
 not_both : (state : State) → IsTrue (in_one_sector state) → IsTrue (in_both_sectors state) → ⊥
 not_both (Alone kept) one both = cc
@@ -58,84 +51,60 @@ module _ {B : Type 0} (g : Ghosts B) where
     content = λ told. second.content told ∙ first.content (second.told told);
   }
 
-  fits_sent : (mid : Node) (b : B) (counted new : Node) (c : B) → counted.lines ≡ mid.lines → Fits g b mid → new.lines ≡ counted.lines → KeepsWords g.sector_bytes g.tells g.words b c → Fits g c new
-  fits_sent mid b counted new c same fits lines words = fits_lines g c mid new (lines ∙ same) (fits_kept g b c mid words fits)
-
-  pub keeps_none : (kinds : Fault → Type 0) (node : Node) (a : B) → Fits g a node → Keeps g kinds node a (Ok tt) node a
-  keeps_none kinds node a fits = record {
-    fits = fits;
-    alone = λ is. is;
+  pub keeps_none : (kinds : Fault → Type 0) (a : B) → Keeps g kinds a (Ok tt) a
+  keeps_none kinds a = record {
     geometry = refl;
     told = λ told. told;
     never_memory = tt;
     never_foreign = tt;
     worn = tt;
-    worn_next = tt;
     fault = tt;
     counts = λ k. omega arith;
   }
 
   -- another call after one that kept all
-  pub keeps_then : (kinds more : Fault → Type 0) (old : Node) (a : B) (mid : Node) (b : B) (r : Result ⊤ NodeError) (new : Node) (c : B)
-      → ((k : Fault) → kinds k → more k) → Keeps g more old a (Ok tt) mid b → Keeps g kinds mid b r new c → Keeps g more old a r new c
-  keeps_then kinds more old a mid b (Ok v) new c wider first second = record {
-    fits = second.fits;
-    alone = λ is. second.alone (first.alone is);
+  pub keeps_then : (kinds more : Fault → Type 0) (a b : B) (r : Result ⊤ NodeError) (c : B) → ((k : Fault) → kinds k → more k) → Keeps g more a (Ok tt) b → Keeps g kinds b r c → Keeps g more a r c
+  keeps_then kinds more a b (Ok v) c wider first second = record {
     geometry = second.geometry ∙ first.geometry;
     told = λ told. first.told (second.told told);
     never_memory = tt;
     never_foreign = tt;
     worn = tt;
-    worn_next = tt;
     fault = tt;
     counts = λ k. omega (arith, first.counts k, second.counts k);
   }
-  keeps_then kinds more old a mid b (Err e) new c wider first second = record {
-    fits = tt;
-    alone = tt;
+  keeps_then kinds more a b (Err e) c wider first second = record {
     geometry = second.geometry ∙ first.geometry;
     told = λ told. first.told (second.told told);
     never_memory = second.never_memory;
     never_foreign = second.never_foreign;
     worn = second.worn;
-    worn_next = worn_later e (IsAlone old) (IsAlone mid) (IsWornForNext g c new.lines) first.alone second.worn_next;
     fault = fault_later e kinds more (g.faults a) (g.faults b) (g.faults c) wider first.counts second.fault;
     counts = λ k. omega (arith, first.counts k, second.counts k);
   }
 
   -- a first call alone
-  pub keeps_wider : (kinds more : Fault → Type 0) (old : Node) (a : B) (r : Result ⊤ NodeError) (new : Node) (b : B)
-      → ((k : Fault) → kinds k → more k) → Fits g a old → Keeps g kinds old a r new b → Keeps g more old a r new b
-  keeps_wider kinds more old a r new b wider fits one = keeps_then kinds more old a old a r new b wider (keeps_none more old a fits) one
+  pub keeps_wider : (kinds more : Fault → Type 0) (a : B) (r : Result ⊤ NodeError) (b : B) → ((k : Fault) → kinds k → more k) → Keeps g kinds a r b → Keeps g more a r b
+  keeps_wider kinds more a r b wider one = keeps_then kinds more a a r b wider (keeps_none more a) one
 
-  -- an error that is passed on
-  pub keeps_err : (kinds : Fault → Type 0) (old : Node) (a : B) (r s : Result ⊤ NodeError) (new : Node) (b : B) → s ≡ r → Keeps g kinds old a s new b → Keeps g kinds old a r new b
-  keeps_err kinds old a r s new b is k = subst (λ (t : Result ⊤ NodeError). Keeps g kinds old a t new b) is k
-
-  -- a call that only sends, of a node with the same lines
-  pub keeps_sending : (kinds : Fault → Type 0) (old : Node) (a : B) (mid : Node) (b : B) (r : Result ⊤ NodeError) (counted new : Node) (c : B)
-      → ((k : Fault) → kinds k → OfAnswer k) → counted.lines ≡ mid.lines → Keeps g kinds old a (Ok tt) mid b → KeepsLines g counted b r new c → Keeps g OfAnswer old a r new c
-  keeps_sending kinds old a mid b (Ok v) counted new c wider same first second = record {
-    fits = fits_sent mid b counted new c same first.fits second.lines second.words;
-    alone = λ is. subst (λ (l : Lines). IsTrue (is_alone l.store)) (sym (second.lines ∙ same)) (first.alone is);
+  -- a call that only sends
+  pub keeps_sending : (kinds : Fault → Type 0) (a b : B) (r : Result ⊤ NodeError) (old new : Node) (c : B)
+      → ((k : Fault) → kinds k → OfAnswer k) → Keeps g kinds a (Ok tt) b → KeepsLines g old b r new c → Keeps g OfAnswer a r c
+  keeps_sending kinds a b (Ok v) old new c wider first second = record {
     geometry = second.words.geometry ∙ first.geometry;
     told = λ told. first.told (second.words.told told);
     never_memory = tt;
     never_foreign = tt;
     worn = tt;
-    worn_next = tt;
     fault = tt;
     counts = λ k. omega (arith, first.counts k, second.counts k);
   }
-  keeps_sending kinds old a mid b (Err e) counted new c wider same first second = record {
-    fits = tt;
-    alone = tt;
+  keeps_sending kinds a b (Err e) old new c wider first second = record {
     geometry = second.words.geometry ∙ first.geometry;
     told = λ told. first.told (second.words.told told);
     never_memory = second.never_memory;
     never_foreign = second.never_foreign;
     worn = no_wear e _ second.never_worn;
-    worn_next = no_wear e _ second.never_worn;
     fault = fault_later e (λ kind. kind ≡ Send) OfAnswer (g.faults a) (g.faults b) (g.faults c) (λ k is. inr (inr is)) first.counts second.fault;
     counts = λ k. omega (arith, first.counts k, second.counts k);
   }
@@ -172,52 +141,90 @@ module _ {B : Type 0} (g : Ghosts B) where
   }
 
   -- lines were put
-  pub keeps_flushed : (old : Node) (a : B) (new : Node) (b : B) → Fits g b new → (IsAlone old → IsAlone new) → g.sector_bytes b ≡ g.sector_bytes a → (g.tells b → g.tells a)
-      → ((k : Fault) → g.faults a k ≤ g.faults b k) → Keeps g OfFlash old a (Ok tt) new b
-  keeps_flushed old a new b fits alone geometry told counts = record {
-    fits = fits;
-    alone = alone;
+  pub keeps_put : (a b : B) → g.sector_bytes b ≡ g.sector_bytes a → (g.tells b → g.tells a) → ((k : Fault) → g.faults a k ≤ g.faults b k) → Keeps g OfFlash a (Ok tt) b
+  keeps_put a b geometry told counts = record {
     geometry = geometry;
     told = told;
     never_memory = tt;
     never_foreign = tt;
     worn = tt;
-    worn_next = tt;
     fault = tt;
     counts = counts;
   }
 
-  -- a flush was refused: home lacks room for the next entry, where the store stood alone
-  pub keeps_refused : (old : Node) (a : B) (e : PutError) (error : NodeError) (new : Node) (b : B) → IsErrorOf e error → g.sector_bytes b ≡ g.sector_bytes a → (g.tells b → g.tells a)
+  -- a flush or a compaction was refused
+  pub keeps_refused : (a : B) (e : PutError) (error : NodeError) (b : B) → IsErrorOf e error → g.sector_bytes b ≡ g.sector_bytes a → (g.tells b → g.tells a)
       → ((k : Fault) → g.faults a k ≤ g.faults b k)
       → put.OnFault e (λ kind. (kind ≡ Read ⊎ kind ≡ Flash) × Rose (g.faults a kind) (g.faults b kind))
-      → put.OnWorn e (λ count. (count ≡ GUARD_HALFWORDS) × (false ≡ false) × put.IsWorn g b new.lines.store.bytes)
-      → put.OnWorn e (λ count. IsWornForNext g b new.lines ⊎ (IsTrue (is_spilled old.lines.store) × (new.lines.pending ≡ old.lines.pending)))
-      → Keeps g OfFlash old a (Err error) new b
-  keeps_refused old a (put_error.Fault kind) error new b is geometry told counts fault worn next =
-      subst (λ (n : NodeError). Keeps g OfFlash old a (Err n) new b) (sym is) (record {
-        fits = tt;
-        alone = tt;
+      → put.OnWorn e (λ count. (count ≡ GUARD_HALFWORDS) × (bytes : Bytes) × put.IsWorn g b bytes)
+      → Keeps g OfFlash a (Err error) b
+  keeps_refused a (put_error.Fault kind) error b is geometry told counts fault worn =
+      subst (λ (n : NodeError). Keeps g OfFlash a (Err n) b) (sym is) (record {
         geometry = geometry;
         told = told;
         never_memory = tt;
         never_foreign = tt;
         worn = tt;
-        worn_next = tt;
         fault = fault;
         counts = counts;
       })
-  keeps_refused old a (put_error.NoRoom room) error new b is geometry told counts fault worn next = absurd is
-  keeps_refused old a (put_error.Worn count) error new b is geometry told counts fault worn next =
-      subst (λ (n : NodeError). Keeps g OfFlash old a (Err n) new b) (sym is) (record {
-        fits = tt;
-        alone = tt;
+  keeps_refused a (put_error.NoRoom room) error b is geometry told counts fault worn = absurd is
+  keeps_refused a (put_error.Worn count) error b is geometry told counts fault worn =
+      subst (λ (n : NodeError). Keeps g OfFlash a (Err n) b) (sym is) (record {
         geometry = geometry;
         told = told;
         never_memory = tt;
         never_foreign = tt;
-        worn = (worn.0, new.lines.store.bytes, worn.2);
-        worn_next = λ alone. elim next [ inl room ↦ room | inr spilled ↦ absurd (not_both old.lines.store.state alone spilled.0) ];
+        worn = worn;
         fault = tt;
         counts = counts;
       })
+
+  -- a flush found the guard row used up: home lacks room for the next entry, where the store stood alone
+  pub flush_worn : (armed : Bool) (old new : Node) (b : B) (e : PutError) (error : NodeError) → IsErrorOf e error
+      → put.OnWorn e (λ count. (count ≡ GUARD_HALFWORDS) × (armed ≡ false) × put.IsWorn g b new.lines.store.bytes)
+      → put.OnWorn e (λ count. IsWornForNext g b new.lines ⊎ (IsTrue (is_spilled old.lines.store) × (new.lines.pending ≡ old.lines.pending)))
+      → WornAlone g armed old new b error
+  flush_worn armed old new b (put_error.Fault kind) error is worn next = subst (λ (n : NodeError). WornAlone g armed old new b n) (sym is) tt
+  flush_worn armed old new b (put_error.NoRoom room) error is worn next = absurd is
+  flush_worn armed old new b (put_error.Worn count) error is worn next =
+      subst (λ (n : NodeError). WornAlone g armed old new b n) (sym is)
+      (worn.1, λ alone. elim next [ inl room ↦ room | inr spilled ↦ absurd (not_both old.lines.store.state alone spilled.0) ])
+
+  -- a compaction can't, where the store stood alone
+  pub compact_worn : (old new : Node) (b : B) (e : PutError) (error : NodeError) → IsErrorOf e error
+      → put.OnWorn e (λ count. (count ≡ GUARD_HALFWORDS) × (guard_of old.lines.store ≡ GUARD_HALFWORDS) × IsTrue (is_spilled old.lines.store)) → WornAlone g false old new b error
+  compact_worn old new b (put_error.Fault kind) error is worn = subst (λ (n : NodeError). WornAlone g false old new b n) (sym is) tt
+  compact_worn old new b (put_error.NoRoom room) error is worn = absurd is
+  compact_worn old new b (put_error.Worn count) error is worn =
+      subst (λ (n : NodeError). WornAlone g false old new b n) (sym is) (refl, λ alone. absurd (not_both old.lines.store.state alone worn.2))
+
+  flush_bytes : (armed : Bool) (b : B) (bytes : Bytes) (e : PutError) → put.OnWorn e (λ count. (count ≡ GUARD_HALFWORDS) × (armed ≡ false) × put.IsWorn g b bytes)
+      → put.OnWorn e (λ count. (count ≡ GUARD_HALFWORDS) × (bytes : Bytes) × put.IsWorn g b bytes)
+  flush_bytes armed b bytes (put_error.Fault kind) worn = tt
+  flush_bytes armed b bytes (put_error.NoRoom room) worn = tt
+  flush_bytes armed b bytes (put_error.Worn count) worn = (worn.0, bytes, worn.2)
+
+  pub keeps_flush_refused : (a : B) (e : PutError) (error : NodeError) (b : B) (armed : Bool) (bytes : Bytes) → IsErrorOf e error → g.sector_bytes b ≡ g.sector_bytes a → (g.tells b → g.tells a)
+      → ((k : Fault) → g.faults a k ≤ g.faults b k)
+      → put.OnFault e (λ kind. (kind ≡ Read ⊎ kind ≡ Flash) × Rose (g.faults a kind) (g.faults b kind))
+      → put.OnWorn e (λ count. (count ≡ GUARD_HALFWORDS) × (armed ≡ false) × put.IsWorn g b bytes)
+      → Keeps g OfFlash a (Err error) b
+  keeps_flush_refused a e error b armed bytes is geometry told counts fault worn =
+      keeps_refused a e error b is geometry told counts fault (flush_bytes armed b bytes e worn)
+
+  compact_bytes : (old : Node) (b : B) (bytes : Bytes) (free : ℕ) (e : PutError)
+      → put.OnWorn e (λ count. (count ≡ GUARD_HALFWORDS) × (guard_of old.lines.store ≡ GUARD_HALFWORDS) × IsTrue (is_spilled old.lines.store))
+      → put.OnWorn e (λ count. put.IsWornWith g b bytes free) → put.OnWorn e (λ count. (count ≡ GUARD_HALFWORDS) × (bytes : Bytes) × put.IsWorn g b bytes)
+  compact_bytes old b bytes free (put_error.Fault kind) worn copied = tt
+  compact_bytes old b bytes free (put_error.NoRoom room) worn copied = tt
+  compact_bytes old b bytes free (put_error.Worn count) worn copied = (worn.0, bytes, (copied.0, copied.1, copied.2))
+
+  pub keeps_compact_refused : (a : B) (e : PutError) (error : NodeError) (b : B) (old : Node) (bytes : Bytes) (free : ℕ) → IsErrorOf e error → g.sector_bytes b ≡ g.sector_bytes a → (g.tells b → g.tells a)
+      → ((k : Fault) → g.faults a k ≤ g.faults b k)
+      → put.OnFault e (λ kind. (kind ≡ Read ⊎ kind ≡ Flash) × Rose (g.faults a kind) (g.faults b kind))
+      → put.OnWorn e (λ count. (count ≡ GUARD_HALFWORDS) × (guard_of old.lines.store ≡ GUARD_HALFWORDS) × IsTrue (is_spilled old.lines.store))
+      → put.OnWorn e (λ count. put.IsWornWith g b bytes free)
+      → Keeps g OfFlash a (Err error) b
+  keeps_compact_refused a e error b old bytes free is geometry told counts fault worn copied =
+      keeps_refused a e error b is geometry told counts fault (compact_bytes old b bytes free e worn copied)

@@ -1,5 +1,8 @@
 pub mod LawsBelow
 pub mod RunLaws
+pub mod Orders
+pub mod Acknowledging
+pub mod Floors
 pub mod Readings
 pub mod At
 pub mod Passing
@@ -14,5 +17,6 @@ pub mod Putting
 pub mod FramesSent
 pub mod RepliesSent
 pub mod ActAnswers
+pub mod Fitting
 pub mod StationsTold
 pub mod Senders

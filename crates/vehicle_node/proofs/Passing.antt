@@ -1,13 +1,16 @@
 -- Calls one after another, each with what it adds.
 use Rattle.std.proofs.Common.{◌≡◌, inl, List, [], ◌++◌, refl, sym, ◌∙◌, ap, subst, append_assoc, append-nil, Result, Ok, Err}
-use Rattle.std.specs.Prelude.{⊤, OnOk, OnErr, IsErr}
+use Rattle.std.specs.Prelude.{⊤, OnOk, OnErr, IsErr, IsErrAnd, IfErr}
+use Rattle.std.proofs.lemmas.Result.{err_from_is_err_and}
 use Rattle.flash_traits.specs.declared.board.Board.{Ghosts}
 use Rattle.flash_traits.specs.Calls.{Passes}
 use Rattle.flash_traits.specs.Losses.{Received, SentFrame, Outcome, After}
 use Rattle.flash_traits.proofs.Moments.{up_to_self, chained, weaker}
 use Rattle.vehicle_node.specs.Safe.{Adds}
 use Rattle.vehicle_node.specs.Steps.Calls.{MaySend, HasSent, Call}
+use Rattle.vehicle_node.specs.Refusals.{OnWorn}
 use Rattle.vehicle_node.specs.declared.NodeError.{NodeError}
+use Rattle.vehicle_node.specs.declared.NodeError.TheVariants as node_error
 
 -- what holds at an Ok, and what holds of every error
 pub on_ok : {T E : Type 0} (result : Result T E) (P Q : Type 0) → (P → Q) → OnOk result P → OnOk result Q
@@ -24,6 +27,30 @@ at_err (Err e) P err = tt
 pub on_err : {T E : Type 0} (r : Result T E) (P : Type 0) → P → OnErr r P
 on_err (Ok x) P p = tt
 on_err (Err e) P p = p
+
+-- what an error says, where that is more than enough
+pub worn_more : (e : NodeError) (P Q : Type 0) → (P → Q) → OnWorn e (λ count. P) → OnWorn e (λ count. Q)
+worn_more node_error.Memory P Q more worn = tt
+worn_more (node_error.Fault kind) P Q more worn = tt
+worn_more (node_error.Foreign region offset word) P Q more worn = tt
+worn_more (node_error.Worn count) P Q more worn = more worn
+
+-- an error of which nothing is said
+pub no_stop : (r : Result ⊤ NodeError) → IfErr r (λ e. Unit {0})
+no_stop (Ok v) = tt
+no_stop (Err e) = tt
+
+-- what the exit of a `?` returns
+pub passed_on : {T : Type 0} (r : Result T NodeError) (e : NodeError) → IsErrAnd r (λ d. d ≡ e) → r ≡ Err e
+passed_on {T} r e err =
+    let p = err_from_is_err_and {Q = λ (d : NodeError). d ≡ e} r err in
+    p.1 ∙ ap (λ (d : NodeError). let t : Result T NodeError = Err d in t) p.2
+
+pub error_passed : {T : Type 0} (r : Result T NodeError) (e : NodeError) (P : Result T NodeError → Type 0) → IsErrAnd r (λ d. d ≡ e) → P (Err e) → P r
+error_passed r e P err p = subst P (sym (passed_on r e err)) p
+
+pub error_at : {T : Type 0} (r : Result T NodeError) (e : NodeError) (S : NodeError → Type 0) → IsErrAnd r (λ d. d ≡ e) → S e → IfErr r S
+error_at {T} r e S err s = subst (λ (t : Result T NodeError). IfErr t S) (sym (passed_on r e err)) s
 
 pub adds_none : (s : Outcome) → Adds [] [] s s
 adds_none s = record { events_are = sym (append-nil s.events); frames_are = sym (append-nil s.frames) }
@@ -95,6 +122,8 @@ module _ {B : Type 0} (g : Ghosts B) where
   }
 
   -- the same call, cut short, with more that might be lost
-  pub cut_call : {lost step : Outcome → Outcome → Type 0} {P : Type 0} (Q : Type 0) (a b : B) (s r : Result ⊤ NodeError) → Call g lost P a s b → IsErr r
-      → ((s o : Outcome) → g.now a s → lost s o → step s o) → Call g step Q a r b
-  cut_call {lost} {step} {P} Q a b s r call err more = record { losses = weaker step step call.losses more more; lists = call.lists; done = at_err r Q err }
+  pub cut_call : {lost step : Outcome → Outcome → Type 0} {S : NodeError → Type 0} {P : Type 0} (T : NodeError → Type 0) (Q : Type 0) (a b : B) (e : NodeError) (r : Result ⊤ NodeError) → Call g lost S P a (Err e) b
+      → IsErrAnd r (λ d. d ≡ e) → ((s o : Outcome) → g.now a s → lost s o → step s o) → (S e → T e) → Call g step T Q a r b
+  cut_call {lost} {step} {S} {P} T Q a b e r call err more stops =
+      subst (λ (t : Result ⊤ NodeError). Call g step T Q a t b) (sym (passed_on r e err))
+      (record { losses = weaker step step call.losses more more; lists = call.lists; done = tt; stopped = stops call.stopped })

@@ -1,6 +1,6 @@
 -- Replies sent one after another.
-use Rattle.std.proofs.Common.{◌≡◌, ℕ, zero, suc, ◌+◌, ◌-◌, ◌<◌, ◌≤◌, false, List, [], ◌∷◌, ◌++◌, length, take, drop, get_or, map, Result, Ok, refl, sym, ◌∙◌, ap, subst, arith, append-nil, take-append-drop}
-use Rattle.std.specs.Prelude.{⊤, IsErr, filter}
+use Rattle.std.proofs.Common.{◌≡◌, ℕ, zero, suc, ◌+◌, ◌-◌, ◌<◌, ◌≤◌, false, List, [], ◌∷◌, ◌++◌, length, take, drop, get_or, map, Result, Ok, Err, refl, sym, ◌∙◌, ap, subst, arith, append-nil, take-append-drop}
+use Rattle.std.specs.Prelude.{⊤, IsErrAnd, filter}
 use Rattle.std.specs.List.{range_with_len}
 use Rattle.std.proofs.lemmas.List.{map-append}
 use Rattle.std.proofs.lemmas.List.Elements.{filter-append}
@@ -14,7 +14,7 @@ use Rattle.vehicle_node.specs.Frames.{Machine, Delivery, stations, deliveries, d
 use Rattle.vehicle_node.specs.Standing.{Node}
 use Rattle.vehicle_node.specs.Steps.Sending.{SentAll, SendDone, delivery, deliveries_to}
 use Rattle.vehicle_node.proofs.FramesSent.{counted-vehicle, prefix_more, sent_none, sent_then, losses_then}
-use Rattle.vehicle_node.proofs.Passing.{on_ok, cut_call, lists_then}
+use Rattle.vehicle_node.proofs.Passing.{on_ok, cut_call, no_stop, lists_then}
 
 module _ {B : Type 0} (g : Ghosts B) where
   pub done_none : (ds : List Delivery) (node : Node) (b : B) → ds ≡ [] → SendDone g ds node b (Ok tt) node b
@@ -28,15 +28,16 @@ module _ {B : Type 0} (g : Ghosts B) where
       subst (λ (ds : List Delivery). SendDone g ds old a r new c) (sym is) (record {
         losses = losses_then g xs ys old a mid b sent c first.losses second.losses;
         lists = lists_then g a b c first.lists second.lists;
+        stopped = no_stop r;
         done = on_ok r (SentAll g ys mid b new c) (SentAll g (xs ++ ys) old a new c) (λ more. sent_then g xs ys old a mid b sent new c more) second.done;
       })
 
   -- more was to be sent
-  pub done_short : (xs ys zs : List Delivery) (old : Node) (a : B) (s r : Result ⊤ NodeError) (new : Node) (c : B)
-      → SendDone g xs old a s new c → IsErr r → zs ≡ xs ++ ys → SendDone g zs old a r new c
-  done_short xs ys zs old a s r new c some err is =
+  pub done_short : (xs ys zs : List Delivery) (old : Node) (a : B) (e : NodeError) (r : Result ⊤ NodeError) (new : Node) (c : B)
+      → SendDone g xs old a (Err e) new c → IsErrAnd r (λ d. d ≡ e) → zs ≡ xs ++ ys → SendDone g zs old a r new c
+  done_short xs ys zs old a e r new c some err is =
       subst (λ (ds : List Delivery). SendDone g ds old a r new c) (sym is)
-      (cut_call g (SentAll g (xs ++ ys) old a new c) a c s r some err (λ u o now step. prefix_more old.machine xs ys u o step))
+      (cut_call g (λ e. Unit {0}) (SentAll g (xs ++ ys) old a new c) a c e r some err (λ u o now step. prefix_more old.machine xs ys u o step) (λ s. s))
 
   -- the same over a vehicle that stays
   pub vehicle_stays : (ds : List Delivery) (old : Node) (a : B) (new : Node) (c : B) → SendDone g ds old a (Ok tt) new c → new.machine.vehicle ≡ old.machine.vehicle

@@ -1,12 +1,12 @@
 -- What the vehicle sends: which frames go to whom.
-use Rattle.std.specs.Prelude.{◌≡◌, ℕ, ◌+◌, ◌%◌, Bool, List, [], ◌∷◌, map, filter, replicate, slice_index, slice_set}
+use Rattle.std.specs.Prelude.{◌≡◌, ℕ, ◌+◌, ◌%◌, max, Bool, List, [], ◌∷◌, map, filter, replicate, slice_index, slice_set, if◌then◌else◌}
 use Rattle.std.specs.List.{AllZip, flat_map, fold, range_with_len}
 use Rattle.flash_traits.specs.Losses.{SentFrame}
 use Rattle.mav_messages.specs.declared.messages.Message.{Message}
 use Rattle.mav_messages.specs.declared.messages.To.{To}
 use Rattle.mav_messages.specs.declared.messages.To.TheVariants.{Station, All}
 use Rattle.mav_frames.specs.Frames.{IsSent}
-use Rattle.vehicle_core.specs.Vehicle.{Vehicle, Content, Told, new_vehicle, is_heard, speaks_v2}
+use Rattle.vehicle_core.specs.Vehicle.{Vehicle, Content, Told, new_vehicle, is_heard, speaks_v2, is_storage_acknowledgement}
 use Rattle.vehicle_core.specs.Replies.{Tells}
 
 -- the eight stations
@@ -38,12 +38,14 @@ pub record Machine : Type 0 where
 abbrev pub new_machine : Machine
 new_machine = record { vehicle = new_vehicle; sequences = replicate 8 0 }
 
--- A delivery with the version and the sequence number of its frame.
+-- A delivery with the version and the sequence number of its frame, and how many lines were issued
+-- before it.
 pub record Answer : Type 0 where
   pub station : ℕ
   pub v2 : Bool
   pub sequence : ℕ
   pub content : Content
+  pub issued : ℕ
 
 -- one frame more: each station has sequence numbers of its own, from 0 on, modulo 256
 abbrev pub counted : Machine → Delivery → Machine
@@ -55,15 +57,25 @@ counted machine d = record machine {
 abbrev pub counted_all : Machine → List Delivery → Machine
 counted_all machine ds = fold counted machine ds
 
--- each delivery goes as a frame of the station's version, with the station's next sequence number
-abbrev pub numbered : Machine → List Delivery → List Answer
-numbered machine [] = []
-numbered machine (d ∷ ds) = record {
+-- each delivery goes as a frame of the station's version, with the station's next sequence number,
+-- after so many lines were issued
+abbrev pub numbered : ℕ → Machine → List Delivery → List Answer
+numbered issued machine [] = []
+numbered issued machine (d ∷ ds) = record {
   station = d.station;
   v2 = speaks_v2 machine.vehicle d.station;
   sequence = slice_index machine.sequences d.station;
   content = d.content;
-} ∷ numbered (counted machine d) ds
+  issued = issued;
+} ∷ numbered issued (counted machine d) ds
+
+-- the most lines that were issued before one of the storage acknowledgements among these answers, or
+-- 0
+abbrev pub acknowledged : List Answer → ℕ
+acknowledged [] = 0
+acknowledged (answer ∷ answers) =
+    max (if is_storage_acknowledgement answer.content then answer.issued else 0)
+    (acknowledged answers)
 
 -- The frame of an answer goes to its station, from system 1, component 1, and its message says what
 -- is told.

@@ -14,11 +14,11 @@ CountsUpTo most row = (count : ℕ) × IsGuardRow row count × (count ≤ most)
 
 -- What a loss leaves has a guard count of at most what the run may raise it to over these events
 -- and those that have been added since an outcome.
-pub record RisesWithin (count : ℕ) (b : List ℕ) (events : List Received) (from o : Outcome)
+pub record RisesWithin (budget count : ℕ) (b : List ℕ) (events : List Received) (from o : Outcome)
     : Type 0 where
   pub added_events : List Received
   pub events_are : o.events ≡ from.events ++ added_events
   pub acts : List (List Act)
   pub rests : List (List ℕ)
   pub reads : Reads no_rests (events ++ added_events) acts rests
-  pub guard : CountsUpTo (raised_in count (run_of b acts)) o.words.guard
+  pub guard : CountsUpTo (raised_in count (run_of budget b acts)) o.words.guard

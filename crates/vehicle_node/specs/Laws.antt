@@ -1,9 +1,11 @@
 -- What holds of every reading.
-use Rattle.std.specs.Prelude.{◌≡◌, ◌⊎◌, ◌<◌, ℕ, List, All, Option}
+use Rattle.std.specs.Prelude.{◌≡◌, ◌⊎◌, ◌<◌, ℕ, ◌+◌, min, max, List, [], ◌∷◌, ◌++◌, length, All, Option}
 use Rattle.flash_traits.specs.Losses.{Received, Datagram, Idle, End}
 use Rattle.vehicle_core.specs.Vehicle.{Asked}
 use Rattle.vehicle_core.specs.Acts.{Act}
+use Rattle.vehicle_node.specs.Frames.{Answer, acknowledged}
 use Rattle.vehicle_node.specs.Reading.{Says, IsSilent, Reads, no_rests}
+use Rattle.vehicle_node.specs.Runs.{Run, run_of}
 
 -- A frame is silent or says something, and never more than one thing.
 pub record FramesAreRead : Type 0 where
@@ -27,3 +29,14 @@ EventsAreReadOnce = (events : List Received) (acts others : List (List Act))
     (rests left : List (List ℕ))
     → Reads no_rests events acts rests → Reads no_rests events others left
     → (acts ≡ others) × (rests ≡ left)
+
+-- After one event more, eight lines more are flushed than after the one before, or than were issued
+-- before the last storage acknowledgement of that event, or all.
+pub record FlooredByEvent (before r : Run) : Type 0 where
+  pub answers : List Answer
+  pub whole : before.answers ++ answers ≡ r.answers
+  pub floor : r.floor ≡ min (length r.issued) (max before.floor (acknowledged answers) + 8)
+
+abbrev pub FloorsByEvents : Type 0
+FloorsByEvents = (budget : ℕ) (b : List ℕ) (events : List (List Act)) (acts : List Act)
+    → FlooredByEvent (run_of budget b events) (run_of budget b (events ++ acts ∷ []))

@@ -1,6 +1,7 @@
 pub mod Frames
 pub mod Reading
 pub mod Runs
+pub mod Arming
 pub mod Boot
 pub mod Safe
 pub mod Standing

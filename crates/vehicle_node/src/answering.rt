@@ -1,9 +1,11 @@
-//! One act of an event: its lines are issued, and then its frames are sent.
-ghost use Rattle.std.specs.Prelude.{◌≡◌, ◌<◌, ◌≤◌, List, ℕ, All, length, Option};
+//! One act of an event: its lines are issued, all lines are put where it asks for that, and then
+//! its frames are sent.
+ghost use Rattle.std.specs.Prelude.{◌≡◌, ◌<◌, ◌≤◌, List, ℕ, All, length, Option, OnOk, true};
 ghost use Rattle.flash_traits.specs.declared.numbers.TheConstants.{STATIONS};
 ghost use Rattle.storage_lines.specs.declared.lines.TheConstants.{BATCH_LINES};
 ghost use Rattle.mav_frames.specs.Cut.{IsFrame};
 ghost use Rattle.mav_frames.specs.Frames.{IsReadFrom};
+ghost use Rattle.block_store.specs.Store as store;
 ghost use Rattle.dirty_lines.specs.Lines.{AreInside};
 ghost use Rattle.mission_service.specs.Replies.{target_of};
 ghost use Rattle.vehicle_core.specs.Vehicle.{Asked, Asks, Told};
@@ -12,7 +14,7 @@ ghost use Rattle.vehicle_core.specs.Replies.{AreRepliesOf};
 ghost use Rattle.vehicle_node.specs.Frames.{deliveries};
 ghost use Rattle.vehicle_node.specs.Standing.{Fits};
 ghost use Rattle.vehicle_node.specs.Steps.Calls.{Keeps, OfAnswer};
-ghost use Rattle.vehicle_node.specs.Steps.Answering.{AnswerDone, ActDone, FrameDone};
+ghost use Rattle.vehicle_node.specs.Steps.Answering.{HasSpareFor, AnswerDone, ActDone, FrameDone};
 ghost use Rattle.vehicle_node.specs.Steps.Sending.{IsInside};
 
 mod issuing;
@@ -23,26 +25,32 @@ use flash_traits::Board;
 use mav_frames::{Frame, heading_of, message, message_in};
 use mav_messages::{Message, Replies, Sender};
 use storage_lines::Batch;
+use vehicle_core::Need;
 
 impl Node {
-    /// Issues the lines of an act, and then sends its replies.
+    /// Issues the lines of an act, does what it needs, and then sends its replies.
     fn answer<B: Board>(
         &mut self,
         board: &mut B,
+        need: Need,
+        armed: bool,
         batch: &Batch,
         replies: &Replies,
     ) -> Result<(), NodeError>
-        requires fits { Fits B.Board board.old self.old }
+        requires fits { store.Fits B.Board board.old self.old.lines.store }
+        requires room { armed ≡ true → HasSpareFor self.old (length batch.now.items) }
         requires lines { AreInside batch.now.items }
         requires few { length batch.now.items ≤ BATCH_LINES }
         requires stations { All (λ reply. IsInside reply.to) replies.now.items }
         ensures done { (told : List Told) → AreRepliesOf told replies.now.items → AnswerDone B.Board
-            batch.now.items (deliveries self.old.machine.vehicle told) self.old board.old
+            need armed batch.now.items (deliveries self.old.machine.vehicle told) self.old board.old
             result self.new board.new }
-        ensures keeps { Keeps B.Board OfAnswer self.old board.old result self.new board.new }
+        ensures fits { OnOk result (store.Fits B.Board board.new self.new.lines.store) }
+        ensures keeps { Keeps B.Board OfAnswer board.old result board.new }
     {
-        self.issue(board, batch)?;
+        self.issue(board, batch, armed)?;
         self.issued = self.issued.saturating_add(batch.len() as u64);
+        self.settle(board, need, armed)?;
         self.send_replies(board, replies)
     }
 
@@ -59,19 +67,24 @@ impl Node {
         ensures done { (asked : Option Asked) × Asks (target_of from) message.now asked ×
             ActDone B.Board self.old board.old (Said from.station (heard_as v2 asked))
             result self.new board.new }
-        ensures keeps { Keeps B.Board OfAnswer self.old board.old result self.new board.new }
+        ensures fits { OnOk result (Fits B.Board board.new self.new) }
+        ensures keeps { Keeps B.Board OfAnswer board.old result board.new }
     {
         let mut batch = Batch::new();
         let mut replies = Replies::new();
-        self.core.message(
+        let was_armed = self.core.armed();
+        let need = self.core.message(
             self.lines.current(),
+            self.budget,
             from,
             v2,
             message,
             &mut batch,
             &mut replies,
         );
-        self.answer(board, &batch, &replies)
+        let is_armed = self.core.armed();
+        let armed = was_armed && is_armed;
+        self.answer(board, need, armed, &batch, &replies)
     }
 
     /// Answers a frame of a station, where it has a message.
@@ -85,7 +98,8 @@ impl Node {
         requires station { station < STATIONS }
         ensures done { (bytes : List ℕ) → IsReadFrom bytes frame.now →
             FrameDone B.Board self.old board.old station bytes result self.new board.new }
-        ensures keeps { Keeps B.Board OfAnswer self.old board.old result self.new board.new }
+        ensures fits { OnOk result (Fits B.Board board.new self.new) }
+        ensures keeps { Keeps B.Board OfAnswer board.old result board.new }
     {
         let Some(message) = message(frame) else {
             return Ok(());
@@ -110,7 +124,8 @@ impl Node {
         requires frame { IsFrame bytes.now }
         ensures done { FrameDone B.Board self.old board.old station bytes.now
             result self.new board.new }
-        ensures keeps { Keeps B.Board OfAnswer self.old board.old result self.new board.new }
+        ensures fits { OnOk result (Fits B.Board board.new self.new) }
+        ensures keeps { Keeps B.Board OfAnswer board.old result board.new }
     {
         let Some(message) = message_in(bytes) else {
             return Ok(());
@@ -130,11 +145,13 @@ impl Node {
         requires fits { Fits B.Board board.old self.old }
         requires station { station < STATIONS }
         ensures done { ActDone B.Board self.old board.old (Beat station) result self.new board.new }
-        ensures keeps { Keeps B.Board OfAnswer self.old board.old result self.new board.new }
+        ensures fits { OnOk result (Fits B.Board board.new self.new) }
+        ensures keeps { Keeps B.Board OfAnswer board.old result board.new }
     {
         let mut replies = Replies::new();
         self.core.idle(station, &mut replies);
-        self.answer(board, &Batch::new(), &replies)
+        let armed = self.core.armed();
+        self.answer(board, Need::Nothing, armed, &Batch::new(), &replies)
     }
 
     /// Sends the next values of the list that is being sent to a station.
@@ -143,11 +160,13 @@ impl Node {
         requires station { station < STATIONS }
         ensures done { ActDone B.Board self.old board.old (Stream station)
             result self.new board.new }
-        ensures keeps { Keeps B.Board OfAnswer self.old board.old result self.new board.new }
+        ensures fits { OnOk result (Fits B.Board board.new self.new) }
+        ensures keeps { Keeps B.Board OfAnswer board.old result board.new }
     {
         let mut replies = Replies::new();
         self.core
             .stream(self.lines.current(), station, &mut replies);
-        self.answer(board, &Batch::new(), &replies)
+        let armed = self.core.armed();
+        self.answer(board, Need::Nothing, armed, &Batch::new(), &replies)
     }
 }

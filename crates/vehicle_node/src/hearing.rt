@@ -1,5 +1,5 @@
 //! An event: the bytes of a station, or an idle turn, and then the lists that go on.
-ghost use Rattle.std.specs.Prelude.{◌≡◌, ◌<◌, ◌≤◌, ◌∷◌, [], List, ℕ, length, take, Some, None, IfSome, MatchOption};
+ghost use Rattle.std.specs.Prelude.{◌≡◌, ◌<◌, ◌≤◌, ◌∷◌, [], List, ℕ, length, take, Some, None, IfSome, MatchOption, OnOk};
 ghost use Rattle.flash_traits.specs.declared.numbers.TheConstants.{DATAGRAM_BYTES, STATIONS};
 ghost use Rattle.flash_traits.specs.Losses.{received, IsEventInRange, Datagram, Idle};
 ghost use Rattle.mav_frames.specs.Frames.{IsReadFrom};
@@ -40,7 +40,8 @@ impl Node {
         requires station { station < STATIONS }
         ensures done { HearDone B.Board self.old board.old station (byte ∷ [])
             result self.new board.new }
-        ensures keeps { Keeps B.Board OfAnswer self.old board.old result self.new board.new }
+        ensures fits { OnOk result (Fits B.Board board.new self.new) }
+        ensures keeps { Keeps B.Board OfAnswer board.old result board.new }
     {
         match self.push(station, byte) {
             Some(frame) => self.answer_frame(board, station, &frame),
@@ -74,7 +75,8 @@ impl Node {
         requires front { IsFront station bytes.now self.old.rests }
         ensures done { HearDone B.Board self.old board.old station bytes.now
             result self.new board.new }
-        ensures keeps { Keeps B.Board OfAnswer self.old board.old result self.new board.new }
+        ensures fits { OnOk result (Fits B.Board board.new self.new) }
+        ensures keeps { Keeps B.Board OfAnswer board.old result board.new }
     {
         self.answer_bytes(board, station, bytes)
     }
@@ -86,7 +88,8 @@ impl Node {
         requires station { station < STATIONS }
         ensures done { HearDone B.Board self.old board.old station bytes.now
             result self.new board.new }
-        ensures keeps { Keeps B.Board OfAnswer self.old board.old result self.new board.new }
+        ensures fits { OnOk result (Fits B.Board board.new self.new) }
+        ensures keeps { Keeps B.Board OfAnswer board.old result board.new }
     {
         self.keeps_a_rest(station);
         let mut at = 0;
@@ -109,7 +112,8 @@ impl Node {
     fn stream_all<B: Board>(&mut self, board: &mut B) -> Result<(), NodeError>
         requires fits { Fits B.Board board.old self.old }
         ensures done { ActsDone B.Board self.old board.old streams result self.new board.new }
-        ensures keeps { Keeps B.Board OfAnswer self.old board.old result self.new board.new }
+        ensures fits { OnOk result (Fits B.Board board.new self.new) }
+        ensures keeps { Keeps B.Board OfAnswer board.old result board.new }
     {
         for station in 0..STATIONS {
             if self.core.streams(station) {
@@ -123,7 +127,8 @@ impl Node {
     fn beat_all<B: Board>(&mut self, board: &mut B) -> Result<(), NodeError>
         requires fits { Fits B.Board board.old self.old }
         ensures done { ActsDone B.Board self.old board.old beats result self.new board.new }
-        ensures keeps { Keeps B.Board OfAnswer self.old board.old result self.new board.new }
+        ensures fits { OnOk result (Fits B.Board board.new self.new) }
+        ensures keeps { Keeps B.Board OfAnswer board.old result board.new }
     {
         for station in 0..STATIONS {
             self.beat(board, station)?;
@@ -142,7 +147,8 @@ impl Node {
         requires station { station < STATIONS }
         ensures done { TakeDone B.Board (Datagram station bytes.now) self.old board.old
             result self.new board.new }
-        ensures keeps { Keeps B.Board OfAnswer self.old board.old result self.new board.new }
+        ensures fits { OnOk result (Fits B.Board board.new self.new) }
+        ensures keeps { Keeps B.Board OfAnswer board.old result board.new }
     {
         frames_are_read();
         self.hear(board, station, bytes)?;
@@ -153,7 +159,8 @@ impl Node {
     fn answer_idle<B: Board>(&mut self, board: &mut B) -> Result<(), NodeError>
         requires fits { Fits B.Board board.old self.old }
         ensures done { TakeDone B.Board Idle self.old board.old result self.new board.new }
-        ensures keeps { Keeps B.Board OfAnswer self.old board.old result self.new board.new }
+        ensures fits { OnOk result (Fits B.Board board.new self.new) }
+        ensures keeps { Keeps B.Board OfAnswer board.old result board.new }
     {
         self.beat_all(board)?;
         self.stream_all(board)
@@ -171,7 +178,8 @@ impl Node {
         requires room { length buffer.now ≡ DATAGRAM_BYTES }
         ensures done { TakeDone B.Board (received event buffer.now) self.old board.old
             result self.new board.new }
-        ensures keeps { Keeps B.Board OfAnswer self.old board.old result self.new board.new }
+        ensures fits { OnOk result (Fits B.Board board.new self.new) }
+        ensures keeps { Keeps B.Board OfAnswer board.old result board.new }
     {
         match event {
             Event::Datagram { peer, len } => {

@@ -1,6 +1,7 @@
 //! What holds of every reading of events, and of boot.
+ghost use Rattle.vehicle_node.specs.Arming.{OrdersDecide};
 ghost use Rattle.vehicle_node.specs.Boot.{BootFormats};
-ghost use Rattle.vehicle_node.specs.Laws.{FramesAreRead, EventsAreRead, EventsAreReadOnce};
+ghost use Rattle.vehicle_node.specs.Laws.{FramesAreRead, EventsAreRead, EventsAreReadOnce, FloorsByEvents};
 
 use mav_frames::{a_message_or_none, one_message};
 use vehicle_core::asks_one_thing;
@@ -31,4 +32,14 @@ pub fn events_are_read_once()
 /// Boot leaves a parameter storage that is formatted.
 pub fn boot_formats()
     ensures { BootFormats }
+{}
+
+/// The orders that are heard decide whether the machine is armed, and what it needs.
+pub fn orders_decide()
+    ensures { OrdersDecide }
+{}
+
+/// What an event flushes for certain depends on its own storage acknowledgements alone.
+pub fn floors_by_events()
+    ensures { FloorsByEvents }
 {}

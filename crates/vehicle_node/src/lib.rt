@@ -1,17 +1,19 @@
 //! A node: the vehicle machine over a board, with its lines pending until they are put.
 //!
 //! A loss of power at any moment leaves the storage bytes after a prefix of the issued lines, which
-//! has every flushed one, and the frames that were sent are a prefix of the answers of the vehicle
-//! machine.
+//! has every flushed one and all that were issued before a storage acknowledgement that was sent,
+//! and the frames that were sent are a prefix of the answers of the vehicle machine. While the
+//! vehicle is armed nothing is erased.
 #![tactic(auto)]
 
-ghost use Rattle.std.specs.Prelude.{◌≡◌, ◌⊎◌, ◌+◌, ◌≤◌, ◌↔◌, ◌++◌, [], List, ℕ, length, Option, IfOk, IfErr, OnOk, OnErr, IsTrue, option_to_list};
+ghost use Rattle.std.specs.Prelude.{◌≡◌, ◌⊎◌, ◌+◌, ◌≤◌, ◌↔◌, ◌++◌, [], List, ℕ, length, true, Option, IfOk, IfErr, OnOk, OnErr, IsTrue, false, option_to_list};
 ghost use Rattle.flash_traits.specs.declared.numbers.TheConstants.{GUARD_HALFWORDS, DATAGRAM_BYTES};
 ghost use Rattle.flash_traits.specs.Words.{IsSectorSize};
+ghost use Rattle.flash_traits.specs.Budget.{budget_of};
 ghost use Rattle.flash_traits.specs.declared.board.Fault.{Fault};
 ghost use Rattle.flash_traits.specs.declared.board.Fault.TheVariants.{Read, Flash, Recv, Send};
 ghost use Rattle.flash_traits.specs.Losses.{Received, received, End, SentFrame, Outcome, After, ByResult};
-ghost use Rattle.flash_traits.specs.Calls.{Passes};
+ghost use Rattle.flash_traits.specs.Calls.{Passes, ErasesNothing};
 ghost use Rattle.flash_traits.specs.Causes.{Rose};
 ghost use Rattle.guard_row.specs.Row.{IsGuardRow};
 ghost use Rattle.storage_lines.specs.Lines.{after};
@@ -22,11 +24,9 @@ ghost use Rattle.dirty_lines.specs.Lines.{Lines};
 ghost use Rattle.dirty_lines.specs.Losses.{IsWornForNext};
 ghost use Rattle.vehicle_node.specs.Runs.{Run};
 ghost use Rattle.vehicle_node.specs.Safe.{SafeSince, Adds};
-ghost use Rattle.vehicle_node.specs.Standing.{Fits, IsAlone, StandsAt, StandsForRun, StaysWithin, Finished, Node};
+ghost use Rattle.vehicle_node.specs.Standing.{Fits, IsAloneUnlessArmed, StandsAt, StandsForRun, StaysWithin, Finished, WasArmed, Node, armed_in};
 ghost use Rattle.vehicle_node.specs.Guard.{RisesWithin};
 ghost use Rattle.vehicle_node.specs.Refusals.{OnMemory, OnFault, OnForeign, OnWorn, LeavesAlone};
-ghost use Rattle.vehicle_node.specs.Steps.Calls.{Keeps, OfFlash};
-ghost use Rattle.vehicle_node.specs.Steps.Answering.{FlushDone};
 
 mod answering;
 mod hearing;
@@ -35,8 +35,11 @@ mod opening;
 
 use crate::opening::{booted, error_of};
 use dirty_lines::{DirtyLines, PENDING_LINES};
-use flash_traits::{Board, Event, Fault, Region};
-pub use laws::{boot_formats, events_are_read, events_are_read_once, frames_are_read};
+use flash_traits::{Board, Event, Fault, Region, budget};
+pub use laws::{
+    boot_formats, events_are_read, events_are_read_once, floors_by_events, frames_are_read,
+    orders_decide,
+};
 use mav_frames::Cutter;
 use std::alloc::Global;
 use std::marker::Model;
@@ -77,6 +80,7 @@ pub enum Turn {
 /// between.
 #[derive(Drop)]
 pub struct Node {
+    pub(crate) budget: u32,
     pub(crate) lines: DirtyLines,
     pub(crate) core: Core,
     pub(crate) cutters: [Cutter; 8],
@@ -110,14 +114,17 @@ impl Node {
         requires attached { IsSectorSize (B.sector_bytes board.old) }
 
         ensures fits { IfOk result (λ node. Fits B.Board board.new node) }
-        ensures alone { IfOk result IsAlone }
+        ensures alone { IfOk result IsAloneUnlessArmed }
+        ensures unarmed { IfOk result (λ node. armed_in node ≡ false) }
         ensures stands { IfOk result (λ node. B.tells board.new → (b : List ℕ) →
             Stands (B.words board.old) b →
             StandsForRun node b [] [] 0) }
         ensures lists { (e : List Received) (f : List SentFrame) → B.has_lists board.old e f →
             B.has_lists board.new e f }
         ensures losses { (b : List ℕ) → (B.tells board.old → Stands (B.words board.old) b) →
-            Passes B.Board board.old board.new (SafeSince b [] [] 0) (SafeSince b [] [] 0) }
+            Passes B.Board board.old board.new
+            (SafeSince (budget_of (B.sector_bytes board.old)) b [] [] 0)
+            (SafeSince (budget_of (B.sector_bytes board.old)) b [] [] 0) }
         ensures here { OnOk result ((o : Outcome) → B.now board.new o →
             After (B.now board.old) (Adds [] []) o) }
         ensures geometry { B.sector_bytes board.new ≡ B.sector_bytes board.old }
@@ -127,7 +134,9 @@ impl Node {
         ensures guard { (count : ℕ) (b : List ℕ) →
             (B.tells board.old → IsGuardRow (B.words board.old).guard count ×
             Stands (B.words board.old) b) →
-            Passes B.Board board.old board.new (RisesWithin count b []) (RisesWithin count b []) }
+            Passes B.Board board.old board.new
+            (RisesWithin (budget_of (B.sector_bytes board.old)) count b [])
+            (RisesWithin (budget_of (B.sector_bytes board.old)) count b []) }
         ensures within { IfOk result (λ node. B.tells board.new → (count : ℕ) (b : List ℕ) →
             IsGuardRow (B.words board.old).guard count → Stands (B.words board.old) b →
             StaysWithin count node b [] [] 0) }
@@ -160,8 +169,8 @@ impl Node {
             Ok(lines) => lines,
             Err(error) => return Err(error_of(error)),
         };
-        let mut node = booted(lines);
-        node.flush_all(board)?;
+        let mut node = booted(budget(board.geometry()), lines);
+        node.flush_all(board, false)?;
         Ok(node)
     }
 
@@ -173,13 +182,14 @@ impl Node {
         requires room { length buffer.old ≡ DATAGRAM_BYTES }
 
         ensures fits { OnOk result (Fits B.Board board.new self.new) }
-        ensures alone { OnOk result (IsAlone self.old → IsAlone self.new) }
+        ensures alone { OnOk result (IsAloneUnlessArmed self.old → IsAloneUnlessArmed self.new) }
         ensures finished { IfOk result (λ turn. Finished B.Board
             self.old board.old self.new board.new turn) }
         ensures losses { (b : List ℕ) (events : List Received) (frames : List SentFrame) (m : ℕ) →
             (B.tells board.old → StandsForRun self.old b events frames m) →
-            Passes B.Board board.old board.new (SafeSince b events frames m)
-            (ByResult result (SafeSince b events frames (m + 1)) (SafeSince b events frames m)) }
+            Passes B.Board board.old board.new (SafeSince self.old.budget b events frames m)
+            (ByResult result (SafeSince self.old.budget b events frames (m + 1))
+            (SafeSince self.old.budget b events frames m)) }
         ensures geometry { B.sector_bytes board.new ≡ B.sector_bytes board.old }
         ensures told { B.tells board.new → B.tells board.old }
 
@@ -187,8 +197,8 @@ impl Node {
         ensures guard { (count : ℕ) (b : List ℕ) (events : List Received) (frames : List SentFrame)
             (m : ℕ) →
             (B.tells board.old → StaysWithin count self.old b events frames m) →
-            Passes B.Board board.old board.new (RisesWithin count b events)
-            (RisesWithin count b events) }
+            Passes B.Board board.old board.new (RisesWithin self.old.budget count b events)
+            (RisesWithin self.old.budget count b events) }
 
         // an event that was cut short was received or not, and some frames were sent
         ensures cut_lists { OnErr result ((e : List Received) (f : List SentFrame) →
@@ -200,8 +210,9 @@ impl Node {
         ensures never_foreign { IfErr result (λ e. OnForeign e (λ place. ⊥)) }
         ensures worn { IfErr result (λ e. OnWorn e (λ count. (count ≡ GUARD_HALFWORDS) ×
             (bytes : _) × IsWorn B.Board board.new bytes)) }
-        ensures worn_next { IfErr result (λ e. OnWorn e (λ count. IsAlone self.old →
-            IsWornForNext B.Board board.new self.new.lines)) }
+        ensures worn_next { IfErr result (λ e. OnWorn e (λ count. IsAloneUnlessArmed self.old →
+            IsWornForNext B.Board board.new self.new.lines
+            ⊎ WasArmed B.Board self.old board.old board.new)) }
         ensures fault { IfErr result (λ e. OnFault e (λ kind. (kind ≡ Read ⊎ (kind ≡ Flash ⊎
             (kind ≡ Recv ⊎ kind ≡ Send))) ×
             Rose (B.faults board.old kind) (B.faults board.new kind))) }
@@ -213,7 +224,8 @@ impl Node {
             Err(_) => return Err(NodeError::Fault(Fault::Recv)),
         };
         self.answer_event(board, event, buffer)?;
-        self.flush(board, 8)?;
+        let armed = self.core.armed();
+        self.flush(board, 8, armed)?;
         Ok(turn_of(event))
     }
 
@@ -228,43 +240,33 @@ impl Node {
             B.has_lists board.new e f }
         ensures losses { (b : List ℕ) (events : List Received) (frames : List SentFrame) (m : ℕ) →
             (B.tells board.old → StandsForRun self b events frames m) →
-            Passes B.Board board.old board.new (SafeSince b events frames m)
-            (SafeSince b events frames m) }
+            Passes B.Board board.old board.new (SafeSince self.budget b events frames m)
+            (SafeSince self.budget b events frames m) }
         ensures geometry { B.sector_bytes board.new ≡ B.sector_bytes board.old }
         ensures told { B.tells board.new → B.tells board.old }
+
+        // where the vehicle is armed nothing is erased
+        ensures still { armed_in self ≡ true → ErasesNothing B.Board board.old board.new }
 
         // the guard count rises by at most two for each line that was pending
         ensures guard { (count : ℕ) (b : List ℕ) (events : List Received) (frames : List SentFrame)
             (m : ℕ) →
             (B.tells board.old → StaysWithin count self b events frames m) →
-            Passes B.Board board.old board.new (RisesWithin count b events)
-            (RisesWithin count b events) }
+            Passes B.Board board.old board.new (RisesWithin self.budget count b events)
+            (RisesWithin self.budget count b events) }
 
         ensures never_memory { IfErr result (λ e. OnMemory e ⊥) }
         ensures never_foreign { IfErr result (λ e. OnForeign e (λ place. ⊥)) }
         ensures worn { IfErr result (λ e. OnWorn e (λ count. (count ≡ GUARD_HALFWORDS) ×
             (bytes : _) × IsWorn B.Board board.new bytes)) }
-        ensures worn_next { IfErr result (λ e. OnWorn e (λ count. IsAlone self →
+        ensures worn_next { IfErr result (λ e. OnWorn e (λ count. IsAloneUnlessArmed self →
             (lines : Lines) × IsWornForNext B.Board board.new lines)) }
         ensures fault { IfErr result (λ e. OnFault e (λ kind. (kind ≡ Read ⊎ kind ≡ Flash) ×
             Rose (B.faults board.old kind) (B.faults board.new kind))) }
         ensures counts { (k : Fault) → B.faults board.old k ≤ B.faults board.new k }
     {
-        self.flush_all(board)
-    }
-
-    /// Puts all pending lines.
-    fn flush_all<B: Board>(&mut self, board: &mut B) -> Result<(), NodeError>
-        requires fits { Fits B.Board board.old self.old }
-        ensures done { FlushDone B.Board (length self.old.lines.pending)
-            self.old board.old result self.new board.new }
-        ensures nothing { OnOk result (self.new.lines.pending ≡ []) }
-        ensures lists { (e : List Received) (f : List SentFrame) → B.has_lists board.old e f →
-            B.has_lists board.new e f }
-        ensures keeps { Keeps B.Board OfFlash self.old board.old result self.new board.new }
-    {
-        let pending = self.lines.pending();
-        self.flush(board, pending)
+        let armed = self.core.armed();
+        self.flush_all(board, armed)
     }
 
     /// How many frames were sent since the opening.

@@ -93,12 +93,13 @@ fn issue_boot(lines: &mut DirtyLines) -> u64
 }
 
 /// A node that has heard and sent nothing, with the lines of boot pending.
-pub(crate) fn booted(mut lines: DirtyLines) -> Node
+pub(crate) fn booted(budget: u32, mut lines: DirtyLines) -> Node
     requires nothing { lines.pending ≡ [] }
-    ensures { IsBooted lines result }
+    ensures { IsBooted budget lines result }
 {
     let issued = issue_boot(&mut lines);
     Node {
+        budget,
         lines,
         core: Core::new(),
         cutters: [

@@ -1,5 +1,5 @@
 -- What every private call of a node says.
-use Rattle.std.specs.Prelude.{◌≡◌, ◌⊎◌, ◌≤◌, List, ◌++◌, Result, ⊤, OnOk, IfErr}
+use Rattle.std.specs.Prelude.{◌≡◌, ◌⊎◌, ◌≤◌, List, ◌++◌, Bool, false, Result, ⊤, OnOk, IfErr}
 use Rattle.flash_traits.specs.declared.numbers.TheConstants.{GUARD_HALFWORDS}
 use Rattle.flash_traits.specs.declared.board.Board.{Ghosts}
 use Rattle.flash_traits.specs.declared.board.Fault.{Fault}
@@ -9,7 +9,7 @@ use Rattle.flash_traits.specs.Causes.{Rose}
 use Rattle.flash_traits.specs.Losses.{Received, SentFrame, Outcome, After, KeepsWords}
 use Rattle.block_store.specs.Refusals.{IsWorn}
 use Rattle.dirty_lines.specs.Losses.{IsWornForNext}
-use Rattle.vehicle_node.specs.Standing.{Node, Fits, IsAlone}
+use Rattle.vehicle_node.specs.Standing.{Node, IsAlone, IsAloneUnlessArmed}
 use Rattle.vehicle_node.specs.Refusals.{OnMemory, OnFault, OnForeign, OnWorn}
 use Rattle.vehicle_node.specs.declared.NodeError.{NodeError}
 
@@ -27,13 +27,26 @@ pub record HasSent {B : Type 0} (g : Ghosts B) (frames : List SentFrame)
   pub here : (o : Outcome) → g.now after_board o → After (g.now board) step o
   pub receptions : (g.moment after_board).receptions ≡ (g.moment board).receptions
 
--- A call: what a loss inside leaves, what it does to the lists, and what was done where it wasn't
--- cut short.
-pub record Call {B : Type 0} (g : Ghosts B) (lost : Outcome → Outcome → Type 0) (Done : Type 0)
+-- A call: what a loss inside leaves, what it does to the lists, what was done where it wasn't cut
+-- short, and what its error says.
+pub record Call {B : Type 0} (g : Ghosts B) (lost : Outcome → Outcome → Type 0)
+    (Stopped : NodeError → Type 0) (Done : Type 0)
     (board : B) (result : Result ⊤ NodeError) (after_board : B) : Type 0 where
   pub losses : Passes g board after_board lost lost
   pub lists : MaySend g board after_board
   pub done : OnOk result Done
+  pub stopped : IfErr result Stopped
+
+-- The guard row is found to be used up only where the call isn't armed, and then, where the store
+-- stood alone, home lacks room for the next entry.
+abbrev pub WornAlone : {B : Type 0} → Ghosts B → Bool → Node → Node → B → NodeError → Type 0
+WornAlone g armed old new after_board error = OnWorn error (λ count. (armed ≡ false)
+    × (IsAlone old → IsWornForNext g after_board new.lines))
+
+-- The same where the store stood alone unless the vehicle was armed: or the vehicle was armed.
+abbrev pub WornWhere : {B : Type 0} → Ghosts B → Node → Type 0 → Node → B → NodeError → Type 0
+WornWhere g old Armed new after_board error = OnWorn error (λ count. IsAloneUnlessArmed old
+    → IsWornForNext g after_board new.lines ⊎ Armed)
 
 -- the faults that putting lines may meet
 abbrev pub OfFlash : Fault → Type 0
@@ -43,21 +56,16 @@ OfFlash kind = kind ≡ Read ⊎ kind ≡ Flash
 abbrev pub OfAnswer : Fault → Type 0
 OfAnswer kind = kind ≡ Read ⊎ (kind ≡ Flash ⊎ kind ≡ Send)
 
--- The node still fits the board and stands alone where it did, the geometry stays, no words are
--- told that weren't, no count of faults falls, and the call stops only at a fault of these kinds or
--- where the guard row is used up and home lacks room for the next entry.
-pub record Keeps {B : Type 0} (g : Ghosts B) (kinds : Fault → Type 0) (old : Node) (board : B)
-    (result : Result ⊤ NodeError) (new : Node) (after_board : B) : Type 0 where
-  pub fits : OnOk result (Fits g after_board new)
-  pub alone : OnOk result (IsAlone old → IsAlone new)
+-- The geometry stays, no words are told that weren't, no count of faults falls, and the call stops
+-- only at a fault of these kinds or where the guard row is used up.
+pub record Keeps {B : Type 0} (g : Ghosts B) (kinds : Fault → Type 0) (board : B)
+    (result : Result ⊤ NodeError) (after_board : B) : Type 0 where
   pub geometry : g.sector_bytes after_board ≡ g.sector_bytes board
   pub told : g.tells after_board → g.tells board
   pub never_memory : IfErr result (λ e. OnMemory e ⊥)
   pub never_foreign : IfErr result (λ e. OnForeign e (λ place. ⊥))
   pub worn : IfErr result (λ e. OnWorn e (λ count. (count ≡ GUARD_HALFWORDS) × (bytes : _)
       × IsWorn g after_board bytes))
-  pub worn_next : IfErr result (λ e. OnWorn e (λ count. IsAlone old
-      → IsWornForNext g after_board new.lines))
   pub fault : IfErr result (λ e. OnFault e (λ kind. kinds kind
       × Rose (g.faults board kind) (g.faults after_board kind)))
   pub counts : (k : Fault) → g.faults board k ≤ g.faults after_board k

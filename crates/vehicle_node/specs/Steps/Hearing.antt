@@ -1,16 +1,18 @@
 -- Several acts of an event, one after another: what was answered, and what a loss inside leaves.
 use Rattle.std.specs.Prelude.{◌≡◌, ◌≤◌, ℕ, ◌+◌, ◌*◌, List, [], ◌∷◌, ◌++◌, length, Option, Some, Result, ⊤, slice_get, slice_set}
 use Rattle.flash_traits.specs.declared.board.Board.{Ghosts}
+use Rattle.flash_traits.specs.Calls.{ErasesNothing}
 use Rattle.flash_traits.specs.Losses.{Received, SentFrame, Outcome}
 use Rattle.storage_lines.specs.declared.lines.LineWrite.{LineWrite}
 use Rattle.mav_frames.specs.Cut.{Piece, Whole, IsFrame, Cut, Pushes, frames_in}
 use Rattle.vehicle_core.specs.Acts.{Act}
+use Rattle.vehicle_node.specs.Arming.{NoneFlushes, is_armed_after_all, IsArmedThroughout, IsArmedOnce}
 use Rattle.vehicle_node.specs.Guard.{CountsUpTo}
 use Rattle.vehicle_node.specs.Reading.{AreSaid, IsEvent}
 use Rattle.vehicle_node.specs.Runs.{Run, all_acts}
 use Rattle.vehicle_node.specs.Safe.{SafeAt, Adds}
-use Rattle.vehicle_node.specs.Standing.{Node, StandsAt, ceiling, raised_by}
-use Rattle.vehicle_node.specs.Steps.Calls.{HasSent, Call}
+use Rattle.vehicle_node.specs.Standing.{Node, IsAloneUnlessArmed, StandsAt, armed_in, ceiling, raised_by}
+use Rattle.vehicle_node.specs.Steps.Calls.{HasSent, Call, WornWhere}
 use Rattle.vehicle_node.specs.declared.NodeError.{NodeError}
 use Rattle.vehicle_node.specs.declared.TheConstants.{ROOM_FROM}
 
@@ -30,28 +32,33 @@ pub record SafeInside (limit : ℕ) (b : List ℕ) (r : Run) (floor : ℕ) (sent
   pub safe : SafeAt b r floor (sent ++ added_frames) o.words
   pub guard : CountsUpTo (limit + 2 * length r.issued) o.words.guard
 
--- These acts were answered: wherever the node was in a run, it is after these acts. Where there are
--- few lines enough, none was put.
+-- These acts were answered: wherever the node was in a run, it is after these acts. Where none of
+-- them puts all and there are few lines enough, none was put.
 pub record AnsweredAll {B : Type 0} (g : Ghosts B) (old : Node) (board : B) (acts : List Act)
     (new : Node)
     (after_board : B) : Type 0 where
   pub frames : List SentFrame
   pub sent : HasSent g frames (Adds [] frames) board after_board
   pub stands : (b : List ℕ) (r : Run) (sent : List SentFrame) → StandsAt old b r sent
-      → StandsAt new b (all_acts b r acts) (sent ++ frames)
+      → StandsAt new b (all_acts old.budget b r acts) (sent ++ frames)
   pub issued : List LineWrite
   pub grew : (b : List ℕ) (r : Run) (sent : List SentFrame) → StandsAt old b r sent
-      → (all_acts b r acts).issued ≡ r.issued ++ issued
+      → (all_acts old.budget b r acts).issued ≡ r.issued ++ issued
   pub counted : new.issued ≡ raised_by (length issued) old.issued
   pub put : List LineWrite
   pub split : put ++ new.lines.pending ≡ old.lines.pending ++ issued
-  pub few : length old.lines.pending + length issued ≤ ROOM_FROM → put ≡ []
+  pub few : NoneFlushes acts → length old.lines.pending + length issued ≤ ROOM_FROM → put ≡ []
   pub ahead : ceiling new ≤ ceiling old + 2 * length issued
+  pub budget : new.budget ≡ old.budget
+  pub armed : armed_in new ≡ is_armed_after_all (armed_in old) acts
+  pub alone : IsAloneUnlessArmed old → IsAloneUnlessArmed new
+  pub still : IsArmedThroughout (armed_in old) acts → ErasesNothing g board after_board
 
 -- wherever the node was in a run, what a loss leaves is safe in the run with these acts
 abbrev pub SafeIn : Node → List Act → Outcome → Outcome → Type 0
 SafeIn node acts from o = (limit : ℕ) (b : List ℕ) (r : Run) (sent : List SentFrame)
-    → StandsBelow limit node b r sent → SafeInside limit b (all_acts b r acts) r.floor sent from o
+    → StandsBelow limit node b r sent
+    → SafeInside limit b (all_acts node.budget b r acts) r.floor sent from o
 
 pub record ActsAnswered {B : Type 0} (g : Ghosts B) (old : Node) (board : B) (acts : List Act)
     (new : Node)
@@ -63,7 +70,8 @@ pub record ActsAnswered {B : Type 0} (g : Ghosts B) (old : Node) (board : B) (ac
 abbrev pub ActsDone : {B : Type 0} → Ghosts B → Node → B → List Act → Result ⊤ NodeError → Node → B
     → Type 0
 ActsDone g old board acts result new after_board =
-    Call g (SafeIn old acts) (ActsAnswered g old board acts new after_board) board result after_board
+    Call g (SafeIn old acts) (WornWhere g old (IsArmedOnce (armed_in old) acts) new after_board)
+    (ActsAnswered g old board acts new after_board) board result after_board
 
 -- These bytes of a station were cut into frames after its rest, and the frames say this.
 pub record IsHeard (station : ℕ) (bytes : List ℕ) (old : List (List ℕ)) (said : List Act)
@@ -103,21 +111,30 @@ pub record IsFront (station : ℕ) (bytes : List ℕ) (rests : List (List ℕ)) 
 
 -- A prefix of a station's bytes was heard, and what was sent and put is safe in the run with what
 -- it says.
-pub record SafeHearing (station : ℕ) (bytes : List ℕ) (rests : List (List ℕ)) (limit : ℕ)
-    (b : List ℕ)
+pub record SafeHearing (station : ℕ) (bytes : List ℕ) (node : Node) (limit : ℕ) (b : List ℕ)
     (r : Run) (sent : List SentFrame) (from o : Outcome) : Type 0 where
   pub first : List ℕ
   pub more : List ℕ
   pub split : first ++ more ≡ bytes
   pub said : List Act
   pub mid : List (List ℕ)
-  pub heard : IsHeard station first rests said mid
-  pub inside : SafeInside limit b (all_acts b r said) r.floor sent from o
+  pub heard : IsHeard station first node.rests said mid
+  pub inside : SafeInside limit b (all_acts node.budget b r said) r.floor sent from o
 
 -- wherever the node was in a run, what a loss leaves is safe in the run with a prefix of the bytes
 abbrev pub SafeHeard : ℕ → List ℕ → Node → Outcome → Outcome → Type 0
 SafeHeard station bytes node from o = (limit : ℕ) (b : List ℕ) (r : Run) (sent : List SentFrame)
-    → StandsBelow limit node b r sent → SafeHearing station bytes node.rests limit b r sent from o
+    → StandsBelow limit node b r sent → SafeHearing station bytes node limit b r sent from o
+
+-- In a prefix of a station's bytes the vehicle was armed.
+pub record ArmedHearing (station : ℕ) (bytes : List ℕ) (node : Node) : Type 0 where
+  pub first : List ℕ
+  pub more : List ℕ
+  pub split : first ++ more ≡ bytes
+  pub said : List Act
+  pub mid : List (List ℕ)
+  pub heard : IsHeard station first node.rests said mid
+  pub armed : IsArmedOnce (armed_in node) said
 
 -- what a station's bytes say was answered
 pub record HeardAll {B : Type 0} (g : Ghosts B) (old : Node) (board : B) (station : ℕ)
@@ -132,20 +149,28 @@ abbrev pub HearDone : {B : Type 0} → Ghosts B → Node → B → ℕ → List 
     → B → Type 0
 HearDone g old board station bytes result new after_board =
     Call g (SafeHeard station bytes old)
+    (WornWhere g old (ArmedHearing station bytes old) new after_board)
     (HeardAll g old board station bytes new after_board) board result after_board
 
 -- The event can be read so that what was sent and put is safe in the run with its acts.
-pub record SafeTaking (event : Received) (rests : List (List ℕ)) (limit : ℕ) (b : List ℕ) (r : Run)
+pub record SafeTaking (event : Received) (node : Node) (limit : ℕ) (b : List ℕ) (r : Run)
     (sent : List SentFrame) (from o : Outcome) : Type 0 where
   pub acts : List Act
   pub new_rests : List (List ℕ)
-  pub reads : IsEvent rests event acts new_rests
-  pub inside : SafeInside limit b (all_acts b r acts) r.floor sent from o
+  pub reads : IsEvent node.rests event acts new_rests
+  pub inside : SafeInside limit b (all_acts node.budget b r acts) r.floor sent from o
 
 -- wherever the node was in a run, what a loss leaves is safe in the run with the event
 abbrev pub SafeTaken : Received → Node → Outcome → Outcome → Type 0
 SafeTaken event node from o = (limit : ℕ) (b : List ℕ) (r : Run) (sent : List SentFrame)
-    → StandsBelow limit node b r sent → SafeTaking event node.rests limit b r sent from o
+    → StandsBelow limit node b r sent → SafeTaking event node limit b r sent from o
+
+-- The event can be read into acts at whose start or after one of which the vehicle was armed.
+pub record ArmedTaking (event : Received) (node : Node) : Type 0 where
+  pub acts : List Act
+  pub new_rests : List (List ℕ)
+  pub reads : IsEvent node.rests event acts new_rests
+  pub armed : IsArmedOnce (armed_in node) acts
 
 -- all acts of an event were answered
 pub record TakenAll {B : Type 0} (g : Ghosts B) (event : Received) (old : Node) (board : B)
@@ -158,4 +183,5 @@ pub record TakenAll {B : Type 0} (g : Ghosts B) (event : Received) (old : Node) 
 abbrev pub TakeDone : {B : Type 0} → Ghosts B → Received → Node → B → Result ⊤ NodeError → Node → B
     → Type 0
 TakeDone g event old board result new after_board =
-    Call g (SafeTaken event old) (TakenAll g event old board new after_board) board result after_board
+    Call g (SafeTaken event old) (WornWhere g old (ArmedTaking event old) new after_board)
+    (TakenAll g event old board new after_board) board result after_board

@@ -4,6 +4,7 @@ use Rattle.vehicle_node.specs.declared.Node.TheInside.{Inside}
 
 abbrev pub view_of : Inside → Node
 view_of s = record {
+  budget = s.budget;
   lines = s.lines;
   machine = record { vehicle = s.core; sequences = s.sequences };
   rests = s.cutters;

@@ -1,5 +1,5 @@
 -- A node at its opening.
-use Rattle.std.specs.Prelude.{◌≡◌, length}
+use Rattle.std.specs.Prelude.{◌≡◌, ℕ, length}
 use Rattle.block_store.specs.declared.OpenError.{OpenError}
 use Rattle.block_store.specs.declared.OpenError.TheVariants as open_error
 use Rattle.block_store.specs.Store.{durable_of}
@@ -19,7 +19,8 @@ error_of (open_error.Foreign region offset word) = node_error.Foreign region off
 error_of (open_error.Worn count) = node_error.Worn count
 
 -- The lines of boot are pending, and nothing else has happened.
-pub record IsBooted (lines : Lines) (node : Node) : Type 0 where
+pub record IsBooted (budget : ℕ) (lines : Lines) (node : Node) : Type 0 where
+  pub budget_is : node.budget ≡ budget
   pub lines_are : node.lines ≡ lines_of lines.store (boot (durable_of lines.store))
   pub machine : node.machine ≡ new_machine
   pub rests : node.rests ≡ no_rests

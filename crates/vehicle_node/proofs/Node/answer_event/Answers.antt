@@ -10,7 +10,7 @@ use Rattle.vehicle_node.proofs.Node.answer_event.Goals as goal
 pub returns-in-End-clause-done : goal.returns-in-End-clause-done
 returns-in-End-clause-done g c =
     subst (λ (e : Event). TakeDone g.B.Board (received e c.args.buffer.now) c.args.self.now c.args.board.now (Ok tt) c.args.self.now c.args.board.now) (sym c.in-End.is)
-    (take_end g.B.Board g.met.B.Board.reads c.args.self.now c.args.board.now c.requires.fits)
+    (take_end g.B.Board g.met.B.Board.reads c.args.self.now c.args.board.now c.requires.fits.store)
 
 pub returns-in-End-clause-keeps : goal.returns-in-End-clause-keeps
-returns-in-End-clause-keeps g c = keeps_none g.B.Board OfAnswer c.args.self.now c.args.board.now c.requires.fits
+returns-in-End-clause-keeps g c = keeps_none g.B.Board OfAnswer c.args.board.now

@@ -1,21 +1,37 @@
 use Rattle.std.proofs.Common.{[], ap, sym, subst, ◌∙◌}
 use Rattle.dirty_lines.specs.Lines.{current_of}
+use Rattle.vehicle_core.specs.Vehicle.{is_armed}
 use Rattle.vehicle_core.specs.Acts.{Beat, Did, did}
 use Rattle.vehicle_core.specs.Replies.{AreRepliesOf}
 use Rattle.vehicle_node.proofs.ActAnswers.{act_of}
+use Rattle.vehicle_node.proofs.Fitting.{fits_act, quiet_room, quiet_over}
+use Rattle.vehicle_node.proofs.Orders.{did_arms, did_needs}
 use Rattle.vehicle_node.proofs.StationsTold.{act_told, replies_inside, beat_writes, beat_anywhere}
 use Rattle.vehicle_node.proofs.Node.beat.Goals as goal
 
 pub answer-requires-clause-stations : goal.answer-requires-clause-stations
 answer-requires-clause-stations g c =
-    replies_inside (did [] c.self.inside.core (Beat c.args.station)).told c.idle.new.replies.items c.idle.ensures.told (act_told [] c.self.inside.core (Beat c.args.station) c.requires.station)
+    let s = c.self.inside in
+    replies_inside (did s.budget [] s.core (Beat c.args.station)).told c.idle.new.replies.items (c.idle.ensures.told s.budget) (act_told s.budget [] s.core (Beat c.args.station) c.requires.station)
+
+pub answer-requires-clause-room : goal.answer-requires-clause-room
+answer-requires-clause-room g c =
+    let s = c.self.inside in
+    quiet_room g.B.Board c.args.board.now s c.args.self.now c.armed-armed.result c.idle.new.self c.new.result.items c.self.view_is c.requires.fits c.armed-armed.ensures
+    (ap is_armed (c.idle.ensures.next s.budget) ∙ did_arms s.budget [] s.core (Beat c.args.station)) c.new.ensures
 
 pub returns-clause-done : goal.returns-clause-done
 returns-clause-done g c =
     let s = c.self.inside in
     let act = Beat c.args.station in
     let bytes = current_of s.lines in
-    let same = beat_anywhere bytes s.core c.args.station in
-    let are : AreRepliesOf (did bytes s.core act).told c.idle.new.replies.items = subst (λ (d : Did). AreRepliesOf d.told c.idle.new.replies.items) same c.idle.ensures.told in
-    act_of g.B.Board s c.args.self.now act c.idle.new.self c.new.result.items c.args.board.now c.answer.result c.answer.new.self c.answer.new.board c.self.view_is
-    (c.idle.ensures.next ∙ ap (λ (d : Did). d.vehicle) same) (c.new.ensures ∙ sym (beat_writes bytes s.core c.args.station)) (c.answer.ensures.done (did bytes s.core act).told are)
+    let same = beat_anywhere s.budget bytes s.core c.args.station in
+    let next = c.idle.ensures.next s.budget ∙ ap (λ (d : Did). d.vehicle) same in
+    let are : AreRepliesOf (did s.budget bytes s.core act).told c.idle.new.replies.items = subst (λ (d : Did). AreRepliesOf d.told c.idle.new.replies.items) same (c.idle.ensures.told s.budget) in
+    act_of g.B.Board s c.args.self.now act c.idle.new.self _ c.armed-armed.result c.new.result.items c.args.board.now c.answer.result c.answer.new.self c.answer.new.board c.self.view_is
+    next (sym (did_needs s.budget bytes s.core act)) (c.armed-armed.ensures ∙ ap is_armed next ∙ quiet_over (is_armed s.core) (is_armed (did s.budget bytes s.core act).vehicle) (did_arms s.budget bytes s.core act))
+    (c.new.ensures ∙ sym (beat_writes s.budget bytes s.core c.args.station)) (c.answer.ensures.done (did s.budget bytes s.core act).told are)
+
+pub returns-clause-fits : goal.returns-clause-fits
+returns-clause-fits g c =
+    fits_act g.B.Board c.args.board.now c.answer.new.board c.args.self.now (Beat c.args.station) c.answer.result c.answer.new.self c.requires.fits (returns-clause-done g c) c.answer.ensures.fits c.answer.ensures.keeps.geometry

@@ -1,10 +1,11 @@
-use Rattle.std.proofs.Common.{◌≡◌, ℕ, ◌+◌, ◌-◌, List, length, take, drop, sym, ap, subst, ◌∙◌, arith, Ok}
+use Rattle.std.proofs.Common.{◌≡◌, ℕ, ◌+◌, ◌-◌, List, length, take, drop, sym, ap, subst, ◌∙◌, arith, Ok, Err}
 use Rattle.std.proofs.lemmas.Grind.{common_steps}
 use Rattle.std.proofs.lemmas.List.{take_rest}
-use Rattle.vehicle_node.specs.Steps.Calls.{OfAnswer}
+use Rattle.vehicle_node.specs.Steps.Calls.{Keeps, OfAnswer}
 use Rattle.vehicle_node.specs.Steps.Hearing.{IsFront, HearDone}
 use Rattle.vehicle_node.proofs.Heard.{hear_none, hear_next, hear_cut, hear_more, hear_more_cut}
 use Rattle.vehicle_node.proofs.Keeping.{keeps_none, keeps_then}
+use Rattle.vehicle_node.proofs.Passing.{error_passed}
 use Rattle.vehicle_node.proofs.Node.hear.Goals as goal
 
 -- so many bytes from a place on, as the code has them
@@ -17,7 +18,8 @@ pub loop-at-init : goal.loop-at-init
 loop-at-init g c = record {
   inside = omega arith;
   done = hear_none g.B.Board g.met.B.Board.reads c.args.self.now c.args.board.now c.args.station c.requires.fits c.keeps_a_rest.ensures;
-  keeps = keeps_none g.B.Board OfAnswer c.args.self.now c.args.board.now c.requires.fits;
+  fits = c.requires.fits;
+  keeps = keeps_none g.B.Board OfAnswer c.args.board.now;
 }
 
 pub hear_front-requires-clause-front : goal.hear_front-requires-clause-front
@@ -32,9 +34,9 @@ returns-in_err-hear_front-in-Some-clause-done g c =
     let bytes = c.args.bytes.now in
     let at = c.loop-at.at in
     let count = c.in-Some.count in
-    hear_more_cut g.B.Board c.args.self.now c.args.board.now c.args.station bytes at count c.loop-at.self c.loop-at.board c.hear_front.result c.from_residual.result c.hear_front.new.self c.hear_front.new.board
-    c.from_residual.ensures.0 c.loop-at.invariant.done
-    (subst (λ (l : List ℕ). HearDone g.B.Board c.loop-at.self c.loop-at.board c.args.station l c.hear_front.result c.hear_front.new.self c.hear_front.new.board) (piece bytes at count) c.hear_front.ensures.done)
+    hear_more_cut g.B.Board c.args.self.now c.args.board.now c.args.station bytes at count c.loop-at.self c.loop-at.board c.in_err-hear_front-in-Some.field-0.0 c.from_residual.result c.hear_front.new.self c.hear_front.new.board
+    c.from_residual.ensures.1 c.loop-at.invariant.done
+    (subst (λ (l : List ℕ). HearDone g.B.Board c.loop-at.self c.loop-at.board c.args.station l (Err c.in_err-hear_front-in-Some.field-0.0) c.hear_front.new.self c.hear_front.new.board) (piece bytes at count) c.in_err-hear_front-in-Some.ensures.done)
 
 pub loop-at-preserved-in-Some : goal.loop-at-preserved-in-Some
 loop-at-preserved-in-Some g c =
@@ -48,13 +50,14 @@ loop-at-preserved-in-Some g c =
       inside = omega (arith, c.in-Some.ensures.1, long, i.inside);
       done = hear_more g.B.Board c.args.self.now c.args.board.now c.args.station bytes at count c.loop-at.self c.loop-at.board (Ok tt) c.hear_front.new.self c.hear_front.new.board i.done
           (subst (λ (l : List ℕ). HearDone g.B.Board c.loop-at.self c.loop-at.board c.args.station l (Ok tt) c.hear_front.new.self c.hear_front.new.board) (piece bytes at count) e.done);
-      keeps = keeps_then g.B.Board OfAnswer OfAnswer c.args.self.now c.args.board.now c.loop-at.self c.loop-at.board (Ok tt) c.hear_front.new.self c.hear_front.new.board (λ k is. is) i.keeps e.keeps;
+      fits = e.fits;
+      keeps = keeps_then g.B.Board OfAnswer OfAnswer c.args.board.now c.loop-at.board (Ok tt) c.hear_front.new.board (λ k is. is) i.keeps e.keeps;
     }
 
 pub returns-in_err-hear_byte-in-None-clause-done : goal.returns-in_err-hear_byte-in-None-clause-done
 returns-in_err-hear_byte-in-None-clause-done g c =
-    hear_cut g.B.Board c.args.self.now c.args.board.now c.args.station c.args.bytes.now c.loop-at.at (omega (arith, c.loop-at-test.true)) c.loop-at.self c.loop-at.board c.hear_byte.result c.from_residual-in_err-hear_byte-in-None.result c.hear_byte.new.self c.hear_byte.new.board
-    c.from_residual-in_err-hear_byte-in-None.ensures.0 c.loop-at.invariant.done c.hear_byte.ensures.done
+    hear_cut g.B.Board c.args.self.now c.args.board.now c.args.station c.args.bytes.now c.loop-at.at (omega (arith, c.loop-at-test.true)) c.loop-at.self c.loop-at.board c.in_err-hear_byte-in-None.field-0.0 c.from_residual-in_err-hear_byte-in-None.result c.hear_byte.new.self c.hear_byte.new.board
+    c.from_residual-in_err-hear_byte-in-None.ensures.1 c.loop-at.invariant.done c.in_err-hear_byte-in-None.ensures.done
 
 pub loop-at-preserved : goal.loop-at-preserved
 loop-at-preserved g c =
@@ -63,5 +66,16 @@ loop-at-preserved g c =
     record {
       inside = omega (arith, c.loop-at-test.true);
       done = hear_next g.B.Board c.args.self.now c.args.board.now c.args.station c.args.bytes.now c.loop-at.at (omega (arith, c.loop-at-test.true)) c.loop-at.self c.loop-at.board (Ok tt) c.hear_byte.new.self c.hear_byte.new.board i.done e.done;
-      keeps = keeps_then g.B.Board OfAnswer OfAnswer c.args.self.now c.args.board.now c.loop-at.self c.loop-at.board (Ok tt) c.hear_byte.new.self c.hear_byte.new.board (λ k is. is) i.keeps e.keeps;
+      fits = e.fits;
+      keeps = keeps_then g.B.Board OfAnswer OfAnswer c.args.board.now c.loop-at.board (Ok tt) c.hear_byte.new.board (λ k is. is) i.keeps e.keeps;
     }
+
+pub returns-in_err-hear_front-in-Some-clause-keeps : goal.returns-in_err-hear_front-in-Some-clause-keeps
+returns-in_err-hear_front-in-Some-clause-keeps g c =
+    error_passed c.from_residual.result c.in_err-hear_front-in-Some.field-0.0 (λ r. Keeps g.B.Board OfAnswer c.args.board.now r c.hear_front.new.board) c.from_residual.ensures.1
+    (keeps_then g.B.Board OfAnswer OfAnswer c.args.board.now c.loop-at.board _ c.hear_front.new.board (λ k is. is) c.loop-at.invariant.keeps c.in_err-hear_front-in-Some.ensures.keeps)
+
+pub returns-in_err-hear_byte-in-None-clause-keeps : goal.returns-in_err-hear_byte-in-None-clause-keeps
+returns-in_err-hear_byte-in-None-clause-keeps g c =
+    error_passed c.from_residual-in_err-hear_byte-in-None.result c.in_err-hear_byte-in-None.field-0.0 (λ r. Keeps g.B.Board OfAnswer c.args.board.now r c.hear_byte.new.board) c.from_residual-in_err-hear_byte-in-None.ensures.1
+    (keeps_then g.B.Board OfAnswer OfAnswer c.args.board.now c.loop-at.board _ c.hear_byte.new.board (λ k is. is) c.loop-at.invariant.keeps c.in_err-hear_byte-in-None.ensures.keeps)

@@ -1,4 +1,5 @@
 use Rattle.std.proofs.Common.{◌≤◌, ◌-◌, take, length, Ok}
+use Rattle.vehicle_node.specs.Standing.{Fits}
 use Rattle.vehicle_node.specs.Steps.Calls.{Keeps, OfAnswer}
 use Rattle.vehicle_node.specs.Steps.Hearing.{HearDone}
 use Rattle.vehicle_node.proofs.Node.hear.Given as goal
@@ -12,5 +13,6 @@ invariant-loop-at g l =
     record {
       inside : l.at ≤ length l.bytes;
       done : HearDone v l.fn.self l.fn.board l.station (take l.at l.bytes) (Ok tt) l.self l.board;
-      keeps : Keeps v OfAnswer l.fn.self l.fn.board (Ok tt) l.self l.board;
+      fits : Fits v l.board l.self;
+      keeps : Keeps v OfAnswer l.fn.board (Ok tt) l.board;
     }

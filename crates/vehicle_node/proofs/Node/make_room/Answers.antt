@@ -10,7 +10,7 @@ pub returns-else-pending-gt-ROOM_FROM-clause-done : goal.returns-else-pending-gt
 returns-else-pending-gt-ROOM_FROM-clause-done g c =
     let node = c.args.self.now in
     let few : length node.lines.pending - ROOM_FROM ≡ 0 = omega (arith, c.pending-pending.ensures.count, c.if-pending-gt-ROOM_FROM.false, ap (λ (n : Node). length n.lines.pending) c.self.view_is) in
-    flush_none g.B.Board g.met.B.Board.reads c.args.board.now node (length node.lines.pending - ROOM_FROM) c.requires.fits.store few
+    flush_none g.B.Board g.met.B.Board.reads c.args.board.now node c.args.armed (length node.lines.pending - ROOM_FROM) c.requires.fits few
 
 pub returns-else-pending-gt-ROOM_FROM-clause-keeps : goal.returns-else-pending-gt-ROOM_FROM-clause-keeps
-returns-else-pending-gt-ROOM_FROM-clause-keeps g c = keeps_none g.B.Board OfFlash c.args.self.now c.args.board.now c.requires.fits
+returns-else-pending-gt-ROOM_FROM-clause-keeps g c = keeps_none g.B.Board OfFlash c.args.board.now

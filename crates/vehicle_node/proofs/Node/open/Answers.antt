@@ -1,19 +1,24 @@
-use Rattle.std.proofs.Common.{◌≡◌, ℕ, List, subst, [], inl, inr}
+use Rattle.std.proofs.Common.{◌≡◌, ◌⊎◌, ℕ, false, List, refl, sym, ◌∙◌, ap, subst, [], inl, inr}
 use Rattle.flash_traits.specs.declared.board.Fault.TheVariants.{Read}
-use Rattle.std.proofs.lemmas.Result.{err_from_is_err_and}
+use Rattle.flash_traits.specs.Budget.{budget_of}
+use Rattle.flash_traits.specs.Words.{IsSectorSize}
 use Rattle.sector_image.specs.FirstBad.{Place, FirstBad}
 use Rattle.sector_image.proofs.ImageLaws.{one_value}
 use Rattle.block_store.specs.Store.{durable_of}
+use Rattle.block_store.specs.Store as store
+use Rattle.block_store.proofs.StoreLaws.{fits_attached}
+use Rattle.dirty_lines.specs.Lines.{Lines}
+use Rattle.vehicle_node.specs.Refusals.{OnWorn}
 use Rattle.vehicle_node.specs.Standing.{IsAlone, StandsForRun}
-use Rattle.sector_image.specs.Stands.{Stands}
+use Rattle.sector_image.specs.Stands.{Stands, IsUsedUp}
 use Rattle.dirty_lines.specs.Losses.{IsWornForNext}
-use Rattle.vehicle_node.proofs.Passing.{adds_both}
+use Rattle.vehicle_node.proofs.Passing.{adds_both, error_at, worn_more}
 use Rattle.vehicle_node.proofs.Putting.{nothing_sent}
-use Rattle.vehicle_node.proofs.Boot.{open_losses, boot_losses, open_rises, boot_rises, boot_within, stands_booted, foreign_at, worn_at, fault_at, worn_from, booted_alone, read_stands}
+use Rattle.vehicle_node.proofs.Boot.{open_losses, boot_losses, open_rises, boot_rises, boot_within, stands_booted, booted_fits, booted_unarmed, foreign_at, worn_at, fault_at, booted_alone, read_stands}
 use Rattle.vehicle_node.proofs.Node.open.Goals as goal
 
 pub returns-in-Err-clause-losses : goal.returns-in-Err-clause-losses
-returns-in-Err-clause-losses g c = λ b told. open_losses g.B.Board g.met.B.Board.reads c.args.board.now c.open.new.board c.open.ensures.changes b told
+returns-in-Err-clause-losses g c = λ b told. open_losses g.B.Board g.met.B.Board.reads c.args.board.now c.open.new.board c.open.ensures.changes (budget_of (g.B.Board.sector_bytes c.args.board.now)) b told
 
 pub returns-in-Err-clause-foreign : goal.returns-in-Err-clause-foreign
 returns-in-Err-clause-foreign g c =
@@ -21,19 +26,19 @@ returns-in-Err-clause-foreign g c =
 
 pub returns-in_err-flush_all-clause-losses : goal.returns-in_err-flush_all-clause-losses
 returns-in_err-flush_all-clause-losses g c = λ b told.
-    boot_losses g.B.Board g.met.B.Board.reads c.args.board.now c.open.new.board c.open.ensures.changes b told c.in-Ok.lines c.in-Ok.ensures.stands
-    c.booted-node.result c.booted-node.ensures _ c.flush_all.result c.flush_all.new.self c.flush_all.new.board c.flush_all.ensures.done
+    boot_losses g.B.Board g.met.B.Board.reads c.args.board.now c.open.new.board c.open.ensures.changes (budget_of (g.B.Board.sector_bytes c.args.board.now)) b told c.in-Ok.lines c.in-Ok.ensures.stands
+    c.budget.result c.booted-node.result c.booted-node.ensures _ c.flush_all.result c.flush_all.new.self c.flush_all.new.board c.flush_all.ensures.done
 
 pub returns-clause-losses : goal.returns-clause-losses
 returns-clause-losses g c = λ b told.
-    boot_losses g.B.Board g.met.B.Board.reads c.args.board.now c.open.new.board c.open.ensures.changes b told c.in-Ok.lines c.in-Ok.ensures.stands
-    c.booted-node.result c.booted-node.ensures _ c.flush_all.result c.flush_all.new.self c.flush_all.new.board c.flush_all.ensures.done
+    boot_losses g.B.Board g.met.B.Board.reads c.args.board.now c.open.new.board c.open.ensures.changes (budget_of (g.B.Board.sector_bytes c.args.board.now)) b told c.in-Ok.lines c.in-Ok.ensures.stands
+    c.budget.result c.booted-node.result c.booted-node.ensures _ c.flush_all.result c.flush_all.new.self c.flush_all.new.board c.flush_all.ensures.done
 
 pub returns-clause-stands : goal.returns-clause-stands
 returns-clause-stands g c = λ tells b stands.
     subst (λ (l : List ℕ). StandsForRun c.flush_all.new.self l [] [] 0)
     (one_value (g.B.Board.words c.args.board.now) (durable_of c.in-Ok.lines.store) b (c.in-Ok.ensures.stands (c.flush_all.ensures.keeps.told tells)) stands)
-    (stands_booted c.in-Ok.lines c.booted-node.result c.flush_all.new.self c.booted-node.ensures c.in_ok-flush_all.ensures.done.done.flushed c.in_ok-flush_all.ensures.nothing)
+    (stands_booted c.budget.result c.in-Ok.lines c.booted-node.result c.flush_all.new.self c.booted-node.ensures c.in_ok-flush_all.ensures.done.done.flushed.puts c.in_ok-flush_all.ensures.nothing)
 
 pub returns-clause-here : goal.returns-clause-here
 returns-clause-here g c = adds_both g.B.Board [] [] [] [] (nothing_sent g.B.Board c.open.ensures.changes).here c.in_ok-flush_all.ensures.done.done.sent.here
@@ -44,31 +49,55 @@ returns-in-Err-clause-worn_image g c =
     (λ count given tells. let found = given.1 tells in read_stands (g.B.Board.words c.args.board.now) found.0 found.1) c.in-Err.ensures.worn
 
 pub returns-in-Err-clause-guard : goal.returns-in-Err-clause-guard
-returns-in-Err-clause-guard g c = λ count b told. open_rises g.B.Board g.met.B.Board.reads c.args.board.now c.open.new.board c.open.ensures.changes count b told
+returns-in-Err-clause-guard g c = λ count b told. open_rises g.B.Board g.met.B.Board.reads c.args.board.now c.open.new.board c.open.ensures.changes (budget_of (g.B.Board.sector_bytes c.args.board.now)) count b told
 
 pub returns-in_err-flush_all-clause-guard : goal.returns-in_err-flush_all-clause-guard
 returns-in_err-flush_all-clause-guard g c = λ count b told.
-    boot_rises g.B.Board g.met.B.Board.reads c.args.board.now c.open.new.board c.open.ensures.changes count b told c.in-Ok.lines c.in-Ok.ensures.fits c.in-Ok.ensures.alone c.in-Ok.ensures.stands
-    c.booted-node.result c.booted-node.ensures _ c.flush_all.result c.flush_all.new.self c.flush_all.new.board c.flush_all.ensures.done
+    boot_rises g.B.Board g.met.B.Board.reads c.args.board.now c.open.new.board c.open.ensures.changes (budget_of (g.B.Board.sector_bytes c.args.board.now)) count b told c.in-Ok.lines c.in-Ok.ensures.fits c.in-Ok.ensures.alone c.in-Ok.ensures.stands
+    c.budget.result c.booted-node.result c.booted-node.ensures _ c.flush_all.result c.flush_all.new.self c.flush_all.new.board c.flush_all.ensures.done
 
 pub returns-clause-guard : goal.returns-clause-guard
 returns-clause-guard g c = λ count b told.
-    boot_rises g.B.Board g.met.B.Board.reads c.args.board.now c.open.new.board c.open.ensures.changes count b told c.in-Ok.lines c.in-Ok.ensures.fits c.in-Ok.ensures.alone c.in-Ok.ensures.stands
-    c.booted-node.result c.booted-node.ensures _ c.flush_all.result c.flush_all.new.self c.flush_all.new.board c.flush_all.ensures.done
+    boot_rises g.B.Board g.met.B.Board.reads c.args.board.now c.open.new.board c.open.ensures.changes (budget_of (g.B.Board.sector_bytes c.args.board.now)) count b told c.in-Ok.lines c.in-Ok.ensures.fits c.in-Ok.ensures.alone c.in-Ok.ensures.stands
+    c.budget.result c.booted-node.result c.booted-node.ensures _ c.flush_all.result c.flush_all.new.self c.flush_all.new.board c.flush_all.ensures.done
 
 pub returns-clause-within : goal.returns-clause-within
 returns-clause-within g c = λ tells count b row stands.
-    boot_within g.B.Board g.met.B.Board.reads c.args.board.now c.open.new.board c.open.ensures.changes count b (λ told. (row, stands)) c.in-Ok.lines c.in-Ok.ensures.fits c.in-Ok.ensures.alone c.in-Ok.ensures.stands
-    c.booted-node.result c.booted-node.ensures c.flush_all.new.self c.in_ok-flush_all.ensures.done.done.flushed c.in_ok-flush_all.ensures.nothing (c.flush_all.ensures.keeps.told tells)
+    boot_within g.B.Board g.met.B.Board.reads c.args.board.now c.open.new.board c.open.ensures.changes (budget_of (g.B.Board.sector_bytes c.args.board.now)) count b (λ told. (row, stands)) c.in-Ok.lines c.in-Ok.ensures.fits c.in-Ok.ensures.alone c.in-Ok.ensures.stands
+    c.budget.result c.booted-node.result c.booted-node.ensures c.flush_all.new.self c.in_ok-flush_all.ensures.done.done.flushed.puts c.in_ok-flush_all.ensures.nothing (c.flush_all.ensures.keeps.told tells)
 
 pub returns-in-Err-clause-worn_where : goal.returns-in-Err-clause-worn_where
 returns-in-Err-clause-worn_where g c = worn_at c.in-Err.error c.error_of.result _ _ c.error_of.ensures (λ count given. inl (λ told. let x = given.1 told in record { reading = x.0; reads = x.1; due = x.2; count = x.3 })) c.in-Err.ensures.worn
 
 pub returns-in_err-flush_all-clause-worn_where : goal.returns-in_err-flush_all-clause-worn_where
 returns-in_err-flush_all-clause-worn_where g c =
-    let p = err_from_is_err_and c.from_residual.result c.from_residual.ensures.1 in
-    rw (p.1, p.2) (worn_from c.in_err-flush_all.field-0.0 (IsAlone c.booted-node.result) (IsWornForNext g.B.Board c.flush_all.new.board c.flush_all.new.self.lines) _
-    (λ w. inr (c.flush_all.new.self.lines, w)) (booted_alone c.in-Ok.lines c.booted-node.result c.booted-node.ensures c.in-Ok.ensures.alone) c.in_err-flush_all.ensures.keeps.worn_next)
+    let last = c.flush_all.new.board in
+    let node = c.flush_all.new.self in
+    let e = c.in_err-flush_all.field-0.0 in
+    let W : Type 0 = (g.B.Board.tells last → IsUsedUp (g.B.Board.words c.args.board.now)) ⊎ ((lines : Lines) × IsWornForNext g.B.Board last lines) in
+    error_at c.from_residual.result e (λ e. OnWorn e (λ count. W)) c.from_residual.ensures.1
+    (worn_more e ((false ≡ false) × (IsAlone c.booted-node.result → IsWornForNext g.B.Board last node.lines)) W
+    (λ w. inr (node.lines, w.1 (booted_alone c.budget.result c.in-Ok.lines c.booted-node.result c.booted-node.ensures c.in-Ok.ensures.alone))) c.in_err-flush_all.ensures.done.stopped)
+
+pub geometry-requires : goal.geometry-requires
+geometry-requires g c = fits_attached g.B.Board c.open.new.board c.in-Ok.lines.store c.in-Ok.ensures.fits
+
+pub budget-requires : goal.budget-requires
+budget-requires g c = subst IsSectorSize (sym c.geometry.ensures) (fits_attached g.B.Board c.open.new.board c.in-Ok.lines.store c.in-Ok.ensures.fits)
+
+pub flush_all-requires-clause-fits : goal.flush_all-requires-clause-fits
+flush_all-requires-clause-fits g c = subst (λ (l : Lines). store.Fits g.B.Board c.open.new.board l.store) (sym c.booted-node.ensures.lines_are) c.in-Ok.ensures.fits
+
+pub returns-clause-fits : goal.returns-clause-fits
+returns-clause-fits g c =
+    booted_fits g.B.Board c.budget.result c.in-Ok.lines c.booted-node.result c.flush_all.new.self c.flush_all.new.board c.booted-node.ensures c.in_ok-flush_all.ensures.done.done.flushed.puts c.in_ok-flush_all.ensures.fits
+    (c.budget.ensures ∙ ap budget_of (c.geometry.ensures ∙ sym c.flush_all.ensures.keeps.geometry))
+
+pub returns-clause-alone : goal.returns-clause-alone
+returns-clause-alone g c = λ not. c.in_ok-flush_all.ensures.done.done.flushed.puts.alone refl (booted_alone c.budget.result c.in-Ok.lines c.booted-node.result c.booted-node.ensures c.in-Ok.ensures.alone)
+
+pub returns-clause-unarmed : goal.returns-clause-unarmed
+returns-clause-unarmed g c = booted_unarmed c.budget.result c.in-Ok.lines c.booted-node.result c.flush_all.new.self c.booted-node.ensures c.in_ok-flush_all.ensures.done.done.flushed.puts
 
 pub returns-in-Err-clause-left_alone : goal.returns-in-Err-clause-left_alone
 returns-in-Err-clause-left_alone g c = λ told place bad.

@@ -1,4 +1,6 @@
-use Rattle.std.proofs.Common.{◌≡◌, ◌+◌, List, length, take, drop, Ok, ap, sym, arith, subst}
+use Rattle.std.proofs.Common.{◌≡◌, ◌+◌, List, length, take, drop, Ok, Err, Result, ap, sym, arith, subst}
+use Rattle.std.specs.Prelude.{⊤}
+use Rattle.vehicle_node.specs.declared.NodeError.{NodeError}
 use Rattle.mav_messages.specs.declared.messages.Reply.{Reply}
 use Rattle.mav_messages.specs.declared.messages.To.TheVariants.{Station}
 use Rattle.mav_messages.specs.declared.messages.Message.TheVariants.{Heartbeat}
@@ -41,15 +43,16 @@ returns-in_err-send_reply-clause-done g c = λ told are.
     let n = c.loop-reply.reply-index in
     let v = old.machine.vehicle in
     let list = c.as_slice-reply-items.result.now in
-    let r = c.send_reply.result in
+    let e = c.in_err-send_reply.field-0.0 in
+    let r : Result ⊤ NodeError = Err e in
     let before = i.done told are in
     let at = told_at told list n no_reply (subst (λ (l : List Reply). AreRepliesOf told l) (sym c.as_slice-reply-items.ensures.value) are) (omega (arith, c.loop-reply-test.true)) in
     let sent = subst (λ (v : Vehicle). SendDone b (deliveries_of v at.one) c.loop-reply.self c.loop-reply.board r c.send_reply.new.self c.send_reply.new.board)
-    (vehicle_stays b (deliveries v (take n told)) old c.args.board.now c.loop-reply.self c.loop-reply.board before) (c.send_reply.ensures.done at.one at.says) in
+    (vehicle_stays b (deliveries v (take n told)) old c.args.board.now c.loop-reply.self c.loop-reply.board before) (c.in_err-send_reply.ensures.done at.one at.says) in
     let some = done_then b (deliveries v (take n told)) (deliveries_of v at.one) (deliveries v (take (n + 1) told)) old c.args.board.now
     c.loop-reply.self c.loop-reply.board r c.send_reply.new.self c.send_reply.new.board before sent (told-more v told n at.one at.next) in
     done_short b (deliveries v (take (n + 1) told)) (deliveries v (drop (n + 1) told)) (deliveries v told) old c.args.board.now
-    r c.from_residual.result c.send_reply.new.self c.send_reply.new.board some c.from_residual.ensures.0 (told-rest v told (n + 1))
+    e c.from_residual.result c.send_reply.new.self c.send_reply.new.board some c.from_residual.ensures.1 (told-rest v told (n + 1))
 
 pub returns-clause-done : goal.returns-clause-done
 returns-clause-done g c = λ told are.

@@ -1,15 +1,25 @@
 use Rattle.std.proofs.Common.{ℕ, List, sym, ap, subst, ◌∙◌}
 use Rattle.dirty_lines.specs.Lines.{current_of}
+use Rattle.vehicle_core.specs.Vehicle.{is_armed}
 use Rattle.vehicle_core.specs.Acts.{Stream, did}
 use Rattle.vehicle_core.specs.Replies.{AreRepliesOf}
 use Rattle.vehicle_node.proofs.ActAnswers.{act_of}
+use Rattle.vehicle_node.proofs.Fitting.{fits_act, quiet_room, quiet_over}
+use Rattle.vehicle_node.proofs.Orders.{did_arms, did_needs}
 use Rattle.vehicle_node.proofs.StationsTold.{act_told, replies_inside, stream_writes}
 use Rattle.vehicle_node.proofs.Node.stream.Goals as goal
 
 pub answer-requires-clause-stations : goal.answer-requires-clause-stations
 answer-requires-clause-stations g c =
+    let s = c.self.inside in
     let act = Stream c.args.station in
-    replies_inside (did c.current.result.now c.self.inside.core act).told c.stream.new.replies.items c.stream.ensures.told (act_told c.current.result.now c.self.inside.core act c.requires.station)
+    replies_inside (did s.budget c.current.result.now s.core act).told c.stream.new.replies.items (c.stream.ensures.told s.budget) (act_told s.budget c.current.result.now s.core act c.requires.station)
+
+pub answer-requires-clause-room : goal.answer-requires-clause-room
+answer-requires-clause-room g c =
+    let s = c.self.inside in
+    quiet_room g.B.Board c.args.board.now s c.args.self.now c.armed-armed.result c.stream.new.self c.new.result.items c.self.view_is c.requires.fits c.armed-armed.ensures
+    (ap is_armed (c.stream.ensures.next s.budget) ∙ did_arms s.budget c.current.result.now s.core (Stream c.args.station)) c.new.ensures
 
 pub returns-clause-done : goal.returns-clause-done
 returns-clause-done g c =
@@ -17,6 +27,12 @@ returns-clause-done g c =
     let act = Stream c.args.station in
     let bytes = current_of s.lines in
     let is = c.current.ensures.bytes in
-    let are : AreRepliesOf (did bytes s.core act).told c.stream.new.replies.items = subst (λ (l : List ℕ). AreRepliesOf (did l s.core act).told c.stream.new.replies.items) is c.stream.ensures.told in
-    act_of g.B.Board s c.args.self.now act c.stream.new.self c.new.result.items c.args.board.now c.answer.result c.answer.new.self c.answer.new.board c.self.view_is
-    (c.stream.ensures.next ∙ ap (λ (l : List ℕ). (did l s.core act).vehicle) is) (c.new.ensures ∙ sym (stream_writes bytes s.core c.args.station)) (c.answer.ensures.done (did bytes s.core act).told are)
+    let next = c.stream.ensures.next s.budget ∙ ap (λ (l : List ℕ). (did s.budget l s.core act).vehicle) is in
+    let are : AreRepliesOf (did s.budget bytes s.core act).told c.stream.new.replies.items = subst (λ (l : List ℕ). AreRepliesOf (did s.budget l s.core act).told c.stream.new.replies.items) is (c.stream.ensures.told s.budget) in
+    act_of g.B.Board s c.args.self.now act c.stream.new.self _ c.armed-armed.result c.new.result.items c.args.board.now c.answer.result c.answer.new.self c.answer.new.board c.self.view_is
+    next (sym (did_needs s.budget bytes s.core act)) (c.armed-armed.ensures ∙ ap is_armed next ∙ quiet_over (is_armed s.core) (is_armed (did s.budget bytes s.core act).vehicle) (did_arms s.budget bytes s.core act))
+    (c.new.ensures ∙ sym (stream_writes s.budget bytes s.core c.args.station)) (c.answer.ensures.done (did s.budget bytes s.core act).told are)
+
+pub returns-clause-fits : goal.returns-clause-fits
+returns-clause-fits g c =
+    fits_act g.B.Board c.args.board.now c.answer.new.board c.args.self.now (Stream c.args.station) c.answer.result c.answer.new.self c.requires.fits (returns-clause-done g c) c.answer.ensures.fits c.answer.ensures.keeps.geometry
