@@ -84,8 +84,11 @@ fn line_of(status: u8) -> &'static [u8] {
     }
 }
 
-// The statuses of a command in the order of its calls, until one ends well: the attach, the reads of
-// the image, every hundredth alone, the programs, and the link.
+// The attach, and the reads of the guard row, the heads and both sectors.
+const CALLS_TO_READ: u32 = 1 + 8_193 + 4 + 8_193 + 8_192;
+
+// The statuses of a command in the order of its calls, until one ends well: the attach, some reads of
+// the image, each program, and each call of the link.
 #[test]
 fn a_failing_call_is_told_by_its_kind(rt: HostRuntime) -> Result<(), Fail> {
     let alloc = rt.alloc();
@@ -115,11 +118,12 @@ fn a_failing_call_is_told_by_its_kind(rt: HostRuntime) -> Result<(), Fail> {
             }
             assert_eq!(rt; ended.status, Status(status));
             assert_eq!(rt; ended.text.as_slice(), line_of(status));
-            failing = failing.saturating_add(if status == 4 && failing < 24_400 {
-                100
-            } else {
-                1
-            });
+            // ever smaller steps towards the end of the reads
+            let step = match status {
+                4 => CALLS_TO_READ.saturating_sub(failing) / 8 + 1,
+                _ => 1,
+            };
+            failing = failing.saturating_add(step);
         }
         assert!(rt; is_whole && left.next().is_none());
     }
