@@ -43,7 +43,7 @@ def quote(document, file, found):
     rust = file.endswith(".rt")
     text = ("\n" if rust else "\n\n").join("\n".join(lines) for _, lines in found)
     word = "line" if len(found) == 1 else "lines"
-    return f"{file.removeprefix('crates/')}, {word}\n{heading}:\n\n```{'rust' if rust else 'agda'}\n{text}\n```\n"
+    return f"{os.path.relpath(file, 'crates')}, {word}\n{heading}:\n\n```{'rust' if rust else 'agda'}\n{text}\n```\n"
 
 
 def compare(document, write):
