@@ -325,11 +325,15 @@ fn whole_session(alloc: Global, image: &[u8], events: &Events) -> Result<Whole, 
 }
 
 impl Whole {
+    // What had come by the end of the opening, or of an event: by that of the last one where the
+    // session was being closed.
     fn step(&self, number: usize) -> Step {
-        match self.session.steps.get(number) {
+        let steps = self.session.steps.as_slice();
+        let last = steps.len().saturating_sub(1);
+        match steps.get(number.min(last)) {
             Some(step) => *step,
             None => Step {
-                lines: self.lines.len() as u64,
+                lines: 0,
                 frames: 0,
             },
         }
