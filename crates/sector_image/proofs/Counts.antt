@@ -4,7 +4,7 @@ use Rattle.std.specs.Prelude.{if◌then◌else◌}
 use Rattle.std.proofs.lemmas.Bool.{cases_Bool, cases_eq}
 use Rattle.sector_image.specs.Room.{count_below}
 
-abbrev one_if : Bool → ℕ
+abbrev pub one_if : Bool → ℕ
 one_if b = if b then 1 else 0
 
 one_true : (b : Bool) → b ≡ true → one_if b ≡ 1
@@ -29,6 +29,11 @@ one_most b = elim (cases_Bool b) [
 pub count_le : (n : ℕ) (p q : ℕ → Bool) → ((k : ℕ) → k < n → p k ≡ true → q k ≡ true) → count_below n p ≤ count_below n q
 count_le zero p q h = omega arith
 count_le (suc n) p q h = omega (arith, count_le n p q (λ k lt. h k (omega arith)), one_le (p n) (q n) (h n (omega arith)))
+
+-- both tests say the same
+pub count_same : (n : ℕ) (p q : ℕ → Bool) → ((k : ℕ) → k < n → p k ≡ q k) → count_below n p ≡ count_below n q
+count_same zero p q h = refl
+count_same (suc n) p q h = omega (arith, count_same n p q (λ k lt. h k (omega arith)), ap one_if (h n (omega arith)))
 
 -- but for one number
 pub count_le_one : (n d : ℕ) (p q : ℕ → Bool) → ((k : ℕ) → k < n → (k ≡ d → ⊥) → p k ≡ true → q k ≡ true) → count_below n p ≤ count_below n q + 1
@@ -64,3 +69,11 @@ count_of_none (suc n) p h = omega (arith, count_of_none n p (λ k lt. h k (omega
 pub count_most : (n : ℕ) (p : ℕ → Bool) → count_below n p ≤ n
 count_most zero p = omega arith
 count_most (suc n) p = omega (arith, count_most n p, one_most (p n))
+
+-- all numbers but one pass both tests alike
+pub count_change : (n d : ℕ) (p q : ℕ → Bool) → d < n → ((k : ℕ) → k < n → (k ≡ d → ⊥) → p k ≡ q k) → count_below n p + one_if (q d) ≡ count_below n q + one_if (p d)
+count_change zero d p q lt h = absurd (omega arith)
+count_change (suc n) d p q lt h = elim (cases_eq n d) [
+  | inl is ↦ omega (arith, count_same n p q (λ k below. h k (omega arith) (λ same. omega arith)), ap (λ (k : ℕ). one_if (p k)) is, ap (λ (k : ℕ). one_if (q k)) is)
+  | inr other ↦ omega (arith, count_change n d p q (omega arith) (λ k below. h k (omega arith)), ap one_if (h n (omega arith) other))
+]

@@ -1,6 +1,7 @@
 pub mod Counts
 pub mod ChunkLemmas
 pub mod Rooms
+pub mod CoverageLemmas
 pub mod Values
 pub mod Pushed
 pub mod Regions

@@ -1,4 +1,5 @@
 pub mod Room
+pub mod Coverage
 pub mod Images
 pub mod Stands
 pub mod FirstBad

@@ -1,5 +1,5 @@
-//! Chunks of 64 bytes, the unit in which a sector is copied: which are covered, and how many are
-//! left to copy.
+//! Chunks of 64 bytes, the unit in which a sector is copied: whether one is covered, its bytes, and
+//! the chunk of a torn entry.
 ghost use Rattle.std.specs.Prelude.{◌≡◌, ◌*◌, ◌<◌, ◌≤◌, ◌+◌, ℕ, true, false, length, slice_index, IfSome, IfNone, None};
 ghost use Rattle.sector_log.specs.Storage.{storage_bytes};
 ghost use Rattle.flash_traits.specs.Values.{put};
@@ -14,7 +14,7 @@ use sector_log::Log;
 pub(crate) const CHUNKS: usize = 240;
 
 /// Whether the other sector's entries alone give a chunk.
-fn is_covered(whole: &[u8], upper: &[u8], chunk: usize) -> bool
+pub(crate) fn is_covered(whole: &[u8], upper: &[u8], chunk: usize) -> bool
     requires chunk { chunk < chunks }
     requires whole { length whole.now ≡ storage_bytes }
     requires upper { length upper.now ≡ storage_bytes }
@@ -22,60 +22,6 @@ fn is_covered(whole: &[u8], upper: &[u8], chunk: usize) -> bool
 {
     let at = 64 * chunk;
     whole[at..at + 64] == upper[at..at + 64]
-}
-
-/// Whether a chunk is that of the completable torn last entry.
-fn is_chunk(finishing: Option<usize>, chunk: usize) -> bool
-    ensures { result ≡ room.is_chunk finishing chunk }
-{
-    match finishing {
-        Some(n) => n == chunk,
-        None => false,
-    }
-}
-
-/// Whether a chunk is to be copied.
-fn is_left(whole: &[u8], upper: &[u8], finishing: Option<usize>, chunk: usize) -> bool
-    requires chunk { chunk < chunks }
-    requires whole { length whole.now ≡ storage_bytes }
-    requires upper { length upper.now ≡ storage_bytes }
-    ensures { result ≡ room.is_left whole.now upper.now finishing chunk }
-{
-    !(is_covered(whole, upper, chunk) || is_chunk(finishing, chunk))
-}
-
-/// The first chunk that isn't covered.
-pub(crate) fn first_left(whole: &[u8], upper: &[u8]) -> Option<usize>
-    requires whole { length whole.now ≡ storage_bytes }
-    requires upper { length upper.now ≡ storage_bytes }
-    ensures some { IfSome result (λ chunk. (chunk < chunks)
-        × (room.is_left whole.now upper.now None chunk ≡ true)) }
-    ensures first { IfSome result (λ chunk. (c : ℕ) → c < chunk →
-        room.is_left whole.now upper.now None c ≡ false) }
-    ensures none { IfNone result (left_to_copy whole.now upper.now None ≡ 0) }
-{
-    for chunk in 0..CHUNKS {
-        if is_left(whole, upper, None, chunk) {
-            return Some(chunk);
-        }
-    }
-    None
-}
-
-/// How many chunks are to be copied.
-pub(crate) fn count_left(whole: &[u8], upper: &[u8], finishing: Option<usize>) -> usize
-    requires whole { length whole.now ≡ storage_bytes }
-    requires upper { length upper.now ≡ storage_bytes }
-    ensures count { result ≡ left_to_copy whole.now upper.now finishing }
-    ensures most { result ≤ chunks }
-{
-    let mut left = 0;
-    for chunk in 0..CHUNKS {
-        if is_left(whole, upper, finishing, chunk) {
-            left += 1;
-        }
-    }
-    left
 }
 
 /// The chunk of the torn last entry of a log, where it is known to be completable.

@@ -8,6 +8,7 @@ ghost use Rattle.flash_traits.specs.Budget.{chunks};
 ghost use Rattle.sector_image.specs.Room.{chunk_at, left_to_copy};
 
 use crate::chunks;
+use crate::coverage::Coverage;
 use std::alloc::{AllocError, Global};
 use std::marker::Model;
 
@@ -15,24 +16,23 @@ use std::marker::Model;
 const BYTES: usize = 15360;
 
 /// The bytes of the storage, 15,360 each: those of the image, and those of the entries of the
-/// sector in use alone.
+/// sector in use alone. Beside them is kept which chunks of the two are the same.
 #[derive(Debug, Drop)]
 pub struct Images {
     pub(crate) whole: Vec<u8>,
     pub(crate) upper: Vec<u8>,
+    pub(crate) coverage: Coverage,
 }
 
 impl Model for Images {
-    ghost use Rattle.std.specs.Prelude.{◌≡◌, length};
-    ghost use Rattle.sector_log.specs.Storage.{storage_bytes};
     ghost use Rattle.sector_image.specs.Images.{Bytes};
+    ghost use Rattle.sector_image.specs.Coverage.{AreCompared};
 
     ghost Value = { Bytes };
 
     ghost view = { λ images. record { whole = images.whole.items; upper = images.upper.items } };
 
-    ghost invariant = { λ images. (length images.whole.items ≡ storage_bytes)
-        × (length images.upper.items ≡ storage_bytes) };
+    ghost invariant = { λ images. AreCompared images.whole.items images.upper.items images.coverage };
 }
 
 impl Images {
@@ -43,7 +43,11 @@ impl Images {
     {
         let whole = zeros(alloc, BYTES)?;
         let upper = zeros(alloc, BYTES)?;
-        Ok(Images { whole, upper })
+        Ok(Images {
+            whole,
+            upper,
+            coverage: Coverage::whole(),
+        })
     }
 
     /// The bytes of the image.
@@ -68,7 +72,7 @@ impl Images {
         ensures some { IfSome result (IsFirstLeft self.now) }
         ensures none { IfNone result (left_to_copy self.now.whole self.now.upper None ≡ 0) }
     {
-        chunks::first_left(&self.whole, &self.upper)
+        self.coverage.first_left()
     }
 
     /// How many chunks are to be copied, beside that of a completable torn last entry.
@@ -76,7 +80,7 @@ impl Images {
         ensures count { result ≡ left_to_copy self.now.whole self.now.upper finishing }
         ensures most { result ≤ chunks }
     {
-        chunks::count_left(&self.whole, &self.upper, finishing)
+        self.coverage.count_left(finishing)
     }
 
     /// Puts bytes at a line of both lists.
@@ -87,6 +91,10 @@ impl Images {
     {
         put_lines(first, bytes, &mut self.whole);
         put_lines(first, bytes, &mut self.upper);
+        let at = 8 * first as usize;
+        let end = (at + bytes.len()).div_ceil(64);
+        self.coverage
+            .compare(&self.whole, &self.upper, at / 64, end);
     }
 
     /// Puts a chunk's bytes of the image among those of the sector in use.
@@ -95,6 +103,7 @@ impl Images {
         ensures { self.new ≡ with_chunk self.old chunk }
     {
         chunks::cover(chunk, &self.whole, &mut self.upper);
+        self.coverage.mark(chunk, true);
     }
 
     /// Makes each byte of the sector in use 0: it has no entries.
@@ -104,6 +113,7 @@ impl Images {
         ensures size { length self.new.upper ≡ storage_bytes }
     {
         clear(&mut self.upper);
+        self.coverage = Coverage::of(&self.whole, &self.upper);
     }
 }
 

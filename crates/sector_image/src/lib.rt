@@ -5,6 +5,7 @@
 #![tactic(auto)]
 
 mod chunks;
+mod coverage;
 mod images;
 mod kept;
 mod laws;

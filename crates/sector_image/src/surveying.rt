@@ -18,7 +18,8 @@ ghost use Rattle.sector_image.specs.Fits.{FitsShape, mark_of, other_mark_of, par
 ghost use Rattle.sector_image.specs.Surveys.{AreHeads, AreLogs};
 ghost use Rattle.sector_image.specs.Refusals.{OnForeign, OnSurveyFault};
 
-use crate::chunks::{count_left, torn_chunk};
+use crate::chunks::torn_chunk;
+use crate::coverage::Coverage;
 use crate::logs::{bytes_at, head_at, is_completable, log_at};
 use crate::{Images, Kept, Shape, Survey, SurveyError};
 use flash_traits::{Board, Mark, Region};
@@ -40,7 +41,9 @@ pub fn survey<B: Board>(board: &mut B, images: &mut Images) -> Result<Survey, Su
     ensures reads { OnlyReads B.Board board.old board.new }
 {
     let guard = guard_count(board)?;
-    survey_sectors(board, guard, &mut images.whole, &mut images.upper)
+    let survey = survey_sectors(board, guard, &mut images.whole, &mut images.upper);
+    images.coverage = Coverage::of(&images.whole, &images.upper);
+    survey
 }
 
 /// The guard count.
@@ -337,7 +340,8 @@ fn survey_spilled<B: Board>(
     let region = second_sector(guard);
     log_at(board, region, Mark::InUse, whole)?;
     let completable = is_completable(board, logs.other, whole)?;
-    let left = count_left(whole, upper, torn_chunk(completable, logs.other)) as u32;
+    let finishing = torn_chunk(completable, logs.other);
+    let left = Coverage::of(whole, upper).count_left(finishing) as u32;
     let sector_bytes = board.geometry().sector_bytes;
     if 66 * left + 2 * logs.other.end > sector_bytes {
         return Err(SurveyError::Foreign {

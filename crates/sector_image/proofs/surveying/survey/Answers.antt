@@ -5,5 +5,5 @@ use Rattle.sector_image.proofs.SurveyLemmas.{foreign_through}
 use Rattle.sector_image.proofs.surveying.survey.Goals as goal
 
 pub returns-clause-foreign : goal.returns-clause-foreign
-returns-clause-foreign g c = foreign_through c.survey_sectors.result _ _
-    (λ place bad told. subst (λ (w : Words). FirstBad w place) (c.guard_count.ensures.reads.changes.content (c.survey_sectors.ensures.reads.changes.told told)) (bad told)) c.survey_sectors.ensures.foreign
+returns-clause-foreign g c = foreign_through c.survey_sectors-survey.result _ _
+    (λ place bad told. subst (λ (w : Words). FirstBad w place) (c.guard_count.ensures.reads.changes.content (c.survey_sectors-survey.ensures.reads.changes.told told)) (bad told)) c.survey_sectors-survey.ensures.foreign

@@ -44,7 +44,7 @@ returns-then-left-logs-clause-foreign g c = λ told.
     let known = spilled_known W c.args.guard c.in_ok-logs.logs.home c.in_ok-logs.logs.other c.logs_of.new.whole c.logs_of.new.upper c.log_at.new.into c.in_ok-completable.completable logs
     (λ mark entries of sector. c.in_ok-completable.ensures.known told mark entries of (subst (λ (w : Words). IsSector (halfwords_in w c.in_ok-logs.logs.other.region) mark entries) (sym same2) sector)) in
     let left : c.count_left-left.result ≡ left_to_copy c.log_at.new.into c.logs_of.new.upper (torn_chunk c.in_ok-completable.completable c.in_ok-logs.logs.other) =
-    c.count_left-left.ensures.count ∙ ap (λ (f : Option ℕ). left_to_copy c.log_at.new.into c.logs_of.new.upper f) c.torn_chunk.ensures in
+    c.count_left-left.ensures.count c.log_at.new.into c.logs_of.new.upper c.of.ensures ∙ ap (λ (f : Option ℕ). left_to_copy c.log_at.new.into c.logs_of.new.upper f) c.torn_chunk-finishing.ensures in
     let size = g.B.Board.sector_bytes c.args.board.now in
     let long : 2 * length (halfwords_in W (second_of c.args.guard)) ≡ size = omega (arith, g.met.B.Board.shape c.args.board.now told0 c.requires.attached (second_of c.args.guard), length_second size c.args.guard, half_of size c.requires.attached) in
     let geometry : g.B.Board.sector_bytes c.is_completable.new.board ≡ g.B.Board.sector_bytes c.args.board.now =
@@ -68,7 +68,7 @@ returns-clause-stands g c = λ told.
     let known = spilled_known W c.args.guard c.in_ok-logs.logs.home c.in_ok-logs.logs.other c.logs_of.new.whole c.logs_of.new.upper c.log_at.new.into c.in_ok-completable.completable logs
     (λ mark entries of sector. c.in_ok-completable.ensures.known told mark entries of (subst (λ (w : Words). IsSector (halfwords_in w c.in_ok-logs.logs.other.region) mark entries) (sym same2) sector)) in
     let left : c.count_left-left.result ≡ left_to_copy c.log_at.new.into c.logs_of.new.upper (torn_chunk c.in_ok-completable.completable c.in_ok-logs.logs.other) =
-    c.count_left-left.ensures.count ∙ ap (λ (f : Option ℕ). left_to_copy c.log_at.new.into c.logs_of.new.upper f) c.torn_chunk.ensures in
+    c.count_left-left.ensures.count c.log_at.new.into c.logs_of.new.upper c.of.ensures ∙ ap (λ (f : Option ℕ). left_to_copy c.log_at.new.into c.logs_of.new.upper f) c.torn_chunk-finishing.ensures in
     let size = g.B.Board.sector_bytes c.args.board.now in
     let long : 2 * length (halfwords_in W (second_of c.args.guard)) ≡ size = omega (arith, g.met.B.Board.shape c.args.board.now told0 c.requires.attached (second_of c.args.guard), length_second size c.args.guard, half_of size c.requires.attached) in
     let geometry : g.B.Board.sector_bytes c.is_completable.new.board ≡ g.B.Board.sector_bytes c.args.board.now =
@@ -86,7 +86,7 @@ returns-clause-fits g c =
     let images = both_bytes c.log_at.new.into c.logs_of.new.upper in
     let other = c.in_ok-logs.ensures.other in
     let left_now : c.count_left-left.result ≡ left_to_copy c.log_at.new.into c.logs_of.new.upper (torn_chunk c.in_ok-completable.completable c.in_ok-logs.logs.other) =
-    c.count_left-left.ensures.count ∙ ap (λ (f : Option ℕ). left_to_copy c.log_at.new.into c.logs_of.new.upper f) c.torn_chunk.ensures in (
+    c.count_left-left.ensures.count c.log_at.new.into c.logs_of.new.upper c.of.ensures ∙ ap (λ (f : Option ℕ). left_to_copy c.log_at.new.into c.logs_of.new.upper f) c.torn_chunk-finishing.ensures in (
       c.in_ok-logs.logs.other,
       record {
         home = found_rules Spilled (g.B.Board.sector_bytes c.args.board.now) (g.B.Board.sector_bytes c.is_completable.new.board) kept images c.requires.attached geometry c.geometry-sector_bytes.ensures c.requires.most c.requires.even
@@ -112,7 +112,7 @@ returns-clause-fits g c =
           let known = spilled_known W c.args.guard c.in_ok-logs.logs.home c.in_ok-logs.logs.other c.logs_of.new.whole c.logs_of.new.upper c.log_at.new.into c.in_ok-completable.completable logs
           (λ mark entries of sector. c.in_ok-completable.ensures.known told mark entries of (subst (λ (w : Words). IsSector (halfwords_in w c.in_ok-logs.logs.other.region) mark entries) (sym same2) sector)) in
           let left : c.count_left-left.result ≡ left_to_copy c.log_at.new.into c.logs_of.new.upper (torn_chunk c.in_ok-completable.completable c.in_ok-logs.logs.other) =
-          c.count_left-left.ensures.count ∙ ap (λ (f : Option ℕ). left_to_copy c.log_at.new.into c.logs_of.new.upper f) c.torn_chunk.ensures in
+          c.count_left-left.ensures.count c.log_at.new.into c.logs_of.new.upper c.of.ensures ∙ ap (λ (f : Option ℕ). left_to_copy c.log_at.new.into c.logs_of.new.upper f) c.torn_chunk-finishing.ensures in
           let size = g.B.Board.sector_bytes c.args.board.now in
           let long : 2 * length (halfwords_in W (second_of c.args.guard)) ≡ size = omega (arith, g.met.B.Board.shape c.args.board.now told0 c.requires.attached (second_of c.args.guard), length_second size c.args.guard, half_of size c.requires.attached) in
           subst (λ (w : Words). TwoLogWords kept c.in_ok-logs.logs.other images w) (sym (c.is_completable.ensures.reads.changes.content told ∙ same2))

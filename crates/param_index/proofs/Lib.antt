@@ -1,0 +1,3 @@
+pub mod PlaceLemmas
+pub mod MagicLemmas
+pub mod SetLemmas
