@@ -355,14 +355,13 @@ fn copy_step<B: Board>(board: &mut B, kept: Kept, images: &mut Images) -> Result
 /// Whether something is left to copy.
 fn step_of(kept: Kept, images: &Images) -> CopyStep
     requires plain { kept.completable ≡ false }
-    requires whole { length images.now.whole ≡ storage_bytes }
-    requires upper { length images.now.upper ≡ storage_bytes }
     ensures kept { kept_in result ≡ kept }
     ensures last { IsTrue (is_whole result)
         ↔ (left_to_copy images.now.whole images.now.upper None ≡ 0) }
 {
-    match images.first_left() {
-        Some(_) => CopyStep::More(Spilled { kept }),
-        None => CopyStep::Whole(Copied { kept }),
+    if images.count_left(None) == 0 {
+        CopyStep::Whole(Copied { kept })
+    } else {
+        CopyStep::More(Spilled { kept })
     }
 }
