@@ -19,7 +19,8 @@ use Rattle.sector_log.proofs.ValueLemmas.{value_applied}
 use Rattle.sector_log.proofs.ValueLemmas as values
 use Rattle.sector_image.specs.Stands.{home_mark, beside, only_in_use, room_kept, Reading, Both, One, IsBoth, IsOne, Reads, entries_in, Stands}
 use Rattle.guard_row.specs.Home.{first_of, second_of}
-use Rattle.sector_image.specs.FirstBad.{Place, place_of, At, BadOtherLog, BadHomeLog, BadOtherHead, BadBoth, BadOne, BadSectors, FirstBad}
+use Rattle.sector_image.specs.FirstBad.{Place, place_of, At, AreHeads, FirstBad, GuardRow, HomeHead, OtherHead, HomeLog, OtherLog, NoRoom, OnlyHead, OnlyLog}
+use Rattle.sector_image.proofs.Checks.{BadOtherLog, BadHomeLog, BadOtherHead, BadBoth, BadOne, BadSectors, BadInside, inside_of}
 use Rattle.sector_image.proofs.Values.{zeros_of}
 use Rattle.sector_image.proofs.LawsBelow.{sector_parts, sector_reading, guard_law}
 use Rattle.sector_image.proofs.Regions.{big}
@@ -110,8 +111,8 @@ one_sectors w count p q x y = elim x [
   ]
 ]
 
-pub one_place : (w : Words) (p q : Place) → FirstBad w p → FirstBad w q → p ≡ q
-one_place w p q x y = elim x [
+one_inside : (w : Words) (p q : Place) → BadInside w p → BadInside w q → p ≡ q
+one_inside w p q x y = elim x [
   | inl a ↦ elim y [
     | inl b ↦ at_once Guard (guard.FirstBad w.guard) (guard_law.one_place w.guard) p q a b
     | inr b ↦ absurd (guard_law.never_both w.guard b.0 p.at p.word b.1 a.1)
@@ -121,6 +122,9 @@ one_place w p q x y = elim x [
     | inr b ↦ one_sectors w a.0 p q a.2 (subst (λ (c : ℕ). BadSectors w c q) (guard_law.one_count w.guard b.0 a.0 b.1 a.1) b.2)
   ]
 ]
+
+pub one_place : (w : Words) (p q : Place) → FirstBad w p → FirstBad w q → p ≡ q
+one_place w p q x y = one_inside w p q (inside_of w p x) (inside_of w q y)
 
 -- an image with both sectors read has no failing place there
 good_both : (w : Words) (count : ℕ) (m n : Mark) (es fs : List Entry) (p : Place) → IsBoth w count m n es fs → BadBoth w count p → ⊥
@@ -155,21 +159,24 @@ good_one w count es p good bad =
       | inr a ↦ sector_parts.no_bad_log only InUse es p.at p.word good.first a.1.1
     ]
 
-pub never_both : (w : Words) (reading : Reading) (p : Place) → Reads w reading → FirstBad w p → ⊥
-never_both w (Both count m n es fs) p good bad = elim bad [
+never_inside : (w : Words) (reading : Reading) (p : Place) → Reads w reading → BadInside w p → ⊥
+never_inside w (Both count m n es fs) p good bad = elim bad [
   | inl a ↦ guard_law.never_both w.guard count p.at p.word good.guard a.1
   | inr a ↦ elim (subst (λ (c : ℕ). BadSectors w c p) (guard_law.one_count w.guard a.0 count a.1 good.guard) a.2) [
     | inl b ↦ good_both w count m n es fs p good b.1
     | inr b ↦ omega (arith, b.0, good.even)
   ]
 ]
-never_both w (One count es) p good bad = elim bad [
+never_inside w (One count es) p good bad = elim bad [
   | inl a ↦ guard_law.never_both w.guard count p.at p.word good.guard a.1
   | inr a ↦ elim (subst (λ (c : ℕ). BadSectors w c p) (guard_law.one_count w.guard a.0 count a.1 good.guard) a.2) [
     | inl b ↦ omega (arith, b.0, good.odd)
     | inr b ↦ good_one w count es p good b.1
   ]
 ]
+
+pub never_both : (w : Words) (reading : Reading) (p : Place) → Reads w reading → FirstBad w p → ⊥
+never_both w reading p good bad = never_inside w reading p good (inside_of w p bad)
 
 same_both : (c d : ℕ) (m n k l : Mark) (es fs gs hs : List Entry) → c ≡ d → m ≡ k → n ≡ l → es ≡ gs → fs ≡ hs → Both c m n es fs ≡ Both d k l gs hs
 same_both c d m n k l es fs gs hs a b e f g = cc
@@ -214,17 +221,18 @@ decide_both w count guard_row even some some' =
     let s = second_of count in
     let home = halfwords_in w r in
     let other = halfwords_in w s in
-    let fails : (p : Place) → BadBoth w count p → Decided w = λ p bad. inr (p, inr (count, guard_row, inl (even, bad))) in
+    let heads : (m n : Mark) → IsTrue (home_mark m) → IsTrue (beside m n) → HasHead home m → HasHead other n → AreHeads w count m n =
+    λ m n may beside_may first second. record { guard = guard_row; even = even; home_may = may; other_may = beside_may; first = first; second = second } in
     elim (sector_parts.head home_mark home some) [
-      | inr bad ↦ fails (place_of r bad.0 bad.1) (inl (refl, bad.2))
+      | inr bad ↦ inr (place_of r bad.0 bad.1, HomeHead count guard_row even (refl, bad.2))
       | inl h ↦ elim (sector_parts.head (beside h.0) other some') [
-        | inr bad ↦ fails (place_of s bad.0 bad.1) (inr (h.0, h.1, h.2, inl (refl, bad.2)))
+        | inr bad ↦ inr (place_of s bad.0 bad.1, OtherHead count h.0 guard_row even h.1 h.2 (refl, bad.2))
         | inl o ↦ elim (sector_parts.log home h.0 h.2) [
-          | inr bad ↦ fails (place_of r bad.0 bad.1) (inr (h.0, h.1, h.2, inr (o.0, o.1, o.2, inl (refl, bad.2))))
+          | inr bad ↦ inr (place_of r bad.0 bad.1, HomeLog count h.0 o.0 (heads h.0 o.0 h.1 o.1 h.2 o.2) (refl, bad.2))
           | inl es ↦ elim (sector_parts.log other o.0 o.2) [
-            | inr bad ↦ fails (place_of s bad.0 bad.1) (inr (h.0, h.1, h.2, inr (o.0, o.1, o.2, inr (es.0, es.1, inl (refl, bad.2)))))
+            | inr bad ↦ inr (place_of s bad.0 bad.1, OtherLog count h.0 o.0 es.0 (heads h.0 o.0 h.1 o.1 h.2 o.2) es.1 (refl, bad.2))
             | inl fs ↦ elim (true_or_false (room_kept o.0 (length other) es.0 fs.0)) [
-              | inr none ↦ fails (place_of s 0 (mark_word o.0)) (inr (h.0, h.1, h.2, inr (o.0, o.1, o.2, inr (es.0, es.1, inr (fs.0, fs.1, none, (refl, (refl, refl)))))))
+              | inr none ↦ inr (place_of s 0 (mark_word o.0), NoRoom count h.0 o.0 es.0 fs.0 (heads h.0 o.0 h.1 o.1 h.2 o.2) es.1 fs.1 none (refl, (refl, refl)))
               | inl room ↦ inl (
                 Both count h.0 o.0 es.0 fs.0,
                 record { guard = guard_row; even = even; home_may = h.1; other_may = o.1; first = es.1; second = fs.1; room = room },
@@ -244,13 +252,12 @@ decide_one : (w : Words) (count : ℕ) → IsGuardRow w.guard count → count % 
 decide_one w count guard_row odd some =
     let r = first_of count in
     let only = halfwords_in w r in
-    let fails : (p : Place) → BadOne w count p → Decided w = λ p bad. inr (p, inr (count, guard_row, inr (odd, bad))) in
     elim (sector_parts.head only_in_use only some) [
-      | inr bad ↦ fails (place_of r bad.0 bad.1) (inl (refl, bad.2))
+      | inr bad ↦ inr (place_of r bad.0 bad.1, OnlyHead count guard_row odd (refl, bad.2))
       | inl h ↦
           let head : HasHead only InUse = subst (λ (m : Mark). HasHead only m) (only_mark h.0 h.1) h.2 in
           elim (sector_parts.log only InUse head) [
-            | inr bad ↦ fails (place_of r bad.0 bad.1) (inr (head, (refl, bad.2)))
+            | inr bad ↦ inr (place_of r bad.0 bad.1, OnlyLog count guard_row odd head (refl, bad.2))
             | inl es ↦ inl (One count es.0, record { guard = guard_row; odd = odd; first = es.1 })
           ]
     ]
@@ -262,7 +269,7 @@ sector_least w n size shape Guard is = absurd is
 
 decide : (w : Words) (n : ℕ) → IsSectorSize n → HasShape n w → Decided w
 decide w n size shape = elim (guard_law.either w.guard) [
-  | inr bad ↦ inr (place_of Guard bad.0 bad.1, inl (refl, bad.2))
+  | inr bad ↦ inr (place_of Guard bad.0 bad.1, GuardRow (refl, bad.2))
   | inl found ↦
       let some = sector_least w n size shape (first_of found.0) (first_sector found.0) in
       let some' = sector_least w n size shape (second_of found.0) (second_sector found.0) in

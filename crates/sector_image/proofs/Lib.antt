@@ -6,6 +6,7 @@ pub mod Values
 pub mod Pushed
 pub mod Regions
 pub mod LawsBelow
+pub mod Checks
 pub mod ImageLaws
 pub mod Standing
 pub mod Keeping

@@ -29,10 +29,10 @@ use Rattle.sector_image.specs.Images.{Bytes, both_bytes}
 use Rattle.sector_image.specs.Room.{chunk_at, left_to_copy, finishing, chunk_to_finish, is_completable, has_room}
 use Rattle.sector_image.specs.Stands.{home_mark, beside, only_in_use, IsBoth}
 use Rattle.guard_row.specs.Home.{first_of, second_of}
-use Rattle.sector_image.specs.FirstBad.{Place, place_of, At, FirstBad}
+use Rattle.sector_image.specs.FirstBad.{Place, place_of, At, AreHeads, FirstBad, HomeHead, OtherHead, HomeLog, OtherLog, NoRoom, OnlyHead, OnlyLog}
 use Rattle.sector_image.specs.Fits.{IsKept, OneLogWords, TwoLogWords, mark_of, parity_of, torn_chunk}
 use Rattle.sector_image.specs.Refusals.{OnForeign}
-use Rattle.sector_image.specs.Surveys.{AreHeads, AreLogs}
+use Rattle.sector_image.specs.Surveys.{AreLogs}
 use Rattle.sector_image.proofs.LawsBelow.{sector_reading}
 use Rattle.sector_image.proofs.Values.{zeros_of}
 use Rattle.sector_image.proofs.Pushed.{last_split, finishing_is}
@@ -152,25 +152,25 @@ foreign_through (Err e) P Q more is = on_foreign e P Q more is
 
 -- where the checks fail
 pub bad_home_head : (w : Words) (count : ℕ) (r : Region) (p : Place) → r ≡ first_of count → IsGuardRow w.guard count → count % 2 ≡ 0 → At r (BadHead home_mark (halfwords_in w r)) p → FirstBad w p
-bad_home_head w count r p is guard even bad = inr (count, guard, inl (even, inl (subst (λ (q : Region). At q (BadHead home_mark (halfwords_in w q)) p) is bad)))
+bad_home_head w count r p is guard even bad = HomeHead count guard even (subst (λ (q : Region). At q (BadHead home_mark (halfwords_in w q)) p) is bad)
 
 pub bad_other_head : (w : Words) (count : ℕ) (m : Mark) (r : Region) (p : Place) → r ≡ second_of count → IsGuardRow w.guard count → count % 2 ≡ 0 → IsTrue (home_mark m) → HasHead (halfwords_in w (first_of count)) m
     → At r (BadHead (beside m) (halfwords_in w r)) p → FirstBad w p
-bad_other_head w count m r p is guard even may head bad = inr (count, guard, inl (even, inr (m, may, head, inl (subst (λ (q : Region). At q (BadHead (beside m) (halfwords_in w q)) p) is bad))))
+bad_other_head w count m r p is guard even may head bad = OtherHead count m guard even may head (subst (λ (q : Region). At q (BadHead (beside m) (halfwords_in w q)) p) is bad)
 
 pub bad_home_log : (w : Words) (count : ℕ) (m n : Mark) (r : Region) (p : Place) → r ≡ first_of count → AreHeads w count m n → At r (BadLog (halfwords_in w r)) p → FirstBad w p
-bad_home_log w count m n r p is heads bad = inr (count, heads.guard, inl (heads.even, inr (m, heads.home_may, heads.first, inr (n, heads.other_may, heads.second, inl (subst (λ (q : Region). At q (BadLog (halfwords_in w q)) p) is bad)))))
+bad_home_log w count m n r p is heads bad = HomeLog count m n heads (subst (λ (q : Region). At q (BadLog (halfwords_in w q)) p) is bad)
 
 pub bad_other_log : (w : Words) (count : ℕ) (m n : Mark) (es : List Entry) (r : Region) (p : Place) → r ≡ second_of count → AreHeads w count m n → IsSector (halfwords_in w (first_of count)) m es → At r (BadLog (halfwords_in w r)) p → FirstBad w p
 bad_other_log w count m n es r p is heads home bad =
-    inr (count, heads.guard, inl (heads.even, inr (m, heads.home_may, heads.first, inr (n, heads.other_may, heads.second, inr (es, home, inl (subst (λ (q : Region). At q (BadLog (halfwords_in w q)) p) is bad))))))
+    OtherLog count m n es heads home (subst (λ (q : Region). At q (BadLog (halfwords_in w q)) p) is bad)
 
 pub bad_only_head : (w : Words) (count : ℕ) (r : Region) (p : Place) → r ≡ first_of count → IsGuardRow w.guard count → count % 2 ≡ 1 → At r (BadHead only_in_use (halfwords_in w r)) p → FirstBad w p
-bad_only_head w count r p is guard odd bad = inr (count, guard, inr (odd, inl (subst (λ (q : Region). At q (BadHead only_in_use (halfwords_in w q)) p) is bad)))
+bad_only_head w count r p is guard odd bad = OnlyHead count guard odd (subst (λ (q : Region). At q (BadHead only_in_use (halfwords_in w q)) p) is bad)
 
 pub bad_only_log : (w : Words) (count : ℕ) (r : Region) (p : Place) → r ≡ first_of count → IsGuardRow w.guard count → count % 2 ≡ 1 → HasHead (halfwords_in w r) InUse → At r (BadLog (halfwords_in w r)) p → FirstBad w p
 bad_only_log w count r p is guard odd head bad =
-    inr (count, guard, inr (odd, inr (subst (λ (q : Region). HasHead (halfwords_in w q) InUse) is head, subst (λ (q : Region). At q (BadLog (halfwords_in w q)) p) is bad)))
+    OnlyLog count guard odd (subst (λ (q : Region). HasHead (halfwords_in w q) InUse) is head) (subst (λ (q : Region). At q (BadLog (halfwords_in w q)) p) is bad)
 
 -- what the logs tell
 reads_beside : (w : Words) (count : ℕ) (m : Mark) (home other : Log) (whole upper : List ℕ) → IsTrue (home_mark m) → IsTrue (beside m Available) → (logs : AreLogs w count m Available home other whole upper) → IsBoth w count m Available logs.home_entries []
@@ -230,7 +230,7 @@ no_room w count home other completable before upper whole logs value known room 
     subst (λ (f : Option ℕ). 2 * length (halfwords_in w (second_of count)) < 66 * left_to_copy whole upper f + 2 * end_of logs.other_entries) (sym chunk) (omega (arith, room, logs.other_log.end)) in
     let fails : has_room (length (halfwords_in w (second_of count))) logs.home_entries logs.other_entries ≡ false =
     room_is (length (halfwords_in w (second_of count))) logs.home_entries logs.other_entries whole upper value logs.other_value ∙ lt-leb _ _ over in
-    inr (count, heads.guard, inl (heads.even, inr (Full, heads.home_may, heads.first, inr (InUse, heads.other_may, heads.second, inr (logs.home_entries, logs.first, inr (logs.other_entries, logs.second, fails, (refl, (refl, refl))))))))
+    NoRoom count Full InUse logs.home_entries logs.other_entries heads logs.first logs.second fails (refl, (refl, refl))
 
 -- what holds of a state that is found, whether the words are told or not
 pub found_rules : (name : Shape) (old_size size : ℕ) (kept : Kept) (images : Bytes) → IsSectorSize old_size → size ≡ old_size → kept.sector_bytes ≡ size → kept.guard ≤ 8192 → kept.guard % 2 ≡ parity_of name

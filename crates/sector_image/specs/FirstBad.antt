@@ -1,11 +1,12 @@
 -- The first foreign word of words that are no image.
-use Rattle.std.specs.Prelude.{◌≡◌, ◌⊎◌, ℕ, ◌%◌, List, length, IsFalse, IsTrue}
+use Rattle.std.specs.Prelude.{◌≡◌, ℕ, ◌%◌, List, length, IsFalse, IsTrue}
 use Rattle.flash_traits.specs.Words.{Words, halfwords_in}
 use Rattle.flash_traits.specs.declared.board.Region.{Region}
 use Rattle.flash_traits.specs.declared.board.Region.TheVariants.{Guard}
 use Rattle.flash_traits.specs.declared.board.Mark.{Mark}
 use Rattle.flash_traits.specs.declared.board.Mark.TheVariants.{InUse}
 use Rattle.guard_row.specs.Row as guard_row
+use Rattle.guard_row.specs.Row.{IsGuardRow}
 use Rattle.sector_log.specs.Entries.{Entry}
 use Rattle.sector_log.specs.Sector.{IsSector, HasHead, BadHead, BadLog}
 use Rattle.flash_traits.specs.Marks.{mark_word}
@@ -25,43 +26,45 @@ place_of region at word = record { region = region; at = at; word = word }
 abbrev pub At : Region → (ℕ → ℕ → Type 0) → Place → Type 0
 At region fails p = (p.region ≡ region) × fails p.at p.word
 
--- Where the count is even: home's head, the other's head, home's log, the other's log and at last
--- the room rule, in this order. Each check is made where those before it passed.
-abbrev pub BadRoom : Region → List ℕ → Mark → List Entry → Place → Type 0
-BadRoom s other n home p = (entries : List Entry) × IsSector other n entries
-    × IsFalse (room_kept n (length other) home entries)
-    × At s (λ at word. (at ≡ 0) × (word ≡ mark_word n)) p
+-- the sector that the count names first, home or the one that isn't void, and the other one
+abbrev pub first_sector : Words → ℕ → List ℕ
+first_sector w count = halfwords_in w (first_of count)
 
-abbrev pub BadOtherLog : Region → List ℕ → Mark → List Entry → Place → Type 0
-BadOtherLog s other n home p = At s (BadLog other) p ⊎ BadRoom s other n home p
+abbrev pub second_sector : Words → ℕ → List ℕ
+second_sector w count = halfwords_in w (second_of count)
 
-abbrev pub BadHomeLog : Region → Region → List ℕ → List ℕ → Mark → Mark → Place → Type 0
-BadHomeLog r s home other m n p = At r (BadLog home) p
-    ⊎ ((entries : List Entry) × IsSector home m entries × BadOtherLog s other n entries p)
+-- the count is even, and both sectors have heads that may stand there
+pub record AreHeads (w : Words) (count : ℕ) (m n : Mark) : Type 0 where
+  pub guard : IsGuardRow w.guard count
+  pub even : count % 2 ≡ 0
+  pub home_may : IsTrue (home_mark m)
+  pub other_may : IsTrue (beside m n)
+  pub first : HasHead (first_sector w count) m
+  pub second : HasHead (second_sector w count) n
 
-abbrev pub BadOtherHead : Region → Region → List ℕ → List ℕ → Mark → Place → Type 0
-BadOtherHead r s home other m p = At s (BadHead (beside m) other) p
-    ⊎ ((n : Mark) × IsTrue (beside m n) × HasHead other n × BadHomeLog r s home other m n p)
-
-abbrev pub BadHomeHead : Region → Region → List ℕ → List ℕ → Place → Type 0
-BadHomeHead r s home other p = At r (BadHead home_mark home) p
-    ⊎ ((m : Mark) × IsTrue (home_mark m) × HasHead home m × BadOtherHead r s home other m p)
-
-abbrev pub BadBoth : Words → ℕ → Place → Type 0
-BadBoth w count p = BadHomeHead (first_of count) (second_of count) (halfwords_in w (first_of count))
-    (halfwords_in w (second_of count)) p
-
--- where it is odd: the head of the sector that isn't void, and its log
-abbrev pub BadOne : Words → ℕ → Place → Type 0
-BadOne w count p =
-    At (first_of count) (BadHead only_in_use (halfwords_in w (first_of count))) p
-    ⊎ (HasHead (halfwords_in w (first_of count)) InUse
-    × At (first_of count) (BadLog (halfwords_in w (first_of count))) p)
-
-abbrev pub BadSectors : Words → ℕ → Place → Type 0
-BadSectors w count p = ((count % 2 ≡ 0) × BadBoth w count p) ⊎ ((count % 2 ≡ 1) × BadOne w count p)
-
--- The first foreign word: the guard row is tested first, and then the sectors that its count names.
-abbrev pub FirstBad : Words → Place → Type 0
-FirstBad w p = At Guard (guard_row.FirstBad w.guard) p
-    ⊎ ((count : ℕ) × guard_row.IsGuardRow w.guard count × BadSectors w count p)
+-- The first foreign word is where a check fails. The checks are made in this order, each where
+-- those before it passed: the guard row; where its count is even, home's head, the other's head,
+-- home's log, the other's log and at last the room rule, which fails at the other's mark; where it
+-- is odd, the head of the sector that isn't void, and its log.
+pub data FirstBad (w : Words) (p : Place) : Type 0 where
+  GuardRow : At Guard (guard_row.FirstBad w.guard) p → FirstBad w p
+  HomeHead : (count : ℕ) → IsGuardRow w.guard count → count % 2 ≡ 0
+      → At (first_of count) (BadHead home_mark (first_sector w count)) p → FirstBad w p
+  OtherHead : (count : ℕ) (home : Mark) → IsGuardRow w.guard count → count % 2 ≡ 0
+      → IsTrue (home_mark home) → HasHead (first_sector w count) home
+      → At (second_of count) (BadHead (beside home) (second_sector w count)) p → FirstBad w p
+  HomeLog : (count : ℕ) (home other : Mark) → AreHeads w count home other
+      → At (first_of count) (BadLog (first_sector w count)) p → FirstBad w p
+  OtherLog : (count : ℕ) (home other : Mark) (entries : List Entry) → AreHeads w count home other
+      → IsSector (first_sector w count) home entries
+      → At (second_of count) (BadLog (second_sector w count)) p → FirstBad w p
+  NoRoom : (count : ℕ) (home other : Mark) (entries others : List Entry)
+      → AreHeads w count home other → IsSector (first_sector w count) home entries
+      → IsSector (second_sector w count) other others
+      → IsFalse (room_kept other (length (second_sector w count)) entries others)
+      → At (second_of count) (λ at word. (at ≡ 0) × (word ≡ mark_word other)) p → FirstBad w p
+  OnlyHead : (count : ℕ) → IsGuardRow w.guard count → count % 2 ≡ 1
+      → At (first_of count) (BadHead only_in_use (first_sector w count)) p → FirstBad w p
+  OnlyLog : (count : ℕ) → IsGuardRow w.guard count → count % 2 ≡ 1
+      → HasHead (first_sector w count) InUse
+      → At (first_of count) (BadLog (first_sector w count)) p → FirstBad w p

@@ -1,24 +1,14 @@
 -- What a survey knows of words that are told, as far as it has come.
-use Rattle.std.specs.Prelude.{◌≡◌, ℕ, ◌%◌, List, IsTrue}
+use Rattle.std.specs.Prelude.{ℕ, List}
 use Rattle.flash_traits.specs.Words.{Words, halfwords_in}
 use Rattle.flash_traits.specs.declared.board.Mark.{Mark}
-use Rattle.guard_row.specs.Row.{IsGuardRow}
 use Rattle.sector_log.specs.declared.log.Log.{Log}
 use Rattle.sector_log.specs.Entries.{Entry}
-use Rattle.sector_log.specs.Sector.{IsSector, HasHead}
+use Rattle.sector_log.specs.Sector.{IsSector}
 use Rattle.sector_log.specs.Bytes.{IsValue}
 use Rattle.sector_log.specs.Log.{IsLogOf}
-use Rattle.sector_image.specs.Stands.{home_mark, beside}
+use Rattle.sector_image.specs.FirstBad.{AreHeads}
 use Rattle.guard_row.specs.Home.{first_of, second_of}
-
--- the count is even, and both sectors have heads that may stand there
-pub record AreHeads (w : Words) (count : ℕ) (m n : Mark) : Type 0 where
-  pub guard : IsGuardRow w.guard count
-  pub even : count % 2 ≡ 0
-  pub home_may : IsTrue (home_mark m)
-  pub other_may : IsTrue (beside m n)
-  pub first : HasHead (halfwords_in w (first_of count)) m
-  pub second : HasHead (halfwords_in w (second_of count)) n
 
 -- both sectors are of the grammar, and these are their logs and the bytes of each alone
 pub record AreLogs (w : Words) (count : ℕ) (m n : Mark) (home other : Log)

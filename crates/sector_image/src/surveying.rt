@@ -13,9 +13,9 @@ ghost use Rattle.sector_image.specs.Images.{both_bytes};
 ghost use Rattle.guard_row.specs.Home.{first_of, second_of};
 ghost use Rattle.sector_image.specs.Stands as stands;
 ghost use Rattle.sector_image.specs.Stands.{home_mark, beside, Stands};
-ghost use Rattle.sector_image.specs.FirstBad.{Place, FirstBad};
+ghost use Rattle.sector_image.specs.FirstBad.{Place, FirstBad, AreHeads};
 ghost use Rattle.sector_image.specs.Fits.{FitsShape, mark_of, other_mark_of, parity_of};
-ghost use Rattle.sector_image.specs.Surveys.{AreHeads, AreLogs};
+ghost use Rattle.sector_image.specs.Surveys.{AreLogs};
 ghost use Rattle.sector_image.specs.Refusals.{OnForeign, OnSurveyFault};
 
 use crate::chunks::torn_chunk;

@@ -7,9 +7,8 @@ use Rattle.sector_log.specs.declared.heads.Marks.{Marks}
 use Rattle.sector_log.specs.Heads.{may_stand}
 use Rattle.sector_log.specs.Sector.{HasHead, BadHead}
 use Rattle.guard_row.specs.Home.{second_of}
-use Rattle.sector_image.specs.FirstBad.{At}
+use Rattle.sector_image.specs.FirstBad.{At, AreHeads}
 use Rattle.sector_image.specs.Fits.{other_mark_of}
-use Rattle.sector_image.specs.Surveys.{AreHeads}
 use Rattle.sector_image.proofs.SurveyLemmas.{on_foreign, err_from, bad_home_head, bad_other_head}
 use Rattle.sector_image.proofs.surveying.heads_of.Goals as goal
 

@@ -1,9 +1,8 @@
 use Rattle.std.proofs.Common.{sym, subst}
 use Rattle.flash_traits.specs.Words.{Words}
 use Rattle.sector_image.specs.declared.kept.Shape.{Shape}
-use Rattle.sector_image.specs.FirstBad.{FirstBad}
+use Rattle.sector_image.specs.FirstBad.{FirstBad, AreHeads}
 use Rattle.sector_image.specs.Fits.{mark_of, other_mark_of}
-use Rattle.sector_image.specs.Surveys.{AreHeads}
 use Rattle.sector_image.proofs.SurveyLemmas.{foreign_through}
 use Rattle.sector_image.proofs.surveying.survey_sectors.Goals as goal
 
