@@ -6,6 +6,7 @@ use Rattle.storage_lines.specs.declared.lines.LineWrite.{LineWrite}
 use Rattle.storage_lines.specs.Lines.{after}
 use Rattle.param_records.specs.Steps.{records_in_storage}
 use Rattle.param_records.specs.Changes.{is_full}
+use Rattle.param_service.specs.Budget.{exceeds}
 use Rattle.mission_commands.specs.declared.commands.Command.{Command}
 use Rattle.mission_records.specs.declared.reading.TheConstants.{CAPACITY}
 use Rattle.mission_records.specs.Mission.{total_row, total_of, mission_of, total_writes, begin_writes, put_writes}
@@ -52,11 +53,6 @@ pub record From : Type 0 where
   pub station : ℕ
   pub target : Target
   pub number : ℕ
-
--- so many lines more than may be issued while armed
-abbrev pub exceeds : Option ℕ → List LineWrite → Bool
-exceeds None writes = false
-exceeds (Some allowed) writes = nat_lt allowed (length writes)
 
 -- who asks is told this
 abbrev pub tells : From → Content → List Told

@@ -2,7 +2,7 @@
 ghost use Rattle.std.specs.Prelude.{◌≡◌, ◌<◌, ◌≤◌, [], length};
 ghost use Rattle.arrayvec.specs.ArrayVec.{array_vec_len};
 ghost use Rattle.mission_service.specs.Uploads.{uploads_of, with_uploads};
-ghost use Rattle.mission_service.specs.Service.{exceeds, is_anothers, any_anothers, all_quiet, most_of, first_writes, type_writes, clear_writes, cleared, begun, opened, does};
+ghost use Rattle.mission_service.specs.Service.{is_anothers, any_anothers, all_quiet, most_of, first_writes, type_writes, clear_writes, cleared, begun, opened, does};
 ghost use Rattle.mission_service.specs.Steps.Inside.{from_seen, types_seen};
 ghost use Rattle.mission_service.specs.Steps.Parts.{AreSafe};
 
@@ -11,17 +11,8 @@ use crate::replies::{ACCEPTED, Content, DENIED, NO_SPACE};
 use crate::requests::MissionType;
 use crate::uploads::{Asker, FENCE_ITEMS, Upload, Uploads, is_anothers};
 use mission_records::CAPACITY;
+use param_service::exceeds;
 use storage_lines::{Batch, STORAGE_BYTES};
-
-/// Whether there are more lines than may be issued.
-pub fn exceeds(allowed: Option<u32>, batch: &Batch) -> bool
-    ensures { result ≡ exceeds allowed batch.now.items }
-{
-    match allowed {
-        None => false,
-        Some(limit) => batch.len() > limit as usize,
-    }
-}
 
 /// Whether another station's upload of a type is open.
 fn is_anothers_of(state: &MissionState, kind: MissionType, station: u8) -> bool

@@ -9,7 +9,6 @@ ghost use Rattle.mission_service.specs.Steps.Inside.{from_seen, upload_seen};
 ghost use Rattle.mission_service.specs.Steps.Parts.{AreSafe, IsTaken, IsWritten};
 
 use crate::MissionState;
-use crate::counts::exceeds;
 use crate::replies::{Content, NO_SPACE};
 use crate::uploads::{
     Asker, FENCE_ITEMS, Upload, Uploads, after_item, expected_by, is_last, told_after,
@@ -18,6 +17,7 @@ use arrayvec::ArrayVec;
 use fence_records::{FenceItem, check, write};
 use mission_commands::Command;
 use mission_records::CAPACITY;
+use param_service::exceeds;
 use storage_lines::{Batch, STORAGE_BYTES};
 
 /// Gives the lines that put the command of the next item, or says why it isn't taken.

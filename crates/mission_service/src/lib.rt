@@ -131,6 +131,7 @@ pub fn answer(
     ensures answered { (asked : Option Asking) × Asks message.now asked × IsAnswered
         (did current.now allowed state.old from.station (target_of from) asked)
         from.station state.new batch.new.items replies.new.items }
+    ensures within { (limit : ℕ) → allowed ≡ Some limit → length batch.new.items ≤ limit }
     ensures inside { AreInside batch.new.items }
     ensures few { length batch.new.items ≤ BATCH_LINES }
     ensures magic { HasMagic current.now

@@ -1,6 +1,5 @@
 //! What a message asks of the missions.
 ghost use Rattle.std.specs.Prelude.{◌≡◌, ◌==◌, None, if◌then◌else◌};
-ghost use Rattle.param_service.specs.Requests.{is_for};
 ghost use Rattle.mission_service.specs.Uploads.{number_of, type_of};
 ghost use Rattle.mission_service.specs.Requests as asks;
 ghost use Rattle.mission_service.specs.Requests.{Asks, IsGiven, ask, of_type, if_for, if_supported, types_of, operation_cancelled};
@@ -10,9 +9,7 @@ use crate::replies::OPERATION_CANCELLED;
 use fence_records::{FenceItem, from_item};
 use mav_messages::Message;
 use mission_commands::{Command, Item, to_command};
-
-/// The vehicle's system, and its component.
-const VEHICLE: u8 = 1;
+use param_service::is_vehicle;
 
 /// MAV_MISSION_TYPE_ALL.
 const ALL_TYPES: u8 = 255;
@@ -70,13 +67,6 @@ fn type_of(number: u8) -> Option<MissionType>
         1 => Some(MissionType::Fence),
         _ => None,
     }
-}
-
-/// Whether a message with this target is for the vehicle: 0 is everybody.
-fn is_vehicle(system: u8, component: u8) -> bool
-    ensures { result ≡ is_for system component }
-{
-    system <= VEHICLE && component <= VEHICLE
 }
 
 /// A request of the type with a number, where the message is for the vehicle.

@@ -18,6 +18,7 @@ asks_set m bits system component name kind asked is fine h =
     subst (λ (x : Message). Asks x asked) (sym is) (subst (λ (o : Option ℕ). IsSetting o bits asked) (sym (ap (λ (b : Bool). cond b (row_named name) None) fine)) h)
 
 -- who asks for a row changes nothing
-pub read_keeps : (bytes next_rows : List ℕ) (station : ℕ) (row : Option ℕ) → (next_rows ≡ (did bytes next_rows station (option_map Show row)).next_rows) × ([] ≡ (did bytes next_rows station (option_map Show row)).writes)
-read_keeps bytes next_rows station None = (refl, refl)
-read_keeps bytes next_rows station (Some index) = (refl, refl)
+pub read_keeps : (bytes : List ℕ) (allowed : Option ℕ) (next_rows : List ℕ) (station : ℕ) (row : Option ℕ) →
+    (next_rows ≡ (did bytes allowed next_rows station (option_map Show row)).next_rows) × ([] ≡ (did bytes allowed next_rows station (option_map Show row)).writes)
+read_keeps bytes allowed next_rows station None = (refl, refl)
+read_keeps bytes allowed next_rows station (Some index) = (refl, refl)

@@ -1,9 +1,9 @@
 -- Setting a row as a station asks for it.
-use Rattle.std.proofs.Common.{◌≡◌, ◌⊎◌, inl, inr, ℕ, ◌<◌, ◌^◌, Bool, true, false, cond, List, [], ◌++◌, length, take, drop, refl, sym, ◌∙◌, ap, subst, arith, Option, Some, None}
+use Rattle.std.proofs.Common.{◌≡◌, ◌⊎◌, inl, inr, ℕ, ◌<◌, Bool, true, false, cond, List, [], ◌++◌, length, take, drop, refl, sym, ◌∙◌, ap, subst, arith, Option, Some, None}
 use Rattle.std.specs.Prelude.{IfSome, slice_get, Result, Ok, Err, IsErrOf, ◌↔◌}
-use Rattle.std.specs.Option.{is_none, option_map_or}
+use Rattle.std.specs.Option.{option_map_or}
 use Rattle.std.proofs.lemmas.List.{take_all}
-use Rattle.std.proofs.lemmas.Bool.{cases_lt, and_parts, and_from, or_left, or_right, or_from, false_from_ne_true, not_from_false, not-true, lt-ltb, ltb-true, ne_eqb, eqb-false}
+use Rattle.std.proofs.lemmas.Bool.{cases_lt, or_left, or_right, or_from, false_from_ne_true}
 use Rattle.param_tree.specs.declared.Var.{Var}
 use Rattle.param_tree.specs.Rows.{vehicle_rows}
 use Rattle.storage_lines.specs.declared.lines.LineWrite.{LineWrite}
@@ -26,6 +26,7 @@ use Rattle.param_records.proofs.SetLemmas.{is_some}
 use Rattle.param_records.proofs.StepLemmas.{no_records}
 use Rattle.param_records.proofs.WalkLemmas.{logical_bytes}
 use Rattle.param_service.specs.Requests.{IsNumberFor}
+use Rattle.param_service.specs.Budget.{exceeds, allowed_writes}
 use Rattle.param_service.specs.Service.{is_total, writes_for, set_writes}
 use Rattle.param_service.specs.Setting.{IsSet}
 use Rattle.param_service.proofs.Numbers.{number_for}
@@ -55,25 +56,25 @@ set_writes-at bytes index number row is = ap (λ (o : Option Var). option_map_or
 
 -- a row that keeps its value
 pub not_set : (bytes : List ℕ) (index bits : ℕ) (row : Var) (number : Option ℕ) (writes : List LineWrite) (value : Value) → slice_get vehicle_rows index ≡ Some row → IsNumberFor row bits number →
-    ((n : ℕ) → number ≡ Some n → writes_for bytes row n ≡ []) → writes ≡ [] → value ≡ params_of bytes row → IsSet bytes row index bits writes value
+    ((n : ℕ) → number ≡ Some n → writes_for bytes row n ≡ []) → writes ≡ [] → value ≡ params_of bytes row → IsSet bytes None row index bits writes value
 not_set bytes index bits row None writes value is meant none w v =
     record { number = None; meant = meant; written = w; shown = v ∙ ap (λ (l : List LineWrite). params_of (after bytes l) row) (sym w) }
 not_set bytes index bits row (Some n) writes value is meant none w v =
     record { number = Some n; meant = meant; written = w ∙ sym (set_writes-at bytes index n row is ∙ none n refl); shown = v ∙ ap (λ (l : List LineWrite). params_of (after bytes l) row) (sym w) }
 
 pub total_kept : (bytes : List ℕ) (index bits : ℕ) (row : Var) (writes : List LineWrite) (value : Value) → slice_get vehicle_rows index ≡ Some row → is_total row ≡ true → writes ≡ [] → value ≡ params_of bytes row →
-    IsSet bytes row index bits writes value
+    IsSet bytes None row index bits writes value
 total_kept bytes index bits row writes value is total w v =
     let number = number_for row bits in
     not_set bytes index bits row number.0 writes value is number.1 (λ n e. total_writes bytes row n total) w v
 
 pub full_kept : (bytes : List ℕ) (index bits n : ℕ) (row : Var) (writes : List LineWrite) (value : Value) → slice_get vehicle_rows index ≡ Some row → IsNumberOf row.kind bits n → IsFull (records_in_storage bytes) row n → writes ≡ [] → value ≡ params_of bytes row →
-    IsSet bytes row index bits writes value
+    IsSet bytes None row index bits writes value
 full_kept bytes index bits n row writes value is has full w v =
     not_set bytes index bits row (Some n) writes value is has (λ m e. let same : n ≡ m = cc in subst (λ (k : ℕ). writes_for bytes row k ≡ []) same (full_writes bytes row n full)) w v
 
 pub no_number_kept : (bytes : List ℕ) (index bits : ℕ) (row : Var) (writes : List LineWrite) (value : Value) → slice_get vehicle_rows index ≡ Some row → ((n : ℕ) → IsNumberOf row.kind bits n → ⊥) → writes ≡ [] → value ≡ params_of bytes row →
-    IsSet bytes row index bits writes value
+    IsSet bytes None row index bits writes value
 no_number_kept bytes index bits row writes value is none w v = not_set bytes index bits row None writes value is none (λ n e. cc) w v
 
 -- What a set that was taken says of the row.
@@ -124,7 +125,7 @@ taken_by rows bytes old row index bits writes u table empty small is ok full ste
     taken bytes row index bits writes is' ok' (from_some (slice_get vehicle_rows index) (λ r. (n : ℕ) × IsNumberOf r.kind bits n × IsFull (records_in_storage bytes) r n → ⊥) row is' (λ x. let e = both.1 x in cc)) (steps' low) (value' low)
 
 pub taken_set : (bytes : List ℕ) (row : Var) (index bits : ℕ) (writes : List LineWrite) (value : Value) → slice_get vehicle_rows index ≡ Some row → Taken bytes row index bits writes → is_total row ≡ false → value ≡ params_of (after bytes writes) row →
-    IsSet bytes row index bits writes value
+    IsSet bytes None row index bits writes value
 taken_set bytes row index bits writes value is t total v =
     record { number = Some t.number; meant = t.meant; written = t.written ∙ sym (set_writes-at bytes index t.number row is ∙ room_writes bytes row t.number total t.room); shown = v }
 
@@ -157,7 +158,7 @@ failed e = Err e
 pub refused_by : (rows : List Var) (bytes : List ℕ) (old : List LineWrite) (row : Var) (index bits : ℕ) (writes : List LineWrite) (value : Value) (e : SetError) → rows ≡ vehicle_rows → old ≡ [] → slice_get rows index ≡ Some row →
     IfSome (slice_get rows index) (λ r. IsErrOf (failed e) (Range bits) ↔ ((n : ℕ) → IsNumberOf r.kind bits n → ⊥)) →
     IfSome (slice_get rows index) (λ r. IsErrOf (failed e) (Full (end_of (logical_of Param (after bytes old)))) ↔ ((n : ℕ) × IsNumberOf r.kind bits n × IsFull (records_in_storage (after bytes old)) r n)) →
-    (e ≡ Range bits) ⊎ (e ≡ Full (end_of (logical_of Param (after bytes old)))) → writes ≡ old → value ≡ params_of bytes row → IsSet bytes row index bits writes value
+    (e ≡ Range bits) ⊎ (e ≡ Full (end_of (logical_of Param (after bytes old)))) → writes ≡ old → value ≡ params_of bytes row → IsSet bytes None row index bits writes value
 refused_by rows bytes old row index bits writes value e table empty is range full only same v =
     let is' : slice_get vehicle_rows index ≡ Some row = subst (λ (l : List Var). slice_get l index ≡ Some row) table is in
     let range' = is_some (slice_get rows index) (λ r. IsErrOf (failed e) (Range bits) ↔ ((n : ℕ) → IsNumberOf r.kind bits n → ⊥)) row is range in
@@ -176,3 +177,21 @@ value_there o row bytes value is found =
     let both : Some found.0 ≡ Some row = sym found.1 ∙ is in
     let same : found.0 ≡ row = cc in
     subst (λ (r : Var). value ≡ params_of bytes r) same found.2
+
+-- more lines are needed than may be issued: the row keeps its value
+pub limit_kept : (bytes : List ℕ) (allowed : Option ℕ) (row : Var) (index bits : ℕ) (lines writes : List LineWrite) (set kept : Value) → IsSet bytes None row index bits lines set → exceeds allowed lines ≡ true → writes ≡ [] → kept ≡ params_of bytes row →
+    IsSet bytes allowed row index bits writes kept
+limit_kept bytes allowed row index bits lines writes set kept is over empty same =
+    let none : allowed_writes allowed lines ≡ [] = ap (λ (b : Bool). cond b [] lines) over in
+    record {
+      number = is.number;
+      meant = is.meant;
+      written = empty ∙ sym none ∙ ap (allowed_writes allowed) is.written;
+      shown = same ∙ ap (λ (l : List LineWrite). params_of (after bytes l) row) (sym empty);
+    }
+
+-- no more lines are needed than may be issued
+pub limit_met : (bytes : List ℕ) (allowed : Option ℕ) (row : Var) (index bits : ℕ) (writes : List LineWrite) (value : Value) → IsSet bytes None row index bits writes value → exceeds allowed writes ≡ false → IsSet bytes allowed row index bits writes value
+limit_met bytes allowed row index bits writes value is under =
+    let all : allowed_writes allowed writes ≡ writes = ap (λ (b : Bool). cond b [] writes) under in
+    record { number = is.number; meant = is.meant; written = sym all ∙ ap (allowed_writes allowed) is.written; shown = is.shown }

@@ -1,4 +1,5 @@
 pub mod Requests
+pub mod Budget
 pub mod Service
 pub mod Replies
 pub mod Inside

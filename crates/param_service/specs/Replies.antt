@@ -10,8 +10,9 @@ use Rattle.param_records.specs.declared.values.Value.TheVariants.{Whole, Bits}
 use Rattle.mav_messages.specs.declared.messages.Message.{Message}
 use Rattle.mav_messages.specs.declared.messages.Message.TheVariants.{ParamValue}
 use Rattle.mav_messages.specs.declared.messages.Reply.{Reply}
+use Rattle.storage_lines.specs.declared.lines.LineWrite.{LineWrite}
 use Rattle.param_service.specs.Requests.{parameters}
-use Rattle.param_service.specs.Service.{Shown}
+use Rattle.param_service.specs.Service.{Shown, Did}
 
 -- the binary32 pattern of a value: the nearest to a whole number, and never minus zero; a float's
 -- is itself
@@ -40,3 +41,11 @@ IsReplyOf shown reply = (reply.to ≡ shown.to) × ShowsValue shown.index shown.
 -- the replies show these values, in order
 abbrev pub AreRepliesOf : List Shown → List Reply → Type 0
 AreRepliesOf shown replies = AllZip IsReplyOf shown replies
+
+-- A message was answered so: the lists that are being sent after it, the lines to issue, and the
+-- replies to send after them.
+pub record IsAnswered (d : Did) (next_rows : List ℕ) (writes : List LineWrite)
+    (replies : List Reply) : Type 0 where
+  pub state : next_rows ≡ d.next_rows
+  pub lines : writes ≡ d.writes
+  pub shown : AreRepliesOf d.shown replies

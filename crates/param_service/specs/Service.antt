@@ -16,6 +16,7 @@ use Rattle.param_records.specs.Values.{params_of}
 use Rattle.mav_messages.specs.declared.messages.To.{To}
 use Rattle.mav_messages.specs.declared.messages.To.TheVariants.{Station, All}
 use Rattle.param_service.specs.Requests.{Request, Show, ShowAll, Set, parameters}
+use Rattle.param_service.specs.Budget.{allowed_writes}
 
 -- a row's value, and whom it is shown to
 pub record Shown : Type 0 where
@@ -55,24 +56,32 @@ set_writes bytes index None = []
 set_writes bytes index (Some number) =
     option_map_or (λ row. writes_for bytes row number) (slice_get vehicle_rows index) []
 
--- What a request of a station does over these storage bytes. Who asks for a row is shown it. Who
--- asks for all is sent a list from the first row on. A row that is to be set is shown to all
--- stations that were heard, with the value that it has then.
-abbrev pub answered : List ℕ → List ℕ → ℕ → Request → Did
-answered bytes next_rows station (Show index) =
-    record { next_rows = next_rows; writes = []; shown = show (Station station) bytes index }
-answered bytes next_rows station ShowAll =
-    record { next_rows = slice_set next_rows station 0; writes = []; shown = [] }
-answered bytes next_rows station (Set index number) = record {
+-- a row is to be set with these lines, and is then shown to all stations
+abbrev pub set_with : List LineWrite → List ℕ → List ℕ → ℕ → Did
+set_with writes bytes next_rows index = record {
   next_rows = next_rows;
-  writes = set_writes bytes index number;
-  shown = show All (after bytes (set_writes bytes index number)) index;
+  writes = writes;
+  shown = show All (after bytes writes) index;
 }
 
+-- What a request of a station does over these storage bytes. Who asks for a row is shown it. Who
+-- asks for all is sent a list from the first row on. A row that is to be set is shown to all
+-- stations that were heard, with the value that it has then. Where a limit is given, so many lines
+-- may be written, and a row that takes more keeps its value.
+abbrev pub answered : List ℕ → Option ℕ → List ℕ → ℕ → Request → Did
+answered bytes allowed next_rows station (Show index) =
+    record { next_rows = next_rows; writes = []; shown = show (Station station) bytes index }
+answered bytes allowed next_rows station ShowAll =
+    record { next_rows = slice_set next_rows station 0; writes = []; shown = [] }
+answered bytes allowed next_rows station (Set index number) =
+    set_with (allowed_writes allowed (set_writes bytes index number)) bytes next_rows index
+
 -- the same of a message that may ask for nothing
-abbrev pub did : List ℕ → List ℕ → ℕ → Option Request → Did
-did bytes next_rows station None = record { next_rows = next_rows; writes = []; shown = [] }
-did bytes next_rows station (Some request) = answered bytes next_rows station request
+abbrev pub did : List ℕ → Option ℕ → List ℕ → ℕ → Option Request → Did
+did bytes allowed next_rows station None =
+    record { next_rows = next_rows; writes = []; shown = [] }
+did bytes allowed next_rows station (Some request) =
+    answered bytes allowed next_rows station request
 
 -- the next eight rows of the station's list, or those that are left
 abbrev pub streamed_rows : List ℕ → ℕ → List ℕ

@@ -9,19 +9,22 @@ ghost use Rattle.param_tree.specs.Rows.{vehicle_rows};
 ghost use Rattle.param_records.specs.Steps.{HasMagic};
 ghost use Rattle.param_service.specs.Requests.{Request, Show, Asks, IsSetting, parameters, row_of, row_named};
 ghost use Rattle.param_service.specs.Service.{no_lists, did, streamed};
-ghost use Rattle.param_service.specs.Replies.{AreRepliesOf};
+ghost use Rattle.param_service.specs.Replies.{AreRepliesOf, IsAnswered};
 
+mod budget;
 mod laws;
 mod replies;
 mod requests;
 mod setting;
 
+pub use budget::exceeds;
 pub use laws::{a_number_or_none, asks_one_thing, one_number};
 use mav_messages::{Message, Replies, Sender, To};
 use param_records::SET_LINES;
 use param_tree::{Table, vehicle_table};
 use replies::{reply, row_value};
-use requests::{PARAMETERS, is_vehicle, row_named, row_of};
+pub use requests::is_vehicle;
+use requests::{PARAMETERS, row_named, row_of};
 use setting::set_row;
 use std::marker::Model;
 use storage_lines::Batch;
@@ -86,8 +89,8 @@ fn answer_read(
     requires rows { table.now ≡ vehicle_rows }
     requires size { length current.now ≡ STORAGE_BYTES }
     requires replies { replies.old.items ≡ [] }
-    ensures { (next_rows : List ℕ) → AreRepliesOf
-        (did current.now next_rows station (option_map Show (row_of index name.now))).shown
+    ensures { (allowed : Option ℕ) (next_rows : List ℕ) → AreRepliesOf
+        (did current.now allowed next_rows station (option_map Show (row_of index name.now))).shown
         replies.new.items }
 {
     if let Some(row) = row_of(table, index, name) {
@@ -100,6 +103,7 @@ fn answer_read(
 fn answer_set(
     table: &Table<240>,
     current: &[u8],
+    allowed: Option<u32>,
     station: u8,
     bits: u32,
     name: &[u8; 16],
@@ -111,26 +115,29 @@ fn answer_set(
     requires batch { batch.old.items ≡ [] }
     requires replies { replies.old.items ≡ [] }
     ensures answered { (asked : Option Request) × IsSetting (row_named name.now) bits asked
-        × ((next_rows : List ℕ) → (next_rows ≡ (did current.now next_rows station asked).next_rows)
-        × (batch.new.items ≡ (did current.now next_rows station asked).writes)
-        × AreRepliesOf (did current.now next_rows station asked).shown replies.new.items) }
+        × ((next_rows : List ℕ)
+        → IsAnswered (did current.now allowed next_rows station asked)
+        next_rows batch.new.items replies.new.items) }
+    ensures within { (limit : ℕ) → allowed ≡ Some limit → length batch.new.items ≤ limit }
     ensures inside { All (λ write. write.line < LINES) batch.new.items }
     ensures few { length batch.new.items ≤ SET_LINES }
     ensures magic { HasMagic current.now
         → (j : ℕ) → HasMagic (after current.now (take j batch.new.items)) }
 {
     if let Some(row) = row_named(table, name) {
-        let value = set_row(table, current, row, bits, batch);
+        let value = set_row(table, current, allowed, row, bits, batch);
         replies.push(reply(table, To::All, row, value));
     }
 }
 
 /// Answers a message of a station over the current storage bytes: PARAM_REQUEST_READ,
 /// PARAM_REQUEST_LIST and PARAM_SET of MAVLink's parameter protocol. Any other message has no
-/// answer.
+/// answer. `allowed` is how many lines may still be issued while the vehicle is armed, and None
+/// where it isn't.
 pub fn answer(
     state: &mut ParamState,
     current: &[u8],
+    allowed: Option<u32>,
     from: Sender,
     message: &Message,
     batch: &mut Batch,
@@ -141,9 +148,9 @@ pub fn answer(
     requires batch { batch.old.items ≡ [] }
     requires replies { replies.old.items ≡ [] }
     ensures answered { (asked : Option Request) × Asks message.now asked
-        × (state.new ≡ (did current.now state.old from.station asked).next_rows)
-        × (batch.new.items ≡ (did current.now state.old from.station asked).writes)
-        × AreRepliesOf (did current.now state.old from.station asked).shown replies.new.items }
+        × IsAnswered (did current.now allowed state.old from.station asked)
+        state.new batch.new.items replies.new.items }
+    ensures within { (limit : ℕ) → allowed ≡ Some limit → length batch.new.items ≤ limit }
     ensures inside { All (λ write. write.line < LINES) batch.new.items }
     ensures few { length batch.new.items ≤ SET_LINES }
     ensures magic { HasMagic current.now
@@ -187,6 +194,7 @@ pub fn answer(
                 answer_set(
                     &state.table,
                     current,
+                    allowed,
                     from.station,
                     *param_value,
                     param_id,

@@ -1,6 +1,6 @@
 //! Setting a row as a station asks for it: to a value of its kind, and never how many commands or
 //! points there are.
-ghost use Rattle.std.specs.Prelude.{◌≡◌, ◌<◌, ◌≤◌, [], ℕ, All, length, take, slice_get, IfSome};
+ghost use Rattle.std.specs.Prelude.{◌≡◌, ◌<◌, ◌≤◌, [], ℕ, All, length, take, slice_get, IfSome, None};
 ghost use Rattle.storage_lines.specs.declared.lines.TheConstants.{STORAGE_BYTES, LINES};
 ghost use Rattle.storage_lines.specs.Lines.{after};
 ghost use Rattle.param_tree.specs.Rows.{vehicle_rows};
@@ -11,6 +11,7 @@ ghost use Rattle.param_service.specs.Requests.{parameters};
 ghost use Rattle.param_service.specs.Service.{is_total};
 ghost use Rattle.param_service.specs.Setting.{IsSet};
 
+use crate::budget::exceeds;
 use crate::replies::row_value;
 use param_records::{SET_LINES, Value, has_magic, set};
 use param_tree::{Kind, Table, Var};
@@ -39,9 +40,9 @@ fn value_of(kind: Kind, bits: u32) -> Value
     }
 }
 
-/// Sets a row to the value of a pattern where it may be set and can be, and gives the value that it
-/// then has.
-pub fn set_row(
+/// Sets a row to the value of a pattern where it may be set and can be, with as many lines as that
+/// takes, and gives the value that it then has.
+fn set_without_limit(
     table: &Table<240>,
     current: &[u8],
     index: u16,
@@ -53,7 +54,7 @@ pub fn set_row(
     requires row { index < parameters }
     requires batch { batch.old.items ≡ [] }
     ensures value { IfSome (slice_get vehicle_rows index)
-        (λ row. IsSet current.now row index bits batch.new.items result) }
+        (λ row. IsSet current.now None row index bits batch.new.items result) }
     ensures inside { All (λ write. write.line < LINES) batch.new.items }
     ensures few { length batch.new.items ≤ SET_LINES }
     ensures magic { HasMagic current.now
@@ -69,4 +70,34 @@ pub fn set_row(
         Ok(()) => row_value(table, current, index),
         Err(_) => row_value(table, current, index),
     }
+}
+
+/// Sets a row to the value of a pattern where it may be set and can be, and no more lines are needed
+/// than may be issued, and gives the value that it then has.
+pub fn set_row(
+    table: &Table<240>,
+    current: &[u8],
+    allowed: Option<u32>,
+    index: u16,
+    bits: u32,
+    batch: &mut Batch,
+) -> Value
+    requires rows { table.now ≡ vehicle_rows }
+    requires size { length current.now ≡ STORAGE_BYTES }
+    requires row { index < parameters }
+    requires batch { batch.old.items ≡ [] }
+    ensures value { IfSome (slice_get vehicle_rows index)
+        (λ row. IsSet current.now allowed row index bits batch.new.items result) }
+    ensures within { (limit : ℕ) → allowed ≡ Some limit → length batch.new.items ≤ limit }
+    ensures inside { All (λ write. write.line < LINES) batch.new.items }
+    ensures few { length batch.new.items ≤ SET_LINES }
+    ensures magic { HasMagic current.now
+        → (j : ℕ) → HasMagic (after current.now (take j batch.new.items)) }
+{
+    let value = set_without_limit(table, current, index, bits, batch);
+    if exceeds(allowed, batch) {
+        batch.clear();
+        return row_value(table, current, index);
+    }
+    value
 }

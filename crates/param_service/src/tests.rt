@@ -61,6 +61,7 @@ fn reads_a_row_by_a_name_of_sixteen_bytes(rt: HostRuntime) {
     answer(
         &mut state,
         &bytes,
+        None,
         SENDER,
         &request,
         &mut batch,
@@ -103,6 +104,7 @@ fn sets_a_byte_to_what_it_holds_alone(rt: HostRuntime) {
         answer(
             &mut state,
             &bytes,
+            None,
             SENDER,
             &failsafe(bits),
             &mut batch,
@@ -124,6 +126,7 @@ fn issues_the_lines_of_a_new_record(rt: HostRuntime) {
     answer(
         &mut ParamState::new(),
         &formatted(),
+        None,
         SENDER,
         &failsafe(0),
         &mut batch,
@@ -160,6 +163,7 @@ fn sends_the_whole_list_in_thirty_stretches(rt: HostRuntime) {
     answer(
         &mut state,
         &bytes,
+        None,
         SENDER,
         &request,
         &mut Batch::new(),

@@ -2,22 +2,26 @@
 //! a list. Each protocol is a service of its own below.
 #![tactic(auto)]
 
-ghost use Rattle.std.specs.Prelude.{◌≡◌, ◌<◌, ◌≤◌, [], All, length, take, List, ℕ, true, false, Option, None, IsFalse};
+ghost use Rattle.std.specs.Prelude.{◌≡◌, ◌<◌, ◌≤◌, ◌+◌, [], All, length, take, List, ℕ, true, false, Option, None, IsFalse, IfSome};
 ghost use Rattle.storage_lines.specs.declared.lines.TheConstants.{STORAGE_BYTES, LINES, BATCH_LINES};
 ghost use Rattle.storage_lines.specs.Lines.{after};
 ghost use Rattle.param_records.specs.Steps.{HasMagic};
 ghost use Rattle.param_service.specs.Requests as parameters;
 ghost use Rattle.mission_service.specs.Requests as missions;
 ghost use Rattle.mission_service.specs.Replies.{target_of};
-ghost use Rattle.vehicle_core.specs.Vehicle.{Asked, Asks, Alive, new_vehicle, is_heard, speaks_v2};
-ghost use Rattle.vehicle_core.specs.Acts.{Said, Beat, Stream, heard_as, nothing, did};
+ghost use Rattle.vehicle_core.specs.Orders as orders;
+ghost use Rattle.vehicle_core.specs.Vehicle.{Asked, Asks, Alive, new_vehicle, is_heard, is_armed, speaks_v2, allowed_of, issues};
+ghost use Rattle.vehicle_core.specs.Acts.{Said, Beat, Stream, SinceArming, heard_as, nothing, asked_of, ordered, did};
 ghost use Rattle.vehicle_core.specs.Replies.{AreRepliesOf, IsAnswered, Tells};
 
 mod laws;
+mod orders;
 
-pub use laws::asks_one_thing;
+pub use laws::{acknowledges, asks_one_thing, counts_lines};
 use mav_messages::{Message, Replies, Reply, Sender, To};
 use mission_service::MissionState;
+pub use orders::Need;
+use orders::{Order, VehicleCommand, acknowledgement, command_of, need_of};
 use param_service::{ParamState, stream};
 use std::marker::Model;
 use storage_lines::Batch;
@@ -29,12 +33,14 @@ struct StationState {
     v2: bool,
 }
 
-/// The vehicle's state: its eight stations, the lists that are being sent, and the uploads.
+/// The vehicle's state: its eight stations, the lists that are being sent, the uploads, and, where
+/// it is armed, how many lines were issued since.
 #[derive(Drop)]
 pub struct Core {
     stations: [StationState; 8],
     parameters: ParamState,
     missions: MissionState,
+    armed: Option<u32>,
 }
 
 impl Model for Core {
@@ -44,23 +50,24 @@ impl Model for Core {
 
     ghost Value = { Vehicle };
 
-    ghost view = { λ core. view_of core.stations core.parameters core.missions };
+    ghost view = { λ core. view_of core.stations core.parameters core.missions core.armed };
 
     ghost invariant = { λ core. length core.stations ≡ 8 };
 }
 
 /// The vehicle's HEARTBEAT, with numbers of MAVLink's common message set: a quadrotor (MAV_TYPE 2)
-/// with ArduPilot (MAV_AUTOPILOT 3), not armed (MAV_MODE_FLAG 1, MAV_STATE 3), in version 3 of the
-/// protocol.
-fn heartbeat() -> Message
-    ensures { Tells Alive result }
+/// with ArduPilot (MAV_AUTOPILOT 3), armed (MAV_MODE_FLAG 129, MAV_STATE 4) or not (1, 3), in
+/// version 3 of the protocol.
+fn heartbeat(armed: bool) -> Message
+    ensures { Tells (Alive armed) result }
 {
+    let (base_mode, system_status) = if armed { (129, 4) } else { (1, 3) };
     Message::Heartbeat {
         custom_mode: 0,
         kind: 2,
         autopilot: 3,
-        base_mode: 1,
-        system_status: 3,
+        base_mode,
+        system_status,
         mavlink_version: 3,
     }
 }
@@ -79,7 +86,7 @@ fn asks_parameters(message: &Message) -> bool
 }
 
 impl Core {
-    /// No station was heard.
+    /// No station was heard, and the vehicle isn't armed.
     pub fn new() -> Core
         ensures { result ≡ new_vehicle }
     {
@@ -91,40 +98,72 @@ impl Core {
             stations: [unheard; 8],
             parameters: ParamState::new(),
             missions: MissionState::new(),
+            armed: None,
         }
     }
 
-    /// Answers the message of a right frame, over the current storage bytes: the lines to issue,
-    /// and the replies to send after them.
-    pub fn message(
+    /// How many lines may still be issued while the vehicle is armed.
+    fn allowed(&self, budget: u32) -> Option<u32>
+        ensures { result ≡ allowed_of budget self.now }
+    {
+        match self.armed {
+            Some(since) => Some(budget.saturating_sub(since)),
+            None => None,
+        }
+    }
+
+    /// Counts lines that are issued.
+    fn count(&mut self, batch: &Batch)
+        requires { IfSome self.old.armed (λ since. since + length batch.now.items ≤ u32.MAX) }
+        ensures { self.new ≡ issues self.old batch.now.items }
+    {
+        if let Some(since) = self.armed {
+            self.armed = Some(since + batch.len() as u32);
+        }
+    }
+
+    /// Has one of the protocols answer a message.
+    fn serve(
         &mut self,
         current: &[u8],
+        budget: u32,
         from: Sender,
-        v2: bool,
         message: &Message,
         batch: &mut Batch,
         replies: &mut Replies,
     )
         requires size { length current.now ≡ STORAGE_BYTES }
         requires station { from.station < 8 }
+        requires order { orders.command_of message.now ≡ None }
         requires batch { batch.old.items ≡ [] }
         requires replies { replies.old.items ≡ [] }
         ensures answered { (asked : Option Asked) × Asks (target_of from) message.now asked ×
-            IsAnswered (did current.now self.old (Said from.station (heard_as v2 asked)))
-            self.new batch.new.items replies.new.items }
+            IsAnswered (asked_of budget current.now self.old from.station asked)
+            self.new batch.new.items replies.new.items orders.Nothing }
+        ensures armed { self.new.armed ≡ self.old.armed }
+        ensures allowed { IfSome (allowed_of budget self.old)
+            (λ limit. length batch.new.items ≤ limit) }
         ensures inside { All (λ write. write.line < LINES) batch.new.items }
         ensures few { length batch.new.items ≤ BATCH_LINES }
         ensures magic { HasMagic current.now → (j : ℕ) →
             HasMagic (after current.now (take j batch.new.items)) }
     {
-        self.stations[from.station as usize] = StationState { heard: true, v2 };
+        let allowed = self.allowed(budget);
         if asks_parameters(message) {
-            param_service::answer(&mut self.parameters, current, from, message, batch, replies);
+            param_service::answer(
+                &mut self.parameters,
+                current,
+                allowed,
+                from,
+                message,
+                batch,
+                replies,
+            );
         } else {
             mission_service::answer(
                 &mut self.missions,
                 current,
-                None,
+                allowed,
                 from,
                 message,
                 batch,
@@ -133,18 +172,73 @@ impl Core {
         }
     }
 
-    /// What an idle turn tells a station, where it was heard: that the vehicle is there, and which
-    /// item of each of its open uploads is the next.
+    /// Does what a command orders, but for what is needed before its answer is sent.
+    fn obey(&mut self, from: Sender, command: VehicleCommand, replies: &mut Replies) -> Need
+        requires { replies.old.items ≡ [] }
+        ensures { IsAnswered (ordered self.old from.station (target_of from) command.number
+            command.order) self.new [] replies.new.items result }
+    {
+        match command.order {
+            Order::Arm => self.armed = Some(self.armed.unwrap_or(0)),
+            Order::Disarm => self.armed = None,
+            Order::Flush | Order::Deny | Order::Refuse => {}
+        }
+        replies.push(Reply {
+            to: To::Station(from.station),
+            message: acknowledgement(from, command),
+        });
+        need_of(command.order)
+    }
+
+    /// Answers the message of a right frame, over the current storage bytes: the lines to issue,
+    /// and the replies to send after them and after what is needed. So many lines may be issued
+    /// while the vehicle is armed.
+    pub fn message(
+        &mut self,
+        current: &[u8],
+        budget: u32,
+        from: Sender,
+        v2: bool,
+        message: &Message,
+        batch: &mut Batch,
+        replies: &mut Replies,
+    ) -> Need
+        requires size { length current.now ≡ STORAGE_BYTES }
+        requires station { from.station < 8 }
+        requires batch { batch.old.items ≡ [] }
+        requires replies { replies.old.items ≡ [] }
+        ensures answered { (asked : Option Asked) × Asks (target_of from) message.now asked ×
+            IsAnswered (did budget current.now self.old (Said from.station (heard_as v2 asked)))
+            self.new batch.new.items replies.new.items result }
+        ensures within { SinceArming budget self.old.armed self.new.armed batch.new.items result }
+        ensures inside { All (λ write. write.line < LINES) batch.new.items }
+        ensures few { length batch.new.items ≤ BATCH_LINES }
+        ensures magic { HasMagic current.now → (j : ℕ) →
+            HasMagic (after current.now (take j batch.new.items)) }
+    {
+        self.stations[from.station as usize] = StationState { heard: true, v2 };
+        if let Some(command) = command_of(message) {
+            return self.obey(from, command, replies);
+        }
+        self.serve(current, budget, from, message, batch, replies);
+        self.count(batch);
+        Need::Nothing
+    }
+
+    /// What an idle turn tells a station, where it was heard: that the vehicle is there and whether
+    /// it is armed, and which item of each of its open uploads is the next.
     pub fn idle(&mut self, station: u8, replies: &mut Replies)
         requires station { station < 8 }
         requires replies { replies.old.items ≡ [] }
-        ensures next { self.new ≡ (did [] self.old (Beat station)).vehicle }
-        ensures told { AreRepliesOf (did [] self.old (Beat station)).told replies.new.items }
+        ensures next { (budget : ℕ) →
+            self.new ≡ (did budget [] self.old (Beat station)).vehicle }
+        ensures told { (budget : ℕ) →
+            AreRepliesOf (did budget [] self.old (Beat station)).told replies.new.items }
     {
         if self.heard(station) {
             replies.push(Reply {
                 to: To::Station(station),
-                message: heartbeat(),
+                message: heartbeat(self.armed()),
             });
             mission_service::idle(&mut self.missions, station, replies);
         }
@@ -155,8 +249,9 @@ impl Core {
         requires size { length current.now ≡ STORAGE_BYTES }
         requires station { station < 8 }
         requires replies { replies.old.items ≡ [] }
-        ensures next { self.new ≡ (did current.now self.old (Stream station)).vehicle }
-        ensures told { AreRepliesOf (did current.now self.old
+        ensures next { (budget : ℕ) →
+            self.new ≡ (did budget current.now self.old (Stream station)).vehicle }
+        ensures told { (budget : ℕ) → AreRepliesOf (did budget current.now self.old
             (Stream station)).told replies.new.items }
     {
         if !self.heard(station) {
@@ -168,14 +263,21 @@ impl Core {
     /// Whether a list goes to the station: it was heard, and values of its list are left.
     pub fn streams(&self, station: u8) -> bool
         requires { station < 8 }
-        ensures { IsFalse result → (bytes : List ℕ) →
-            did bytes self.now (Stream station) ≡ nothing self.now }
+        ensures { IsFalse result → (budget : ℕ) (bytes : List ℕ) →
+            did budget bytes self.now (Stream station) ≡ nothing self.now }
     {
         let heard = self.heard(station);
         if !heard {
             return false;
         }
         self.parameters.streams(station)
+    }
+
+    /// Whether the vehicle is armed.
+    pub fn armed(&self) -> bool
+        ensures { result ≡ is_armed self.now }
+    {
+        self.armed.is_some()
     }
 
     /// Whether a right frame came from the station.

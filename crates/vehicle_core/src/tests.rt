@@ -4,6 +4,9 @@ ghost use Rattle.std.specs.Prelude.{◌<◌};
 use crate::*;
 use storage_lines::STORAGE_BYTES;
 
+/// The budget of the smallest sector.
+const BUDGET: u32 = 47;
+
 /// A station asks for the list, in a frame of this version.
 fn ask(core: &mut Core, station: u8, version_two: bool)
     requires { station < 8 }
@@ -19,6 +22,7 @@ fn ask(core: &mut Core, station: u8, version_two: bool)
     };
     core.message(
         &[0; STORAGE_BYTES],
+        BUDGET,
         from,
         version_two,
         &request,
@@ -98,6 +102,7 @@ fn asks_for_the_next_item_of_an_upload_again(rt: HostRuntime) {
     let mut replies = Replies::new();
     core.message(
         &[0; STORAGE_BYTES],
+        BUDGET,
         from,
         true,
         &count,

@@ -23,7 +23,8 @@ use Rattle.mission_service.specs.Uploads.{Upload, Uploads, Quiet, Open, Finished
 use Rattle.mission_service.specs.Requests.{Given, ForMission, ForFence, Request, Begin, Give, Clear, Count, Show as ShowItem, Cancel, Unsupported}
 use Rattle.mission_service.specs.Service as service
 use Rattle.mission_service.specs.declared.replies.Content.TheVariants.{Answer, Next}
-use Rattle.mission_service.specs.Service.{accepted, denied, no_space, invalid_sequence, From, Taken, exceeds, only, does, is_anothers, opened, clear_writes, any_anothers, all_quiet, cleared, begun, is_last, if_allowed, command_lines, taken, took, given_to, answered}
+use Rattle.param_service.specs.Budget.{exceeds}
+use Rattle.mission_service.specs.Service.{accepted, denied, no_space, invalid_sequence, From, Taken, only, does, is_anothers, opened, clear_writes, any_anothers, all_quiet, cleared, begun, is_last, if_allowed, command_lines, taken, took, given_to, answered}
 use Rattle.vehicle_core.specs.Vehicle.{Vehicle, Asked, Parameters, Missions as AskedMissions, is_heard, hears}
 use Rattle.vehicle_core.specs.Acts.{Act, Said, Beat, Stream, Did, did, nothing, by_parameters, asked_of, beaten}
 use Rattle.mission_service.specs.Asked.{RequestFits}

@@ -22,7 +22,8 @@ use Rattle.mission_service.specs.Requests.{Given, ForMission, ForFence, Request,
 use Rattle.mission_service.specs.Service as service
 use Rattle.mission_service.specs.declared.replies.Content.{Content}
 use Rattle.mission_service.specs.declared.replies.Content.TheVariants.{Answer, Next, Total, MissionItem, FencePart}
-use Rattle.mission_service.specs.Service.{From, Taken, Told, exceeds, tells, only, does, is_anothers, opened, most_of, first_writes, type_writes, clear_writes, any_anothers, all_quiet, cleared, begun, is_last, if_allowed, command_lines, taken, after_item, told_after, took, given_to, total, shown, cancelled, answered, accepted, denied, error, fence_capacity, invalid_sequence, no_space, unsupported}
+use Rattle.param_service.specs.Budget.{exceeds}
+use Rattle.mission_service.specs.Service.{From, Taken, Told, tells, only, does, is_anothers, opened, most_of, first_writes, type_writes, clear_writes, any_anothers, all_quiet, cleared, begun, is_last, if_allowed, command_lines, taken, after_item, told_after, took, given_to, total, shown, cancelled, answered, accepted, denied, error, fence_capacity, invalid_sequence, no_space, unsupported}
 use Rattle.vehicle_laws.specs.Uploads.{command_in}
 use Rattle.mission_service.specs.Asked.{RequestFits}
 use Rattle.vehicle_laws.proofs.Keeping.{Empties, keeps_none, keeps_empties, clears_empties, empties_then, keeps_then, formatted_then}

@@ -22,7 +22,8 @@ use Rattle.mission_service.specs.Requests.{Given, ForMission, ForFence, Request,
 use Rattle.mission_service.specs.Service as service
 use Rattle.mission_service.specs.declared.replies.Content.{Content}
 use Rattle.mission_service.specs.declared.replies.Content.TheVariants.{Answer, Next, Total, MissionItem, FencePart}
-use Rattle.mission_service.specs.Service.{Told, From, Taken as TakenItem, tells, only, exceeds, is_last, if_allowed, command_lines, taken, took, told_after, given_to, accepted, denied, invalid_sequence, no_space}
+use Rattle.param_service.specs.Budget.{exceeds}
+use Rattle.mission_service.specs.Service.{Told, From, Taken as TakenItem, tells, only, is_last, if_allowed, command_lines, taken, took, told_after, given_to, accepted, denied, invalid_sequence, no_space}
 use Rattle.vehicle_core.specs.Vehicle.{Asked, Missions, tells_of_missions, Content as VehicleContent, Parameter, Alive, OfMissions, Told as VehicleTold}
 use Rattle.vehicle_core.specs.Acts.{Act, Said, did}
 use Rattle.vehicle_node.specs.Runs.{Run, did_in}

@@ -16,7 +16,8 @@ use Rattle.mission_service.specs.Requests.{Given, ForMission, ForFence, Request,
 use Rattle.mission_service.specs.Service as service
 use Rattle.mission_service.specs.declared.replies.Content.{Content}
 use Rattle.mission_service.specs.declared.replies.Content.TheVariants.{Answer, Next, Total}
-use Rattle.mission_service.specs.Service.{From, Taken, Told, exceeds, tells, only, does, is_anothers, opened, first_writes, clear_writes, any_anothers, all_quiet, cleared, begun, is_last, if_allowed, command_lines, taken, after_item, told_after, took, given_to, total, shown, cancelled, answered, accepted, denied, error, fence_capacity, invalid_sequence, no_space}
+use Rattle.param_service.specs.Budget.{exceeds}
+use Rattle.mission_service.specs.Service.{From, Taken, Told, tells, only, does, is_anothers, opened, first_writes, clear_writes, any_anothers, all_quiet, cleared, begun, is_last, if_allowed, command_lines, taken, after_item, told_after, took, given_to, total, shown, cancelled, answered, accepted, denied, error, fence_capacity, invalid_sequence, no_space}
 use Rattle.vehicle_laws.specs.Uploads.{fence_item_in}
 use Rattle.mission_service.specs.Asked.{RequestFits}
 use Rattle.vehicle_laws.proofs.Effects.{first_next, cond_none}

@@ -18,7 +18,8 @@ use Rattle.mission_service.specs.Uploads.{Upload, Uploads, Quiet, Open, Finished
 use Rattle.mission_service.specs.Requests.{Given, ForMission, ForFence, Give, type_of_given}
 use Rattle.mission_service.specs.Service as service
 use Rattle.mission_service.specs.declared.replies.Content.TheVariants.{Answer, Next}
-use Rattle.mission_service.specs.Service.{Told, From, Taken as TakenItem, tells, only, exceeds, is_last, if_allowed, taken, took, told_after, given_to, accepted, denied, invalid_sequence, no_space}
+use Rattle.param_service.specs.Budget.{exceeds}
+use Rattle.mission_service.specs.Service.{Told, From, Taken as TakenItem, tells, only, is_last, if_allowed, taken, took, told_after, given_to, accepted, denied, invalid_sequence, no_space}
 use Rattle.vehicle_core.specs.Acts.{Act, did}
 use Rattle.vehicle_node.specs.Runs.{Run, did_in}
 use Rattle.vehicle_laws.specs.Uploads.{run_over, says, Opens, GoesOn, fence_items_from, fence_item_in}

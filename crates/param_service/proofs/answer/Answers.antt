@@ -16,13 +16,11 @@ returns-then-is_vehicle-clause-answered c =
     let name = c.in-ParamRequestRead.param_id in
     let fits : FitsSigned w16 index = search rules in
     let at_index = to_z-of_z w16 index fits in
-    let keeps = read_keeps c.args.current.now c.args.state.now c.args.from.station (row_of index name) in
-    let shown = simp at_index at (c.answer_read.ensures c.args.state.now) in (
+    let keeps = read_keeps c.args.current.now c.args.allowed c.args.state.now c.args.from.station (row_of index name) in
+    let shown = simp at_index at (c.answer_read.ensures c.args.allowed c.args.state.now) in (
       option_map Show (row_of index name),
       asks_read c.args.message.now index _ _ name c.in-ParamRequestRead.is (sym c.is_vehicle.ensures ∙ c.if-is_vehicle.true),
-      keeps.0,
-      c.requires.batch ∙ keeps.1,
-      shown,
+      record { state = keeps.0; lines = c.requires.batch ∙ keeps.1; shown = shown },
     )
 
 pub returns-then-is_vehicle-2-clause-answered : goal.returns-then-is_vehicle-2-clause-answered
@@ -30,7 +28,9 @@ returns-then-is_vehicle-2-clause-answered c =
     let none : List Shown = [] in (
       Some ShowAll,
       asks_list c.args.message.now _ _ c.in-ParamRequestList.is (sym c.is_vehicle-in-ParamRequestList.ensures ∙ c.if-is_vehicle-2.true),
-      ap (λ (l : List ℕ). slice_set l c.args.from.station 0) c.state.view_is,
-      c.requires.batch,
-      subst (λ (l : List Reply). AreRepliesOf none l) (sym c.requires.replies) tt,
+      record {
+        state = ap (λ (l : List ℕ). slice_set l c.args.from.station 0) c.state.view_is;
+        lines = c.requires.batch;
+        shown = subst (λ (l : List Reply). AreRepliesOf none l) (sym c.requires.replies) tt;
+      },
     )

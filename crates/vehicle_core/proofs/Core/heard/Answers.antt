@@ -3,4 +3,4 @@ use Rattle.vehicle_core.proofs.Machine.{heard_is}
 use Rattle.vehicle_core.proofs.Core.heard.Goals as goal
 
 pub returns : goal.returns
-returns c = heard_is c.self.inside.stations c.self.inside.parameters c.self.inside.missions c.args.self.now c.args.station _ c.self.view_is (omega arith)
+returns c = heard_is c.self.inside.stations c.self.inside.parameters c.self.inside.missions c.self.inside.armed c.args.self.now c.args.station _ c.self.view_is (omega arith)

@@ -3,8 +3,8 @@ use Rattle.vehicle_core.proofs.Machine.{did-no_stream, no_list}
 use Rattle.vehicle_core.proofs.Core.streams.Goals as goal
 
 pub returns-then-not-heard : goal.returns-then-not-heard
-returns-then-not-heard c = λ no bytes. did-no_stream bytes c.args.self.now c.args.station (sym c.heard-heard.ensures ∙ c.if-not-heard.true)
+returns-then-not-heard c = λ no budget bytes. did-no_stream budget bytes c.args.self.now c.args.station (sym c.heard-heard.ensures ∙ c.if-not-heard.true)
 
 pub returns : goal.returns
-returns c = λ no bytes.
-    no_list bytes c.self.inside.stations c.self.inside.parameters c.self.inside.missions c.args.self.now c.args.station c.self.view_is (sym c.heard-heard.ensures ∙ c.if-not-heard.false) (c.streams.ensures.idle no bytes)
+returns c = λ no budget bytes.
+    no_list budget bytes c.self.inside.stations c.self.inside.parameters c.self.inside.missions c.self.inside.armed c.args.self.now c.args.station c.self.view_is (sym c.heard-heard.ensures ∙ c.if-not-heard.false) (c.streams.ensures.idle no bytes)
