@@ -92,9 +92,9 @@ module _ (old new : Memory) (c : Call) (notes : Notes old new c) where
   )
 
   pub covers : (lost : Outcome → Outcome → Type 0) → ((o : Outcome) → lost before o → MayLeave feed c before o)
-      → Covers (λ (m : Memory). moment_of m.counts) Now Left old new lost
+      → Covers (Unit {0}) (λ (m : Memory). moment_of m.counts) Now Left old new lost
   covers lost is_may = record {
-    each = λ n now o in_it. to_new (moment_of old.counts) o now.0
+    each = λ kept n now o in_it. to_new (moment_of old.counts) o now.0
         (left-cover feed old.calls.items c (moment_of old.first) (moment_of old.counts) (start old.base) o
         (subst (λ (t : Moment). IsUpTo (moment_of old.counts) t) (old.kept (notes.told now.0)).moment (up_to_self (moment_of old.counts)))
         (is_may o (subst (λ (s : Outcome). lost s o) in_it.was.1 in_it.steps)));
@@ -104,14 +104,14 @@ module _ (old new : Memory) (c : Call) (notes : Notes old new c) where
       → ((o : Outcome) → MayLeave feed c before o → lost before o)
       → (new.full ≡ false → lost before (stepped feed c before))
       → (new.full ≡ false → done before (stepped feed c before))
-      → Elapses (λ (m : Memory). moment_of m.counts) Now Left old new lost done
+      → Elapses (Unit {0}) (λ (m : Memory). moment_of m.counts) Now Left old new lost done
   elapses lost done later may_lose loses does = record {
     later = later;
     inside = λ t o le left. ⊎_elim (λ was. inl was)
         (λ (fresh : _). inr (record { from = before; was = (notes.told left.0, refl); steps = ⊎_elim (may_lose o) (λ is. subst (λ (o : Outcome). lost before o) (sym is) (loses left.0)) fresh }))
         (left_is t o left);
     here = λ o now. record { from = before; was = (notes.told now.0, refl); steps = subst (λ (o : Outcome). done before o) (sym (now.1 ∙ after_is now.0)) (does now.0) };
-    keeps = λ n now t o le left. to_new t o now.0 (left-keep feed old.calls.items c (moment_of old.first) t (start old.base) o left.1);
+    keeps = λ kept n now t o le left. to_new t o now.0 (left-keep feed old.calls.items c (moment_of old.first) t (start old.base) o left.1);
   }
 
   pub changes : (lost done : Words → Words → Type 0) → new.sector_bytes ≡ old.sector_bytes
@@ -119,7 +119,7 @@ module _ (old new : Memory) (c : Call) (notes : Notes old new c) where
       → ((o : Outcome) → MayLeave feed c before o → OnWords lost before o)
       → (new.full ≡ false → OnWords lost before (stepped feed c before))
       → (new.full ≡ false → OnWords done before (stepped feed c before))
-      → ChangesWords (λ (m : Memory). m.sector_bytes) (λ (m : Memory). m.full ≡ false) (λ (m : Memory). words_of m.image) HasLists (λ (m : Memory). moment_of m.counts) Now Left old new lost done
+      → ChangesWords (Unit {0}) (λ (m : Memory). m.sector_bytes) (λ (m : Memory). m.full ≡ false) (λ (m : Memory). words_of m.image) HasLists (λ (m : Memory). moment_of m.counts) Now Left old new lost done
   changes lost done geometry receptions sendings later may_lose loses does =
       let time = elapses (OnWords lost) (OnWords done) later may_lose loses does in
       record {

@@ -58,17 +58,18 @@ HasLists m e f = m.full ≡ false → (e ≡ events_of m) × (f ≡ frames_of m)
 -- the clauses of a board's calls, of a device in memory
 abbrev pub MemoryChanges : Memory → Memory → (Words → Words → Type 0) → (Words → Words → Type 0) →
     Type 0
-MemoryChanges old new lost done = ChangesWords (λ (m : Memory). m.sector_bytes) (λ (m : Memory).
+MemoryChanges old new lost done = ChangesWords (Unit {0}) (λ (m : Memory). m.sector_bytes) (λ (m : Memory).
     m.full ≡ false) (λ (m : Memory). words_of m.image) HasLists (λ (m : Memory).
     moment_of m.counts) Now Left old new lost done
 
 abbrev pub MemoryPasses : Memory → Memory → (Outcome → Outcome → Type 0) → (Outcome → Outcome →
     Type 0) → Type 0
-MemoryPasses old new lost done = Elapses (λ (m : Memory).
+MemoryPasses old new lost done = Elapses (Unit {0}) (λ (m : Memory).
     moment_of m.counts) Now Left old new lost done
 
 abbrev pub MemoryCovers : Memory → Memory → (Outcome → Outcome → Type 0) → Type 0
-MemoryCovers old new lost = Covers (λ (m : Memory). moment_of m.counts) Now Left old new lost
+MemoryCovers old new lost =
+    Covers (Unit {0}) (λ (m : Memory). moment_of m.counts) Now Left old new lost
 
 abbrev pub MemoryKeeps : Memory → Memory → Type 0
 MemoryKeeps old new = KeepsWords (λ (m : Memory). m.sector_bytes) (λ (m : Memory). m.full

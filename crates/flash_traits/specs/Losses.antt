@@ -74,17 +74,17 @@ pub record After (start : Outcome → Type 0) (step : Outcome → Outcome → Ty
   pub steps : step from o
 
 -- Time goes on, and what a loss may have left before, it still may, as long as the board tells
--- losses. A loss inside leaves an outcome of before after a step of `lost`, and one at the end
+-- losses and where it keeps a record of its calls. A loss inside leaves an outcome of before after a step of `lost`, and one at the end
 -- leaves one after a step of `done`.
-pub record Elapses {B : Type 0} (moment : B → Moment) (now : B → Outcome → Type 0)
-    (left : B → Moment → Outcome → Type 0)
+pub record Elapses {B : Type 0} (records : Type 0) (moment : B → Moment)
+    (now : B → Outcome → Type 0) (left : B → Moment → Outcome → Type 0)
     (old new : B) (lost done : Outcome → Outcome → Type 0) : Type 0 where
   pub later : IsUpTo (moment old) (moment new)
   pub inside : (t : Moment) (o : Outcome) → IsUpTo t (moment old) → left new t o
       → left old t o ⊎ After (now old) lost o
   pub here : (o : Outcome) → now new o → After (now old) done o
-  pub keeps : (n : Outcome) → now new n → (t : Moment) (o : Outcome) → IsUpTo t (moment old)
-      → left old t o → left new t o
+  pub keeps : records → (n : Outcome) → now new n → (t : Moment) (o : Outcome)
+      → IsUpTo t (moment old) → left old t o → left new t o
 
 -- a step on the words alone
 pub record OnWords (step : Words → Words → Type 0) (old new : Outcome) : Type 0 where
@@ -120,11 +120,11 @@ ByResult (Err e) done lost = lost
 -- inside leaves what a loss before the call left, or what stood at its start after a step of
 -- `lost`; a loss at the end leaves it after a step of `done`. The trait cites this record while it
 -- is declared, and so can't hand over its members as one: `Changes` does.
-pub record ChangesWords {B : Type 0} (sector_bytes : B → ℕ) (tells : B → Type 0) (words : B → Words)
-    (has_lists : B → List Received → List SentFrame → Type 0) (moment : B → Moment) (now : B
-    → Outcome → Type 0)
-    (left : B → Moment → Outcome → Type 0) (old new : B) (lost done : Words → Words
-    → Type 0) : Type 0 where
+pub record ChangesWords {B : Type 0} (records : Type 0) (sector_bytes : B → ℕ)
+    (tells : B → Type 0) (words : B → Words)
+    (has_lists : B → List Received → List SentFrame → Type 0) (moment : B → Moment)
+    (now : B → Outcome → Type 0) (left : B → Moment → Outcome → Type 0) (old new : B)
+    (lost done : Words → Words → Type 0) : Type 0 where
   pub geometry : sector_bytes new ≡ sector_bytes old
   pub told : tells new → tells old
   pub content : tells new → done (words old) (words new)
@@ -135,15 +135,15 @@ pub record ChangesWords {B : Type 0} (sector_bytes : B → ℕ) (tells : B → T
   pub inside : (t : Moment) (o : Outcome) → IsUpTo t (moment old) → left new t o
       → left old t o ⊎ After (now old) (OnWords lost) o
   pub here : (o : Outcome) → now new o → After (now old) (OnWords done) o
-  pub keeps : (n : Outcome) → now new n → (t : Moment) (o : Outcome) → IsUpTo t (moment old)
-      → left old t o → left new t o
+  pub keeps : records → (n : Outcome) → now new n → (t : Moment) (o : Outcome)
+      → IsUpTo t (moment old) → left old t o → left new t o
 
--- Where the board still tells losses, each outcome of a step of `lost` may have been left inside
--- this call.
-pub record Covers {B : Type 0} (moment : B → Moment) (now : B → Outcome → Type 0)
-    (left : B → Moment → Outcome → Type 0)
+-- Where the board keeps a record of its calls and still tells losses, each outcome of a step of
+-- `lost` may have been left inside this call.
+pub record Covers {B : Type 0} (records : Type 0) (moment : B → Moment)
+    (now : B → Outcome → Type 0) (left : B → Moment → Outcome → Type 0)
     (old new : B) (lost : Outcome → Outcome → Type 0) : Type 0 where
-  pub each : (n : Outcome) → now new n → (o : Outcome) → After (now old) lost o
+  pub each : records → (n : Outcome) → now new n → (o : Outcome) → After (now old) lost o
       → left new (moment old) o
 
 -- A call of the link, which changes no word and no geometry.

@@ -112,6 +112,10 @@ pub trait Board {
     /// What a loss at some moment from that one on, or inside a call since, may have left.
     ghost left: { Self → Moment → Outcome → Type 0 };
 
+    /// The board keeps a record of its calls: what a loss may have left before a call, it still may
+    /// after it. A board that keeps none tells only what a loss leaves now.
+    ghost records: { Type 0 } = { Unit {0} };
+
     /// How often each kind of call has failed.
     ghost faults: { Self → Fault → ℕ };
 
@@ -146,7 +150,7 @@ pub trait Board {
         requires inside { at < region_length (sector_bytes self.old) region }
         ensures value { tells self.new
             → IfOk result (λ word. word ≡ slice_index (halfwords_in (words self.old) region) at) }
-        ensures changes { ChangesWords sector_bytes tells words has_lists moment now left
+        ensures changes { ChangesWords records sector_bytes tells words has_lists moment now left
             self.old self.new Same Same }
         ensures keeps_told { tells self.old → tells self.new }
         ensures moment { moment self.new ≡ moment self.old }
@@ -156,10 +160,10 @@ pub trait Board {
     fn program(&mut self, region: Region, at: u32, word: u16) -> Result<(), Failed>
         requires attached { IsSectorSize (sector_bytes self.old) }
         requires inside { at < region_length (sector_bytes self.old) region }
-        ensures changes { ChangesWords sector_bytes tells words has_lists moment now left
+        ensures changes { ChangesWords records sector_bytes tells words has_lists moment now left
             self.old self.new (ProgramMayLeave region at word)
             (ByResult result (Programs region at word) (ProgramMayLeave region at word)) }
-        ensures covers { Covers moment now left self.old self.new
+        ensures covers { Covers records moment now left self.old self.new
             (OnWords (ProgramMayLeave region at word)) }
         ensures moment { moment self.new ≡ after_program (moment self.old) }
         ensures cause { HasCause Fault.Flash (faults self.old) (faults self.new) result };
@@ -168,10 +172,10 @@ pub trait Board {
     fn erase(&mut self, region: Region) -> Result<(), Failed>
         requires attached { IsSectorSize (sector_bytes self.old) }
         requires sector { IsSectorRegion region }
-        ensures changes { ChangesWords sector_bytes tells words has_lists moment now left
+        ensures changes { ChangesWords records sector_bytes tells words has_lists moment now left
             self.old self.new (EraseMayLeave region)
             (ByResult result (Erases region) (EraseMayLeave region)) }
-        ensures covers { Covers moment now left self.old self.new (OnWords (EraseMayLeave region)) }
+        ensures covers { Covers records moment now left self.old self.new (OnWords (EraseMayLeave region)) }
         ensures moment { moment self.new ≡ after_erase (moment self.old) }
         ensures cause { HasCause Fault.Flash (faults self.old) (faults self.new) result };
 
@@ -185,12 +189,12 @@ pub trait Board {
             MatchResult result (λ event. has_lists self.new (e ++ received event into.new ∷ []) f)
             (λ _. has_lists self.new e f) }
         ensures time { MatchResult result
-            (λ event. Elapses moment now left self.old self.new
+            (λ event. Elapses records moment now left self.old self.new
             (Either Unchanged (Receives (received event into.new)))
             (Receives (received event into.new)))
-            (λ _. Elapses moment now left self.old self.new Unchanged Unchanged) }
+            (λ _. Elapses records moment now left self.old self.new Unchanged Unchanged) }
         ensures covers { IfOk result
-            (λ event. Covers moment now left self.old self.new
+            (λ event. Covers records moment now left self.old self.new
             (Either Unchanged (Receives (received event into.new)))) }
         ensures moment { moment self.new ≡ after_recv (moment self.old) }
         ensures cause { HasCause Fault.Recv (faults self.old) (faults self.new) result };
@@ -205,11 +209,11 @@ pub trait Board {
             MatchResult result (λ _. has_lists self.new e (f ++ sent_frame peer bytes.now ∷ []))
             (λ _. has_lists self.new e f
             ⊎ has_lists self.new e (f ++ sent_frame peer bytes.now ∷ [])) }
-        ensures time { Elapses moment now left self.old self.new
+        ensures time { Elapses records moment now left self.old self.new
             (Either Unchanged (Sends (sent_frame peer bytes.now)))
             (ByResult result (Sends (sent_frame peer bytes.now))
             (Either Unchanged (Sends (sent_frame peer bytes.now)))) }
-        ensures covers { Covers moment now left self.old self.new
+        ensures covers { Covers records moment now left self.old self.new
             (Either Unchanged (Sends (sent_frame peer bytes.now))) }
         ensures moment { moment self.new ≡ after_send (moment self.old) }
         ensures cause { HasCause Fault.Send (faults self.old) (faults self.new) result };

@@ -35,7 +35,7 @@ module _ {B : Type 0} (g : Ghosts B) where
     later = up_to_self (g.moment a);
     inside = λ t o le was. inl was;
     here = λ o is. record { from = o; was = is; steps = still o is };
-    keeps = λ n is t o le was. was;
+    keeps = λ kept n is t o le was. was;
   }
 
   -- another step of the call itself
