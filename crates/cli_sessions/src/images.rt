@@ -29,24 +29,19 @@ fn command(alloc: Global, word: &str, image: &[u8]) -> Result<Ended, Fail> {
 }
 
 // A fresh image of this sector size.
-fn fresh_image(alloc: Global, sector_bytes: usize) -> Result<Vec<u8>, Fail> {
-    let mut image = vec![in alloc; 0xFFu8; 278_528]?;
-    if sector_bytes > 131_072 {
-        return Err(Fail::from("size"));
-    }
-    LittleEndian::write_u16_into(&[0x5BFE, 0x5168], &mut image[..4]);
-    LittleEndian::write_u16_into(
-        &[0x5BFF, 0x5168],
-        &mut image[sector_bytes..sector_bytes + 4],
-    );
-    image.truncate(2 * sector_bytes + 16_384);
+fn fresh_image(alloc: Global, sector_bytes: u32) -> Result<Vec<u8>, Fail> {
+    let size = sector_bytes as usize;
+    let mut image = Vec::from_slice(alloc, &[0xFEu8, 0x5B, 0x68, 0x51])?;
+    image.resize(size, 0xFF)?;
+    image.extend_from_slice(&[0xFF, 0x5B, 0x68, 0x51])?;
+    image.resize(2 * size + 16_384, 0xFF)?;
     Ok(image)
 }
 
 #[test]
 fn an_image_that_was_cut_is_refused(rt: HostRuntime) -> Result<(), Fail> {
     let alloc = rt.alloc();
-    for sector_bytes in [16_384usize, 32_768, 65_536, 131_072] {
+    for sector_bytes in [16_384u32, 32_768, 65_536, 131_072] {
         let image = fresh_image(alloc, sector_bytes)?;
         for word in ["serve", "dump", "report"] {
             for cut in [1, 16_384] {
@@ -58,7 +53,7 @@ fn an_image_that_was_cut_is_refused(rt: HostRuntime) -> Result<(), Fail> {
         // Cut by a larger sector it has the length of an image with smaller sectors, whose guard row
         // begins where the old sector 1 did.
         if sector_bytes > 16_384 {
-            let cut = &image[..image.len().saturating_sub(sector_bytes)];
+            let cut = &image[..image.len().saturating_sub(sector_bytes as usize)];
             for word in ["serve", "dump"] {
                 let ended = command(alloc, word, cut)?;
                 assert_eq!(rt; ended.status, Status(3), "{word} of {sector_bytes}");
