@@ -5,4 +5,6 @@
 #[cfg(test)]
 mod commands;
 #[cfg(test)]
+mod generated;
+#[cfg(test)]
 mod texts;
