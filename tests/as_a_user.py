@@ -137,6 +137,14 @@ class AsAUser(unittest.TestCase):
         self.assertIn(b"s0 foreign 2 000E\n", printed)
         self.assertIn(b"state foreign\n", printed)
 
+    def test_a_generated_session_prints_the_same_line_twice(self):
+        # the numbers and the digest are those of a model of the formats that shares nothing with the program
+        line = (b"gen 1000 events 2662 frames 2662 lines 2554 sha256 "
+                b"48131991de823d0691ed987b895771506ef560538b4dd98818d2de224b5912a5\n")
+        self.assertEqual(self.run_program("gen", "1000"), (0, line))
+        self.assertEqual(self.run_program("gen", "1000"), (0, line))
+        self.assertEqual(self.run_program("gen", "0"), (1, b"error 1 words\n"))
+
     def test_turns_are_counted(self):
         with self.served("--turns", "1") as vehicle:
             printed, _ = vehicle.process.communicate(timeout=30)

@@ -189,7 +189,9 @@ def run(words, cwd=None):
 
 
 def image_place(words):
-    """Where IMAGE stands among the words of a command, or None."""
+    """Where IMAGE stands among the words of a command, or None; `gen` has none."""
+    if words[:1] == ["gen"]:
+        return None
     place, only_names = 1, False
     while place < len(words):
         word = words[place]

@@ -7,8 +7,8 @@ import socket
 import image
 import program
 
-COMMANDS = ("serve IMAGE [--port P] [--turns N], format IMAGE [--sector S], dump IMAGE or "
-            "report IMAGE")
+COMMANDS = ("serve IMAGE [--port P] [--turns N], format IMAGE [--sector S], dump IMAGE, "
+            "report IMAGE or gen N")
 LENGTHS = ", ".join(f"{image.image_bytes(size):,}" for size in image.SECTOR_SIZES)
 
 
@@ -111,7 +111,7 @@ def meaning(words, status):
         4: full,
         5: full,
         6: f"the socket failed, or {full} before a frame was sent",
-        7: f"the guard row of {name} is used up: it can be dumped, and takes no more switches",
+        7: f"the guard row of {name or 'the image in memory'} is used up: it takes no more switches",
         10: "standard output took nothing more",
         13: "no image was named",
         128 + 2: "ended by an interrupt; what was flushed is kept",

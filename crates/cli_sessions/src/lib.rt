@@ -7,6 +7,8 @@ mod commands;
 #[cfg(test)]
 mod failing;
 #[cfg(test)]
+mod generated;
+#[cfg(test)]
 mod images;
 #[cfg(test)]
 mod memory;

@@ -1,5 +1,6 @@
 -- The command that a list of words is, or none. The first word picks the command; the rest are its
--- arguments: one operand, IMAGE or the N of `gen`, and each option at most once, before or after it.
+-- arguments: one operand, IMAGE or the N of `gen`, and each option at most once, before or after
+-- it.
 --
 -- A command is added by: a constructor of `CommandLine`; the names of its options
 -- (`serve_options`); what its operands and values say (`serve_says`, `serve_from`); its first word

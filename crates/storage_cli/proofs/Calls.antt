@@ -118,10 +118,11 @@ module _ {B : Type 0} (g : Ghosts B) (budget : ℕ) where
     armed_later w = record {
       events = es ++ w.event ∷ [];
       lists = λ e sent stood.
-          let more = w.lists (e ++ es) (sent ++ fs) (p.lists e sent stood) in
-          (fs ++ more.0,
-          subst (λ (l : List Received). g.has_lists new_board l (sent ++ (fs ++ more.0))) (append_assoc e es (w.event ∷ []))
-          (subst (λ (l : List SentFrame). g.has_lists new_board ((e ++ es) ++ w.event ∷ []) l) (append_assoc sent fs more.0) more.1));
+          let more = w.lists (e ++ es) (sent ++ fs) (p.lists e sent stood) in (
+            fs ++ more.0,
+            subst (λ (l : List Received). g.has_lists new_board l (sent ++ (fs ++ more.0))) (append_assoc e es (w.event ∷ []))
+                (subst (λ (l : List SentFrame). g.has_lists new_board ((e ++ es) ++ w.event ∷ []) l) (append_assoc sent fs more.0) more.1),
+          );
       acts = p.acts;
       last = w.acts;
       rests = w.rests;

@@ -54,8 +54,8 @@ served_line events frames =
 abbrev pub session_line : ℕ → ℕ → ℕ → ℕ → List ℕ → List ℕ
 session_line rounds events frames lines digest =
     with_newline (codes "gen " ++ decimal rounds ++ codes " events " ++ decimal events
-    ++ codes " frames " ++ decimal frames ++ codes " lines " ++ decimal lines ++ codes " sha256 "
-    ++ encode_lower digest)
+    ++ codes " frames " ++ decimal frames
+    ++ (codes " lines " ++ decimal lines ++ codes " sha256 ") ++ encode_lower digest)
 
 -- the lines that a call may print
 pub data Line : List ℕ → Type 0 where

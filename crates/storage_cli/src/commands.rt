@@ -93,7 +93,8 @@ fn run_serve<B: Board, K: Sink>(
     ensures losses { IsPastAttach result.0 (B.faults board.old) (B.faults board.new)
         → (b : List ℕ) → (B.tells board.old → Stands (B.words board.old) b)
         → (o : Outcome) → B.left board.new (B.moment board.old) o
-        → Safe (budget_of (B.sector_bytes board.new)) b o.events o.frames (length o.events - 1) o.words }
+        → Safe (budget_of (B.sector_bytes board.new)) b o.events o.frames
+        (length o.events - 1) o.words }
     ensures serves { (result.0 ≡ DONE) ⊎ (result.0 ≡ TURNS_OVER)
         → Serves (budget_of (B.sector_bytes board.new)) (B.has_lists board.new)
         (B.tells board.new) (B.words board.old) (B.words board.new) turns result.0
@@ -210,8 +211,8 @@ fn run_gen<K: Sink>(alloc: Global, out: &mut K, rounds: u16) -> Status
 /// `serve IMAGE [--port P] [--turns N]` attaches the image and serves it to up to eight ground
 /// stations, until the end comes or N events are finished; the lines that wait are then put.
 /// `format IMAGE [--sector S]` makes a fresh image. `dump IMAGE` prints what an image stands for,
-/// and `report IMAGE` how each part of any image is. `gen N` runs a generated session of N rounds in
-/// memory, and asks nothing of the board. None reads the input.
+/// and `report IMAGE` how each part of any image is. `gen N` runs a generated session of N rounds
+/// in memory, and asks nothing of the board. None reads the input.
 ///
 /// The words are tested first, then the attach, then the image, and then come the events. Memory is
 /// taken while the words are read and before an image is first read.
@@ -296,7 +297,8 @@ pub fn run<'a, B: Board, S: Source, K: Sink>(
         IsUnasked result.0 (board.new ≡ board.old)
         ⊎ ((b : List ℕ) → (B.tells board.old → Stands (B.words board.old) b)
         → (o : Outcome) → B.left board.new (B.moment board.old) o
-        → Safe (budget_of (B.sector_bytes board.new)) b o.events o.frames (length o.events - 1) o.words)) }
+        → Safe (budget_of (B.sector_bytes board.new)) b o.events o.frames
+        (length o.events - 1) o.words)) }
 
     // What a serve has done that came to the end, or to the last of its turns.
     ensures serves { OnServe (texts words.entry.now)

@@ -70,7 +70,8 @@ fn serve_image<B: Board>(alloc: Global, board: &mut B, turns: u32) -> Result<Ser
     ensures worn { IfErr result (λ stop.
         OnWorn stop ((bytes : _) × IsWorn B.Board board.new bytes)) }
     ensures worn_only { IfErr result (λ stop.
-        OnWorn stop (B.has_lists board.old [] [] → HasToVoid B.Board (B.words board.old) board.new)) }
+        OnWorn stop (B.has_lists board.old [] []
+        → HasToVoid B.Board (B.words board.old) board.new)) }
     ensures foreign_idle { IfErr result (λ stop.
         OnForeign stop (B.moment board.new ≡ B.moment board.old)) }
     ensures left_alone { B.tells board.new → (place : Place) → FirstBad (B.words board.old) place

@@ -1,11 +1,18 @@
 //! The lines that a call prints.
-ghost use Rattle.std.specs.Prelude.{◌≡◌, ◌≤◌, ◌+◌, length};
+ghost use Rattle.std.specs.Prelude.{◌≡◌, ◌≤◌, ◌+◌, ◌++◌, length};
 ghost use Rattle.printed_text.specs.Pieces.{with_newline};
 ghost use Rattle.storage_cli.specs.Texts.{served_line, session_line, turns_line, foreign_line};
 ghost use Rattle.storage_cli.specs.Steps.Stops.{line_of_stop};
 
 use crate::stop::{Foreign, Served, Stop, Summary};
+use arrayvec::ArrayVec;
 use printed_text::{LINE_BYTES, Line, push, push_number, push_place, region_name};
+
+/// The most bytes of the line of a session, its LF among them.
+const SESSION_BYTES: usize = 160;
+
+/// The line of a session, which has a digest.
+pub(crate) type SessionLine = ArrayVec<u8, SESSION_BYTES>;
 
 /// The line of a text.
 fn with_newline(text: &[u8]) -> Line
@@ -31,8 +38,19 @@ pub(crate) fn served_line(served: Served) -> Line
     line
 }
 
+/// Appends these bytes.
+fn append(line: &mut SessionLine, bytes: &[u8])
+    requires { length line.old.items + length bytes.now ≤ SESSION_BYTES }
+    ensures { line.new.items ≡ line.old.items ++ bytes.now }
+{
+    match line.try_extend_from_slice(bytes) {
+        Ok(()) => {}
+        Err(_) => unreachable!(),
+    }
+}
+
 /// The line of a `gen` that ran its session.
-pub(crate) fn session_line(summary: Summary) -> Line
+pub(crate) fn session_line(summary: Summary) -> SessionLine
     ensures { result.items ≡ session_line summary.rounds summary.events summary.frames
         summary.lines summary.digest }
 {
@@ -41,18 +59,22 @@ pub(crate) fn session_line(summary: Summary) -> Line
         Ok(()) => {}
         Err(_) => unreachable!(),
     }
-    let mut line = Line::new();
-    push(&mut line, b"gen ");
-    push_number(&mut line, summary.rounds);
-    push(&mut line, b" events ");
-    push_number(&mut line, summary.events);
-    push(&mut line, b" frames ");
-    push_number(&mut line, summary.frames);
-    push(&mut line, b" lines ");
-    push_number(&mut line, summary.lines);
-    push(&mut line, b" sha256 ");
-    push(&mut line, &digits);
-    push(&mut line, b"\n");
+    let mut counts = Line::new();
+    push(&mut counts, b"gen ");
+    push_number(&mut counts, summary.rounds);
+    push(&mut counts, b" events ");
+    push_number(&mut counts, summary.events);
+    push(&mut counts, b" frames ");
+    push_number(&mut counts, summary.frames);
+    let mut lines = Line::new();
+    push(&mut lines, b" lines ");
+    push_number(&mut lines, summary.lines);
+    push(&mut lines, b" sha256 ");
+    let mut line = SessionLine::new();
+    append(&mut line, counts.as_slice());
+    append(&mut line, lines.as_slice());
+    append(&mut line, &digits);
+    append(&mut line, b"\n");
     line
 }
 

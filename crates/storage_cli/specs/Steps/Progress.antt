@@ -79,8 +79,8 @@ pub record IsCounted (budget : ℕ) (result : Result Served Stop) (b : List ℕ)
 
 -- How a serve that was not cut off has left the board, from these words; `begun` says that the
 -- lists were empty at its start.
-pub record Completes {B : Type 0} (g : Ghosts B) (budget : ℕ) (before : Words) (begun : Type 0) (board : B)
-    (turns : ℕ) (result : Result Served Stop) : Type 0 where
+pub record Completes {B : Type 0} (g : Ghosts B) (budget : ℕ) (before : Words) (begun : Type 0)
+    (board : B) (turns : ℕ) (result : Result Served Stop) : Type 0 where
   pub events : List Received
   pub frames : List SentFrame
   pub lists : begun → g.has_lists board events frames

@@ -28,9 +28,11 @@ returns-in-Ok-clause-cut_short g c = λ failed told.
 
 pub returns-in-Ok-clause-generated : goal.returns-in-Ok-clause-generated
 returns-in-Ok-clause-generated g c = λ done.
-    let is = c.in-Ok.ensures.summary in
-    (is.session, λ told. c.print.ensures.line (λ z. omega (arith, z, done)) told
-    ∙ ap (λ (l : List ℕ). g.K.Sink.written c.args.out.now ++ l) (c.as_slice.ensures.value ∙ c.session_line-line.ensures ∙ summary_line c.args.rounds c.in-Ok.summary is))
+    let is = c.in-Ok.ensures.summary in (
+      is.session,
+      λ told. c.print.ensures.line (λ z. omega (arith, z, done)) told
+          ∙ ap (λ (l : List ℕ). g.K.Sink.written c.args.out.now ++ l) (c.as_slice.ensures.value ∙ c.session_line-line.ensures ∙ summary_line c.args.rounds c.in-Ok.summary is),
+    )
 
 pub returns-in-Err-clause-known : goal.returns-in-Err-clause-known
 returns-in-Err-clause-known g c = gen_stopped c.print_stop.result.0 c.in-Err.stop c.in-Err.ensures.stops c.print_stop.ensures.status
