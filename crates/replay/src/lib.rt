@@ -12,7 +12,10 @@ ghost use Rattle.script_board.specs.Printing.{loss_line};
 ghost use Rattle.replay.specs.Histories.{Replayed, CutShort};
 ghost use Rattle.replay.specs.Playing.{Adds, OpenEnds, EventEnds, CloseEnds, RunEnds, Uses};
 
+mod laws;
+
 use flash_traits::Failed;
+pub use laws::{history_keeps, lines_stay};
 use std::alloc::Global;
 use vehicle_node::{Node, NodeError, Turn};
 
