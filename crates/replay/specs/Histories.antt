@@ -14,19 +14,20 @@ use Rattle.script_board.specs.Taking.{events_of}
 use Rattle.script_board.specs.Printing.{frame_lines, loss_line}
 use Rattle.script_board.specs.Hearing.{loses, HasNoLossNow}
 
--- One run that a loss ended: the lines of the script that it took, the frames that it sent, how many of its events were
--- finished, and the words that the loss left.
+-- One run that a loss ended: the lines of the script that it took, the frames that it sent, how
+-- many of its events were finished, and the words that the loss left.
 pub record Ran : Type 0 where
   pub lines : List ScriptLine
   pub frames : List SentFrame
   pub finished : ℕ
   pub words : Words
-  -- a line `x` ended it
+  -- a line `x` ended it, between two calls of the device
   pub between_calls : Bool
 
 -- a line `x` ended the run, with all of its events finished, or a line `l` did
 abbrev pub EndsSo : Bool → List ScriptLine → ℕ → Type 0
-EndsSo true lines finished = (front : List ScriptLine) × (lines ≡ front ++ LossNow ∷ []) × HasNoLossNow front × (finished ≡ length (events_of lines))
+EndsSo true lines finished = (front : List ScriptLine) × (lines ≡ front ++ LossNow ∷ [])
+    × HasNoLossNow front × (finished ≡ length (events_of lines))
 EndsSo false lines finished = HasNoLossNow lines
 
 -- It began with the bytes of the words before, and what the loss left is safe.
@@ -36,7 +37,8 @@ pub record IsRun (budget : ℕ) (before : Words) (r : Ran) : Type 0 where
   pub safe : Safe budget bytes (events_of r.lines) r.frames r.finished r.words
   pub ends : EndsSo r.between_calls r.lines r.finished
 
--- The first run begins with these words, and each later one with those that the loss before it left; at last these are left.
+-- The first run begins with these words, and each later one with those that the loss before it
+-- left; at last these are left.
 abbrev pub History : ℕ → Words → List Ran → Words → Type 0
 History budget before [] now = now ≡ before
 History budget before (r ∷ rs) now = IsRun budget before r × History budget r.words rs now
@@ -60,9 +62,10 @@ abbrev pub losses_by_call : List Ran → ℕ
 losses_by_call [] = 0
 losses_by_call (r ∷ rs) = by_call r.between_calls + losses_by_call rs
 
--- The whole run over these events, from these bytes: the frames are all its answers, and the words stand for the bytes with
--- all of its lines.
-pub record IsWhole (budget : ℕ) (b : List ℕ) (events : List Received) (frames : List SentFrame) (words : Words) : Type 0 where
+-- The whole run over these events, from these bytes: the frames are all its answers, and the words
+-- stand for the bytes with all of its lines.
+pub record IsWhole (budget : ℕ) (b : List ℕ) (events : List Received) (frames : List SentFrame)
+    (words : Words) : Type 0 where
   pub acts : List (List Act)
   pub rests : List (List ℕ)
   pub reads : Reads no_rests events acts rests
@@ -70,7 +73,9 @@ pub record IsWhole (budget : ℕ) (b : List ℕ) (events : List Received) (frame
   pub all_lines : Stands words (after b (run_of budget b acts).issued)
 
 -- Runs that losses ended: the lines that they took and what was printed, since a start.
-pub record Ended (budget : ℕ) (before : Words) (lines_before lines : List ScriptLine) (printed_before printed : List ℕ) (waiting_before waiting : ℕ) (now : Words) : Type 0 where
+pub record Ended (budget : ℕ) (before : Words) (lines_before lines : List ScriptLine)
+    (printed_before printed : List ℕ) (waiting_before waiting : ℕ) (now : Words)
+    : Type 0 where
   pub runs : List Ran
   pub history : History budget before runs now
   -- each loss by a line `l` was waiting or stands among these lines
@@ -78,8 +83,9 @@ pub record Ended (budget : ℕ) (before : Words) (lines_before lines : List Scri
   pub lines_are : lines ≡ lines_before ++ lines_taken runs
   pub printed_are : printed ≡ printed_before ++ history_lines runs
 
--- A replay that came to its end: runs that losses ended, and one whole run behind them.
-pub record Replayed (budget : ℕ) (before : Words) (lines_before lines : List ScriptLine) (printed_before printed : List ℕ) (waiting_before : ℕ) (now : Words) : Type 0 where
+-- A replay that came to its end: runs that losses ended, and one whole run after them.
+pub record Replayed (budget : ℕ) (before : Words) (lines_before lines : List ScriptLine)
+    (printed_before printed : List ℕ) (waiting_before : ℕ) (now : Words) : Type 0 where
   pub runs : List Ran
   pub enough : losses_by_call runs ≤ waiting_before + loses (lines_taken runs)
   pub words : Words
@@ -93,7 +99,8 @@ pub record Replayed (budget : ℕ) (before : Words) (lines_before lines : List S
   pub printed_are : printed ≡ printed_before ++ (history_lines runs ++ frame_lines last_frames)
 
 -- A replay that was cut short: what is left of the last run is safe too.
-pub record CutShort (budget : ℕ) (before : Words) (lines_before lines : List ScriptLine) (printed_before printed : List ℕ) (waiting_before : ℕ) (now : Words) : Type 0 where
+pub record CutShort (budget : ℕ) (before : Words) (lines_before lines : List ScriptLine)
+    (printed_before printed : List ℕ) (waiting_before : ℕ) (now : Words) : Type 0 where
   pub runs : List Ran
   pub enough : losses_by_call runs ≤ waiting_before + loses (lines_taken runs)
   pub words : Words

@@ -1,4 +1,7 @@
-//! A model of a replay: a node over a board that runs a script, opened again after each loss of power.
+//! A replay: a node runs a script to its end, and is opened again after each loss of power.
+//!
+//! What a loss leaves begins the next run. The whole is a history of runs, of which each leaves a
+//! prefix of its lines that has every flushed one.
 #![tactic(auto)]
 
 ghost use Rattle.std.specs.Prelude.{◌≡◌, ◌≢◌, ◌≤◌, ◌+◌, ◌++◌, [], List, ℕ, true, IfOk, IfErr, OnOk, OnErr, MatchResult};
@@ -51,30 +54,36 @@ pub trait Player {
         ensures fits { IfOk result (λ node. fits self.new node) }
         ensures told { told self.new → told self.old }
         ensures ends { told self.new → OpenEnds arming result (words self.old) (words self.new) }
-        ensures adds { told self.new → (ls : List ScriptLine) × (events_of ls ≡ []) × Adds (lines self.old) (lines self.new) (printed self.old) (printed self.new) ls []
+        ensures adds { told self.new → (ls : List ScriptLine) × (events_of ls ≡ [])
+            × Adds (lines self.old) (lines self.new) (printed self.old) (printed self.new) ls []
             × Uses result (is_lost self.new) ls 0 (waiting self.old) (waiting self.new) }
         ensures remaining { remaining self.new ≤ remaining self.old }
-        ensures lost { OnErr result (is_lost self.new → remaining self.new + 1 ≤ remaining self.old) };
+        ensures lost { OnErr result
+            (is_lost self.new → remaining self.new + 1 ≤ remaining self.old) };
 
     fn event(&mut self, node: &mut Node) -> Result<Turn, NodeError>
         requires { fits self.old node.old }
         ensures fits { OnOk result (fits self.new node.new) }
         ensures told { told self.new → told self.old }
-        ensures plays { told self.new → (ls : List ScriptLine) × (fs : List SentFrame) × Adds (lines self.old) (lines self.new) (printed self.old) (printed self.new) ls fs
+        ensures plays { told self.new → (ls : List ScriptLine) × (fs : List SentFrame)
+            × Adds (lines self.old) (lines self.new) (printed self.old) (printed self.new) ls fs
             × EventEnds arming result node.old node.new (events_of ls) fs 0 (words self.new)
             × Uses result (is_lost self.new) ls 0 (waiting self.old) (waiting self.new) }
         ensures remaining { remaining self.new ≤ remaining self.old }
         ensures finished { OnOk result (remaining self.new + 1 ≤ remaining self.old) }
-        ensures lost { OnErr result (is_lost self.new → remaining self.new + 1 ≤ remaining self.old) };
+        ensures lost { OnErr result
+            (is_lost self.new → remaining self.new + 1 ≤ remaining self.old) };
 
     fn close(&mut self, node: Node) -> Result<(), NodeError>
         requires { fits self.old node }
         ensures told { told self.new → told self.old }
         ensures ends { told self.new → CloseEnds arming result node (words self.new) }
-        ensures adds { told self.new → (ls : List ScriptLine) × (events_of ls ≡ []) × Adds (lines self.old) (lines self.new) (printed self.old) (printed self.new) ls []
+        ensures adds { told self.new → (ls : List ScriptLine) × (events_of ls ≡ [])
+            × Adds (lines self.old) (lines self.new) (printed self.old) (printed self.new) ls []
             × Uses result (is_lost self.new) ls 0 (waiting self.old) (waiting self.new) }
         ensures remaining { remaining self.new ≤ remaining self.old }
-        ensures lost { OnErr result (is_lost self.new → remaining self.new + 1 ≤ remaining self.old) };
+        ensures lost { OnErr result
+            (is_lost self.new → remaining self.new + 1 ≤ remaining self.old) };
 
     /// The last call failed by a loss of power.
     fn was_lost(&self) -> bool
@@ -86,7 +95,8 @@ pub trait Player {
         ensures words { words self.new ≡ words self.old }
         ensures waiting { waiting self.new ≡ waiting self.old }
         ensures lines { told self.new → lines self.new ≡ lines self.old }
-        ensures printed { OnOk result (told self.new → printed self.new ≡ printed self.old ++ loss_line) }
+        ensures printed { OnOk result
+            (told self.new → printed self.new ≡ printed self.old ++ loss_line) }
         ensures remaining { remaining self.new ≤ remaining self.old };
 }
 
@@ -102,11 +112,14 @@ fn play<P: Player>(player: &mut P, node: &mut Node) -> Result<(), NodeError>
     requires { P.fits player.old node.old }
     ensures fits { OnOk result (P.fits player.new node.new) }
     ensures told { P.told player.new → P.told player.old }
-    ensures plays { P.told player.new → (ls : List ScriptLine) × (fs : List SentFrame) × (n : ℕ) × Adds (P.lines player.old) (P.lines player.new) (P.printed player.old) (P.printed player.new) ls fs
+    ensures plays { P.told player.new → (ls : List ScriptLine) × (fs : List SentFrame) × (n : ℕ)
+        × Adds (P.lines player.old) (P.lines player.new)
+        (P.printed player.old) (P.printed player.new) ls fs
         × EventEnds P.arming result node.old node.new (events_of ls) fs n (P.words player.new)
         × Uses result (P.is_lost player.new) ls n (P.waiting player.old) (P.waiting player.new) }
     ensures remaining { P.remaining player.new ≤ P.remaining player.old }
-    ensures lost { OnErr result (P.is_lost player.new → P.remaining player.new + 1 ≤ P.remaining player.old) }
+    ensures lost { OnErr result
+        (P.is_lost player.new → P.remaining player.new + 1 ≤ P.remaining player.old) }
 {
     'events: loop {
         match player.event(node) {
@@ -122,11 +135,14 @@ fn play<P: Player>(player: &mut P, node: &mut Node) -> Result<(), NodeError>
 // One run: the opening, the events until the end, and the close.
 fn run_once<P: Player>(alloc: Global, player: &mut P) -> Result<(), NodeError>
     ensures told { P.told player.new → P.told player.old }
-    ensures ends { P.told player.new → (ls : List ScriptLine) × (fs : List SentFrame) × (n : ℕ) × Adds (P.lines player.old) (P.lines player.new) (P.printed player.old) (P.printed player.new) ls fs
+    ensures ends { P.told player.new → (ls : List ScriptLine) × (fs : List SentFrame) × (n : ℕ)
+        × Adds (P.lines player.old) (P.lines player.new)
+        (P.printed player.old) (P.printed player.new) ls fs
         × RunEnds P.arming result (P.words player.old) (events_of ls) fs n (P.words player.new)
         × Uses result (P.is_lost player.new) ls n (P.waiting player.old) (P.waiting player.new) }
     ensures remaining { P.remaining player.new ≤ P.remaining player.old }
-    ensures lost { OnErr result (P.is_lost player.new → P.remaining player.new + 1 ≤ P.remaining player.old) }
+    ensures lost { OnErr result
+        (P.is_lost player.new → P.remaining player.new + 1 ≤ P.remaining player.old) }
 {
     let mut node = match player.open(alloc) {
         Ok(node) => node,
@@ -142,11 +158,15 @@ fn run_once<P: Player>(alloc: Global, player: &mut P) -> Result<(), NodeError>
 /// Replays the script: after each loss the node is opened again on the words that are left.
 pub fn replay<P: Player>(alloc: Global, player: &mut P) -> Result<(), Stop>
     // What is printed is a history, and the last run is whole.
-    ensures replayed { OnOk result (P.told player.new → (b : List ℕ) → Stands (P.words player.old) b →
-        Replayed P.arming (P.words player.old) (P.lines player.old) (P.lines player.new) (P.printed player.old) (P.printed player.new) (P.waiting player.old) (P.words player.new)) }
+    ensures replayed { OnOk result (P.told player.new
+        → (b : List ℕ) → Stands (P.words player.old) b →
+        Replayed P.arming (P.words player.old) (P.lines player.old) (P.lines player.new)
+        (P.printed player.old) (P.printed player.new) (P.waiting player.old) (P.words player.new)) }
     // Where a node stopped for another reason than a loss, it is a history that is cut short.
-    ensures cut_short { IfErr result (λ stop. (stop ≢ Stop.Output) → P.told player.new → (b : List ℕ) → Stands (P.words player.old) b →
-        CutShort P.arming (P.words player.old) (P.lines player.old) (P.lines player.new) (P.printed player.old) (P.printed player.new) (P.waiting player.old) (P.words player.new)) }
+    ensures cut_short { IfErr result (λ stop. (stop ≢ Stop.Output) → P.told player.new
+        → (b : List ℕ) → Stands (P.words player.old) b →
+        CutShort P.arming (P.words player.old) (P.lines player.old) (P.lines player.new)
+        (P.printed player.old) (P.printed player.new) (P.waiting player.old) (P.words player.new)) }
 {
     'runs: loop {
         match run_once(alloc, player) {
