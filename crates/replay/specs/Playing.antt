@@ -8,7 +8,6 @@ use Rattle.vehicle_node.specs.Runs.{Run}
 use Rattle.vehicle_node.specs.Safe.{Safe}
 use Rattle.vehicle_node.specs.Standing.{Node, StandsAt, StandsForRun}
 use Rattle.script_lines.specs.Script.{ScriptLine}
-use Rattle.script_board.specs.Taking.{events_of}
 use Rattle.script_board.specs.Printing.{frame_lines}
 use Rattle.script_board.specs.Hearing.{loses, HasNoLossNow}
 use Rattle.replay.specs.Histories.{IsWhole, EndsSo}

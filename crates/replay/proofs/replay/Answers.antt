@@ -1,5 +1,4 @@
 use Rattle.std.proofs.Common.{ℕ, sym, subst}
-use Rattle.sector_image.specs.Stands.{Stands}
 use Rattle.flash_traits.specs.Words.{Words}
 use Rattle.replay.specs.Histories.{Ended}
 use Rattle.replay.proofs.Histories.{ended_none, ended_more, replayed, cut_short, stands_safe}

@@ -1,4 +1,4 @@
-use Rattle.std.proofs.Common.{◌≡◌, ◌≤◌, ℕ, List}
+use Rattle.std.proofs.Common.{ℕ, List}
 use Rattle.sector_image.specs.Stands.{Stands}
 use Rattle.replay.specs.Histories.{Ended}
 use Rattle.replay.proofs.replay.Given as goal

@@ -1,5 +1,5 @@
-use Rattle.std.proofs.Common.{◌≡◌, ◌+◌, [], ◌++◌, List, length, refl, sym, ◌∙◌, ap, subst, arith}
-use Rattle.flash_traits.specs.Losses.{Received, SentFrame}
+use Rattle.std.proofs.Common.{◌≡◌, ◌+◌, [], ◌++◌, List, length, sym, ◌∙◌, ap, subst, arith}
+use Rattle.flash_traits.specs.Losses.{Received}
 use Rattle.vehicle_node.specs.Safe.{Safe}
 use Rattle.script_board.specs.Taking.{events_of}
 use Rattle.replay.specs.Playing.{RunEnds}
