@@ -1,9 +1,9 @@
 -- Halfwords in bytes, when some of these change.
-use Rattle.std.proofs.Common.{◌≡◌, ◌≢◌, ◌⊎◌, inl, inr, ℕ, zero, suc, ◌+◌, ◌*◌, ◌/◌, ◌^◌, ◌<◌, ◌≤◌, List, [], ◌∷◌, length, replicate, slice_index, slice_set, bit_and, refl, sym, ◌∙◌, ap, subst, arith}
-use Rattle.flash_traits.specs.Words.{Words, halfwords_in, with_halfwords, region_length, IsSectorSize, IsSectorRegion, HasShape, programmed, erased, blank}
+use Rattle.std.proofs.Common.{◌≡◌, ◌≢◌, ◌⊎◌, inl, inr, ℕ, zero, suc, ◌+◌, ◌*◌, ◌^◌, ◌<◌, ◌≤◌, List, length, replicate, slice_index, slice_set, bit_and, refl, sym, ◌∙◌, ap, subst, arith}
+use Rattle.flash_traits.specs.Words.{halfwords_in, with_halfwords, region_length, IsSectorSize, programmed, erased, blank}
 use Rattle.flash_traits.specs.declared.board.Region.{Region}
 use Rattle.flash_traits.specs.declared.board.Region.TheVariants.{S0, S1, Guard}
-use Rattle.script_board.specs.Image.{start_of, halfword_at, halfwords_from, words_of, odd_erased, half_erased}
+use Rattle.script_board.specs.Image.{start_of, halfword_at, halfwords_from, words_of}
 
 pub long : (bytes : List ℕ) (start count : ℕ) → length (halfwords_from bytes start count) ≡ count
 unfolding halfwords_from

@@ -1,5 +1,5 @@
 -- The unread bytes of a buffer.
-use Rattle.std.proofs.Common.{◌≡◌, ◌⊎◌, inl, inr, ℕ, zero, suc, ◌+◌, ◌-◌, ◌≤◌, ◌<◌, List, [], ◌∷◌, ◌++◌, length, take, drop, refl, sym, ◌∙◌, ap, subst, arith, length-append, length-drop, append_assoc, append-nil}
+use Rattle.std.proofs.Common.{◌≡◌, inl, inr, ℕ, zero, suc, ◌+◌, ◌-◌, ◌≤◌, List, [], ◌∷◌, ◌++◌, length, take, drop, refl, sym, ◌∙◌, ap, subst, arith, length-append, length-drop, append_assoc, append-nil}
 use Rattle.std.proofs.Math.Seq.{drop-nil}
 use Rattle.script_lines.specs.Script.{ScriptLine, Spells, line_feed}
 use Rattle.script_lines.specs.Reading.{unread_of, Finds, FindsLine, FindsLast}

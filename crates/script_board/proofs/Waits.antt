@@ -1,5 +1,5 @@
 -- Losses at later calls before the line of an event.
-use Rattle.std.proofs.Common.{◌≡◌, ◌≢◌, inl, inr, ℕ, ◌+◌, ◌≤◌, ◌<◌, List, [], ◌∷◌, ◌++◌, length, take, refl, sym, ◌∙◌, ap, subst, arith, append_assoc, append-nil, length-append}
+use Rattle.std.proofs.Common.{◌≡◌, ◌≢◌, ℕ, ◌+◌, ◌<◌, List, [], ◌∷◌, ◌++◌, length, take, refl, sym, ◌∙◌, ap, subst, arith, append_assoc, append-nil, length-append}
 use Rattle.flash_traits.specs.declared.numbers.TheConstants.{STATIONS}
 use Rattle.flash_traits.specs.declared.stream.Source as source
 use Rattle.flash_traits.specs.declared.stream.Sink as sink

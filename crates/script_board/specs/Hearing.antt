@@ -3,7 +3,6 @@ use Rattle.std.specs.Prelude.{◌≡◌, ◌≢◌, ◌⊎◌, ℕ, ◌+◌, ◌
 use Rattle.flash_traits.specs.Losses.{received}
 use Rattle.flash_traits.specs.declared.board.Event.{Event}
 use Rattle.flash_traits.specs.declared.board.Failed.{Failed}
-use Rattle.script_lines.specs.Script as script
 use Rattle.script_lines.specs.Script.{ScriptLine, Datagram, Idle, LossNow, LossLater, End}
 use Rattle.script_lines.specs.Seen.{line_of}
 use Rattle.script_lines.specs.declared.line.ScriptLine as lines

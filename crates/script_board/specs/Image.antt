@@ -3,7 +3,7 @@ use Rattle.std.specs.Prelude.{ℕ, zero, suc, ◌+◌, ◌*◌, List, [], ◌∷
 use Rattle.flash_traits.specs.Words.{Words, halfwords_in, with_halfwords, region_length}
 use Rattle.flash_traits.specs.declared.board.Region.{Region}
 use Rattle.flash_traits.specs.declared.board.Region.TheVariants.{S0, S1, Guard}
-use Rattle.flash_traits.specs.declared.numbers.TheConstants.{ERASED, GUARD_HALFWORDS}
+use Rattle.flash_traits.specs.declared.numbers.TheConstants.{ERASED}
 
 -- where a region begins, in bytes
 abbrev pub start_of : ℕ → Region → ℕ

@@ -82,12 +82,14 @@ impl<'a, S: Source, K: Sink> ScriptBoard<'a, S, K> {
     pub fn program_or_lose(&mut self, region: Region, at: u32, word: u16) -> Result<(), Failed>
         requires { at < region_length self.old.geometry.sector_bytes region }
         ensures lost { IsErr result ↔ (falls_now self.old.waiting.items self.old.since ≡ true) }
-        ensures done { OnOk result (words_in self.new ≡ programmed (words_in self.old) region at word) }
+        ensures done { OnOk result
+            (words_in self.new ≡ programmed (words_in self.old) region at word) }
         ensures left { OnErr result (words_in self.new
             ≡ after_loss (first_leaves self.old.waiting.items) (words_in self.old)
             (programmed (words_in self.old) region at word)) }
         ensures waits { OnOk result (self.new.waiting.items ≡ self.old.waiting.items) }
-        ensures counted { OnOk result (self.new.since ≡ counted self.old.waiting.items self.old.since) }
+        ensures counted { OnOk result
+            (self.new.since ≡ counted self.old.waiting.items self.old.since) }
         ensures fallen { OnErr result (self.new.waiting.items ≡ drop 1 self.old.waiting.items) }
         ensures anew { OnErr result (self.new.since ≡ 0) }
         ensures unmarked { OnOk result (self.new.mark ≡ self.old.mark) }
@@ -120,7 +122,8 @@ impl<'a, S: Source, K: Sink> ScriptBoard<'a, S, K> {
         ensures left { OnErr result (words_in self.new
             ≡ erased_by (first_leaves self.old.waiting.items) (words_in self.old) region) }
         ensures waits { OnOk result (self.new.waiting.items ≡ self.old.waiting.items) }
-        ensures counted { OnOk result (self.new.since ≡ counted self.old.waiting.items self.old.since) }
+        ensures counted { OnOk result
+            (self.new.since ≡ counted self.old.waiting.items self.old.since) }
         ensures fallen { OnErr result (self.new.waiting.items ≡ drop 1 self.old.waiting.items) }
         ensures anew { OnErr result (self.new.since ≡ 0) }
         ensures unmarked { OnOk result (self.new.mark ≡ self.old.mark) }

@@ -1,5 +1,4 @@
-use Rattle.std.proofs.Common.{◌≡◌, ℕ, ◌≤◌, List, take, sym, subst, arith}
-use Rattle.script_lines.specs.Script as script
+use Rattle.std.proofs.Common.{ℕ, List, take, sym, subst, arith}
 use Rattle.script_lines.specs.Script.{Spells}
 use Rattle.script_lines.specs.Reading.{unread_of}
 use Rattle.script_lines.specs.Seen.{line_of}

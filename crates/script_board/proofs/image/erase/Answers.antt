@@ -1,4 +1,4 @@
-use Rattle.std.proofs.Common.{◌≡◌, ◌⊎◌, inl, inr, ℕ, ◌+◌, ◌*◌, ◌≤◌, ◌<◌, slice_index, sym, ◌∙◌, ap, subst, arith}
+use Rattle.std.proofs.Common.{◌≡◌, ◌⊎◌, ℕ, ◌+◌, ◌*◌, ◌≤◌, ◌<◌, slice_index, sym, subst, arith}
 use Rattle.flash_traits.specs.Words.{region_length}
 use Rattle.script_board.specs.Image.{start_of}
 use Rattle.script_board.proofs.Halfwords.{erases}

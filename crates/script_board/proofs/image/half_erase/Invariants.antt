@@ -1,4 +1,4 @@
-use Rattle.std.proofs.Common.{◌≡◌, ◌≤◌, ◌-◌, length}
+use Rattle.std.proofs.Common.{◌≡◌, ◌-◌, length}
 use Rattle.script_board.proofs.Odd.{OddErased}
 use Rattle.script_board.proofs.image.half_erase.Given as goal
 

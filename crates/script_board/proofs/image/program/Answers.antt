@@ -1,4 +1,4 @@
-use Rattle.std.proofs.Common.{◌≡◌, ◌≢◌, ℕ, ◌+◌, ◌*◌, bit_and, slice_index, sym, ◌∙◌, ap, subst}
+use Rattle.std.proofs.Common.{◌≡◌, ℕ, ◌+◌, ◌*◌, bit_and, ◌∙◌, ap, subst}
 use Rattle.script_board.specs.Image.{start_of, halfword_at}
 use Rattle.script_board.proofs.Halfwords.{programs}
 use Rattle.script_board.proofs.image.program.Goals as goal

@@ -1,6 +1,6 @@
-use Rattle.std.proofs.Common.{◌≡◌, ℕ, ◌+◌, ◌*◌, List, slice_index, sym, ◌∙◌, ap}
-use Rattle.flash_traits.specs.Words.{region_length, halfwords_in}
-use Rattle.script_board.specs.Image.{start_of, halfword_at, words_of}
+use Rattle.std.proofs.Common.{ℕ, ◌+◌, ◌*◌, List, slice_index, sym, ◌∙◌, ap}
+use Rattle.flash_traits.specs.Words.{region_length}
+use Rattle.script_board.specs.Image.{start_of, halfword_at}
 use Rattle.script_board.proofs.Halfwords.{at_index, region_is}
 use Rattle.script_board.proofs.image.read.Goals as goal
 

@@ -1,9 +1,8 @@
-use Rattle.std.proofs.Common.{◌≡◌, ◌⊎◌, inl, inr, ap, sym, ◌∙◌, ◌≤◌, subst, arith}
+use Rattle.std.proofs.Common.{◌≡◌, inl, inr, ap, sym, ◌≤◌, subst, arith}
 use Rattle.std.specs.Prelude.{ℕ, List}
 use Rattle.script_lines.specs.Reading.{unread_of}
 use Rattle.script_lines.specs.Seen.{line_of}
 use Rattle.script_board.specs.Taking.{IsAhead, HasNoLine}
-use Rattle.script_board.specs.Hearing.{IsRefused}
 use Rattle.script_board.specs.declared.ahead.Ahead.{Ahead}
 use Rattle.script_board.proofs.Unread.{unread_drop}
 use Rattle.script_board.proofs.TakenLines.{at_some, at_none, took_same, took_refused, took_none, took_line}

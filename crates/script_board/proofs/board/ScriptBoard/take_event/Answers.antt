@@ -1,4 +1,4 @@
-use Rattle.std.proofs.Common.{◌≡◌, ◌⊎◌, inl, inr, ◌+◌, ◌≤◌, ℕ, List, [], ◌∷◌, ◌++◌, length, take, refl, ap, sym, ◌∙◌, subst, arith}
+use Rattle.std.proofs.Common.{◌≡◌, inl, inr, ◌+◌, ℕ, List, [], ◌∷◌, ◌++◌, length, refl, ap, sym, ◌∙◌, arith}
 use Rattle.flash_traits.specs.Losses as link
 use Rattle.flash_traits.specs.Losses.{Received}
 use Rattle.script_lines.specs.Script as script
@@ -7,9 +7,8 @@ use Rattle.script_lines.specs.Seen.{line_of}
 use Rattle.script_board.specs.Marks.{marked}
 use Rattle.script_board.specs.declared.board.ScriptMark.TheVariants.{Lost}
 use Rattle.script_board.specs.Taking.{events_in}
-use Rattle.script_board.specs.Hearing.{loses, loses_in}
 use Rattle.script_board.proofs.TakenLines.{took_nothing, took_still, took_then}
-use Rattle.script_board.proofs.Waits.{AreLater, later-append, event_last, no_events, no_loss_now, no_loss_then, loses_more, waits_more, not_datagram, not_idle, not_end, take_front, station_fits, only_none, only_then, events-append, loses_nothing}
+use Rattle.script_board.proofs.Waits.{later-append, event_last, no_events, no_loss_now, no_loss_then, loses_more, waits_more, not_datagram, not_idle, not_end, take_front, station_fits, only_none, only_then, events-append, loses_nothing}
 use Rattle.script_board.proofs.board.ScriptBoard.take_event.Goals as goal
 
 pub lines-init : goal.lines-init

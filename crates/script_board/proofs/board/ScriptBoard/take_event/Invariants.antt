@@ -1,6 +1,5 @@
 use Rattle.std.proofs.Common.{◌≡◌, ◌≤◌, ◌+◌, ◌-◌, ℕ, List, length, slice_index}
 use Rattle.flash_traits.specs.Counts.{raised_by}
-use Rattle.flash_traits.specs.Causes.{HasOneCause}
 use Rattle.script_lines.specs.Script.{ScriptLine}
 use Rattle.script_lines.specs.declared.numbers.TheConstants.{SCRIPT_LINES}
 use Rattle.script_board.specs.Taking.{Took}

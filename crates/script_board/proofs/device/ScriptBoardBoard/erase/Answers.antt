@@ -1,4 +1,4 @@
-use Rattle.std.proofs.Common.{◌≡◌, ℕ, List, ◌<◌, ◌^◌, slice_index, refl, sym, ◌∙◌, ap, subst, arith, rules}
+use Rattle.std.proofs.Common.{ℕ, List, ◌<◌, ◌^◌, slice_index, ◌∙◌, ap, subst, arith, rules}
 use Rattle.std.proofs.lemmas.List.{get_or-set_other}
 use Rattle.flash_traits.specs.Words.{halfwords_in}
 use Rattle.flash_traits.specs.declared.board.Region.{Region}
