@@ -561,6 +561,32 @@ class AsAUser(unittest.TestCase):
                     self.assertIn(self.items_of(vehicle, FENCE), [old, [], new] if taken == len(new) else [old])
                     self.ended(vehicle)
 
+    def test_a_vehicle_is_armed_and_disarmed(self):
+        with self.served() as vehicle:
+            station = vehicle.ready()
+            station.settimeout(10)
+            for word, mode, state in (("arm", 129, 4), ("disarm", 1, 3)):
+                self.assertEqual(self.told(vehicle, word), f"{word} is accepted\n")
+                beats = (mavlink.fields_of(mavlink.read_frame(station.recv(2048))) for _ in range(10))
+                # heartbeats of the time before may wait in the socket
+                beat = next(beat for beat in beats if beat["base_mode"] == mode)
+                self.assertEqual((beat["autopilot"], beat["system_status"]), (3, state))
+            self.ended(vehicle)
+
+    def test_what_was_sent_before_an_accepted_flush_is_stored(self):
+        with self.served() as vehicle:
+            self.told(vehicle, "parameters", "set", "RTL_ALT", "1700")
+            self.assertEqual(self.told(vehicle, "mission", "upload", ROUTE), "8 items uploaded\n")
+            self.assertEqual(self.told(vehicle, "flush"), "flush is accepted\n")
+            vehicle.process.kill()
+            vehicle.process.wait(timeout=30)
+        with self.served() as vehicle:
+            vehicle.ready()
+            self.assertEqual(self.told(vehicle, "parameters", "read", "RTL_ALT"),
+                             "RTL_ALT = 1700 (int32), index 1 of 240\n")
+            self.assertEqual(len(self.items_of(vehicle, MISSION)), 8)
+            self.ended(vehicle)
+
     def test_the_number_of_items_is_left_to_the_vehicle(self):
         with self.served() as vehicle:
             name = self.file("kept.parm")
