@@ -1,5 +1,5 @@
 -- What the programs of a format make of blank words.
-use Rattle.std.proofs.Common.{◌≡◌, ◌≢◌, ℕ, ◌/◌, ◌<◌, ◌≤◌, List, length, get_or, replicate, bit_and, refl, ◌∙◌, ap, arith, Bool, true, false, cond, Result, Ok, Err, true≢false, eqb-true, get_or-set_other, get_or-set_same, length-set}
+use Rattle.std.proofs.Common.{◌≡◌, ◌≢◌, ℕ, ◌/◌, ◌<◌, ◌≤◌, List, length, get_or, replicate, bit_and, refl, ◌∙◌, ap, arith, Bool, true, false, cond, Result, Ok, Err, true≢false, eqb-true, get_or-set_other, get_or-set_same, length-set, subst, sym}
 use Rattle.std.specs.Prelude.{◌==◌, is_err, IfOk, OnOk}
 use Rattle.flash_traits.specs.declared.board.Geometry.{Geometry}
 use Rattle.std.proofs.Math.ListN.{set}
@@ -78,3 +78,7 @@ formatted_fresh n w0 w1 w2 known start one two shape = record {
 pub geometry_part : {E : Type 0} (r : Result Geometry E) (board size : ℕ) → is_err r ≡ false → IfOk r (λ geometry. (board ≡ geometry.sector_bytes) × IsSectorSize geometry.sector_bytes × (geometry.sector_bytes ≡ size)) → board ≡ size
 geometry_part (Ok geometry) board size ok is = is.0 ∙ is.2
 geometry_part (Err e) board size ok is = absurd (true≢false ok)
+
+pub size_part : {E : Type 0} (r : Result Geometry E) (board : ℕ) (Q : Geometry → Type 0) → is_err r ≡ false → IfOk r (λ geometry. (board ≡ geometry.sector_bytes) × IsSectorSize geometry.sector_bytes × Q geometry) → IsSectorSize board
+size_part (Ok geometry) board Q ok is = subst IsSectorSize (sym is.0) is.1
+size_part (Err e) board Q ok is = absurd (true≢false ok)

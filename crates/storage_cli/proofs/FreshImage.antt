@@ -1,7 +1,10 @@
 -- A fresh image stands for zeros.
-use Rattle.std.proofs.Common.{◌≡◌, ℕ, zero, suc, ◌<◌, List, [], ◌∷◌, length, replicate, slice_set, refl, sym, ◌∙◌, ap, arith, get_or, rules}
+use Rattle.std.proofs.Common.{inl, inr, ◌/◌, ◌≡◌, ℕ, zero, suc, ◌<◌, List, [], ◌∷◌, length, replicate, slice_set, refl, sym, ◌∙◌, ap, arith, get_or, rules}
 use Rattle.std.specs.List.{All}
 use Rattle.std.proofs.lemmas.List.{length-replicate, get_or-replicate}
+use Rattle.flash_traits.specs.Words.{Words, HasShape, IsSectorSize}
+use Rattle.flash_traits.specs.declared.board.Region.TheVariants.{S0}
+use Rattle.session_boards.specs.declared.device.TheConstants.{SECTOR_BYTES}
 use Rattle.flash_traits.specs.declared.board.Mark.{Mark}
 use Rattle.flash_traits.specs.declared.board.Mark.TheVariants.{Available, InUse}
 use Rattle.flash_traits.specs.declared.numbers.TheConstants.{ERASED, SIGNATURE, GUARD_HALFWORDS}
@@ -58,3 +61,18 @@ fresh_stands = (
   },
   zeros_value storage_bytes refl,
 )
+
+-- words of its shape have its sector size
+half_size : (n : ℕ) → IsSectorSize n → 65536 ≡ n / 2 → n ≡ SECTOR_BYTES
+half_size n (inl is) half = omega (arith, is, half)
+half_size n (inr (inl is)) half = omega (arith, is, half)
+half_size n (inr (inr (inl is))) half = omega (arith, is, half)
+half_size n (inr (inr (inr is))) half = is
+
+begun_length : (mark : ℕ) → length (begun mark) ≡ 65536
+begun_length mark = ap length (begun_at 65534 mark) ∙ ap (λ (n : ℕ). suc (suc n)) (length-replicate 65534 ERASED)
+
+pub fresh_size : (n : ℕ) (w : Words) → w ≡ fresh → IsSectorSize n → HasShape n w → n ≡ SECTOR_BYTES
+fresh_size n w is known shape =
+    let long : length w.s0 ≡ n / 2 = shape S0 in
+    half_size n known (sym (begun_length (mark_word InUse)) ∙ ap (λ (v : Words). length v.s0) (sym is) ∙ long)

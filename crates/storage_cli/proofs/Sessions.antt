@@ -1,5 +1,6 @@
 -- A generated session that was run in memory.
-use Rattle.std.proofs.Common.{inl, inr, ◌≡◌, ◌≢◌, ◌≤◌, ◌*◌, ◌-◌, ◌^◌, ℕ, List, [], length, sym, ◌∙◌, ap, subst, arith, Result, Ok, Err}
+use Rattle.std.proofs.Common.{inl, inr, ◌⊎◌, ◌≡◌, ◌≢◌, ◌≤◌, ◌*◌, ◌-◌, ◌^◌, ℕ, List, [], length, sym, ◌∙◌, ap, subst, arith, Result, Ok, Err}
+use Rattle.std.specs.Prelude.{⊤}
 use Rattle.std.proofs.lemmas.Slice.Zip.{AllZip-long}
 use Rattle.flash_traits.specs.Causes.{Rose}
 use Rattle.flash_traits.specs.declared.board.Fault.{Fault}
@@ -10,7 +11,11 @@ use Rattle.flash_traits.specs.Words.{Words}
 use Rattle.flash_traits.specs.Losses.{Received, SentFrame}
 use Rattle.sha2.specs.Sha256.{sha256}
 use Rattle.storage_lines.specs.Lines.{after}
+use Rattle.flash_traits.specs.declared.board.Board.{Ghosts}
 use Rattle.sector_image.specs.FirstBad.{FirstBad}
+use Rattle.sector_image.specs.Refusals as survey
+use Rattle.sector_image.specs.declared.kept.SurveyError.{SurveyError}
+use Rattle.sector_image.specs.declared.kept.SurveyError.TheVariants as survey_error
 use Rattle.sector_image.specs.Laws.{OneOfBoth}
 use Rattle.sector_image.specs.Stands.{Stands}
 use Rattle.session_boards.specs.Laws.{SessionEnds}
@@ -24,8 +29,8 @@ use Rattle.storage_cli.specs.declared.stop.Summary.{Summary}
 use Rattle.storage_cli.specs.Sessions.{fresh_bytes, fresh_run, digest_after, line_of_session}
 use Rattle.storage_cli.specs.Texts.{session_line}
 use Rattle.storage_cli.specs.Steps.Sessions.{IsSessionStop, IsSummary}
-use Rattle.storage_cli.specs.Steps.Progress.{IsCounted}
-use Rattle.storage_cli.specs.Steps.Stops.{IsServeStop, IsCausedBy, IsFirst}
+use Rattle.storage_cli.specs.Steps.Progress.{Completes, IsCounted}
+use Rattle.storage_cli.specs.Steps.Stops.{IsDone, IsServeStop, IsCausedBy, IsFirst}
 
 -- a count that is 0 hasn't risen
 never_rose : (before now : ℕ) → now ≡ 0 → Rose before now → ⊥
@@ -46,8 +51,23 @@ session_stop (stop.Turns n) before now words bytes serves zero cause law stands 
 session_stop stop.Attach before now words bytes serves zero cause law stands first on = never_rose (before Attach) (now Attach) (zero Attach) cause
 
 -- no session has so many turns
-pub never_over : (rounds turns : ℕ) (events : List Received) → SessionEnds → rounds ≤ 1000 → turns ≡ 2 ^ 32 - 1 → AreFirst rounds events → HasNoEnd events × (length events ≡ turns) → ⊥
-never_over rounds turns events law few many first over = omega (arith, law.few rounds events first over.0, few, many, over.1)
+pub not_over : {B : Type 0} (g : Ghosts B) (budget rounds : ℕ) (before : Words) (board : B) (why : Stop) → (IsDone (Err why) → Completes g budget before ⊤ board (2 ^ 32 - 1) (Err why)) → SessionEnds → rounds ≤ 1000
+    → ((e : List Received) (f : List SentFrame) → g.has_lists board e f → AreFirst rounds e) → (n : ℕ) → why ≢ stop.Turns n
+not_over g budget rounds before board why done law few session n is =
+    let P : Stop → Type 0 = λ w. IsDone (Err w) → Completes g budget before ⊤ board (2 ^ 32 - 1) (Err w) in
+    let p = subst P is done tt in
+    omega (arith, law.few rounds p.events (session p.events p.frames (p.lists tt)) p.ends.0, few, p.ends.1)
+
+-- a survey of such a board over words that stand for bytes refuses nothing
+pub survey_answers : (e : SurveyError) (words : Words) (bytes : List ℕ) → OneOfBoth → Stands words bytes → survey.OnForeign e (λ place. Unit {0} → FirstBad words place)
+    → survey.OnSurveyFault e (λ kind. (kind ≡ Read) × Rose 0 0) → ⊥
+survey_answers (survey_error.Fault kind) words bytes law stands foreign fault = never_rose 0 0 (λ i. 0) fault.1
+survey_answers (survey_error.Foreign region offset word) words bytes law stands foreign fault = law.never_both words bytes _ stands (foreign tt)
+
+-- the run, by the budget of the sectors of a fresh image
+pub counted_at : (n : ℕ) → n ≡ SECTOR_BYTES → (served : Served) (events : List Received) (frames : List SentFrame) (words : Words) → IsCounted (budget_of n) (Ok served) fresh_bytes events frames words
+    → IsCounted (budget_of SECTOR_BYTES) (Ok served) fresh_bytes events frames words
+counted_at n same served events frames words run = subst (λ (k : ℕ). IsCounted (budget_of k) (Ok served) fresh_bytes events frames words) same run
 
 -- what the session came to
 pub summary_of : (rounds : ℕ) (served : Served) (digest whole : List ℕ) (events : List Received) (frames : List SentFrame) (words : Words)

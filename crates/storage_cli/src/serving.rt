@@ -1,6 +1,6 @@
 //! A `serve`: the image is attached, opened, served and closed.
 ghost use Rattle.std.specs.Prelude.{◌≡◌, ◌⊎◌, List, ℕ, [], IfOk, IfErr, OnOk, OnErr, ⊤};
-ghost use Rattle.flash_traits.specs.Words.{IsSectorSize};
+ghost use Rattle.flash_traits.specs.Words.{IsSectorSize, HasShape};
 ghost use Rattle.flash_traits.specs.Losses.{Received, SentFrame, Outcome};
 ghost use Rattle.flash_traits.specs.Budget.{budget_of};
 ghost use Rattle.flash_traits.specs.Calls.{Passes};
@@ -128,6 +128,8 @@ pub(crate) fn serve<B: Board>(
     ensures memory { IfErr result (λ stop.
         OnMemory stop (B.moment board.new ≡ B.moment board.old)) }
     ensures geometry { IsAttached result → IsSectorSize (B.sector_bytes board.new) }
+    ensures shape { IsAttached result → B.tells board.new
+        → HasShape (B.sector_bytes board.new) (B.words board.old) }
     ensures stops { IfErr result IsServeStop }
     ensures cause { StopsByCause (B.faults board.old) (B.faults board.new) result }
 {

@@ -1,8 +1,9 @@
-use Rattle.std.proofs.Common.{refl, Some}
+use Rattle.std.proofs.Common.{◌≡◌, ◌∙◌, ℕ, sym, subst, refl, Option, Some}
 use Rattle.command_line.specs.Commands.{line_of}
-use Rattle.command_line.specs.Lines.{line_of_words}
+use Rattle.command_line.specs.Lines.{CommandLine, gen, line_of_words}
 use Rattle.command_line.specs.declared.Command.TheVariants as command
-use Rattle.storage_cli.specs.Statuses.{texts}
+use Rattle.storage_cli.specs.Sessions.{PrintsSession}
+use Rattle.storage_cli.specs.Statuses.{texts, Prints}
 use Rattle.storage_cli.proofs.TextEndings.{cut_short_of, line_given}
 use Rattle.storage_cli.proofs.commands.run.Goals as goal
 
@@ -32,3 +33,14 @@ returns-in-Ok-Some-Report-clause-report_complete g c = λ image is nothing. c.ru
 
 pub returns-in-Err-clause-left_alone : goal.returns-in-Err-clause-left_alone
 returns-in-Err-clause-left_alone g c = λ image port turns is past told place bad. record { moment = refl; words = refl }
+
+-- the words say one number of rounds
+gen_one : (a b : ℕ) → (let line : Option CommandLine = Some (gen a) in line ≡ Some (gen b)) → a ≡ b
+gen_one a b same = cc
+
+pub returns-in-Ok-Some-Gen-clause-generated : goal.returns-in-Ok-Some-Gen-clause-generated
+returns-in-Ok-Some-Gen-clause-generated g c = λ rounds is done.
+    let a = c.in-Ok-Some-Gen in
+    let line = line_of_words (texts c.args.words.now) in
+    let given = line_given line a.field-0 a.field-0-0 (command.Gen a.rounds) a.ensures.value a.field-0-is a.field-0-0-is in
+    subst (λ (n : ℕ). PrintsSession n (Prints g.K.Sink c.args.out.now c.run_gen.new.out)) (gen_one a.rounds rounds (sym given ∙ is)) (c.run_gen.ensures.generated done)

@@ -1,12 +1,12 @@
 use Rattle.std.proofs.Common.{◌∙◌, sym, subst, ℕ, []}
 use Rattle.flash_traits.specs.Budget.{budget_of}
-use Rattle.flash_traits.specs.Words.{Words}
+use Rattle.flash_traits.specs.Words.{Words, HasShape}
 use Rattle.sector_image.specs.FirstBad.{FirstBad}
 use Rattle.sector_image.specs.Stands.{Stands}
 use Rattle.storage_cli.specs.Serving.{HasToVoid}
 use Rattle.storage_cli.specs.Steps.Progress.{IsSafeRun, Completes}
 use Rattle.storage_cli.proofs.Causes.{void_from, worn_in, foreign_in}
-use Rattle.storage_cli.proofs.Formatting.{on_ok_part}
+use Rattle.storage_cli.proofs.Formatting.{on_ok_part, size_part}
 use Rattle.storage_cli.proofs.Serves.{safe_run, completes_attached}
 use Rattle.storage_cli.proofs.serving.serve.Goals as goal
 
@@ -54,3 +54,12 @@ returns-clause-left_alone g c = λ attached told place bad.
     let same = on_ok_part c.attach.result _ ok c.attach.ensures.words (c.serve_image.ensures.told told) in
     let left = c.serve_image.ensures.left_alone told place (subst (λ (w : Words). FirstBad w place) (sym same) bad) in
     record { moment = left.moment ∙ c.attach.ensures.moment; words = left.words ∙ same }
+
+pub returns-clause-shape : goal.returns-clause-shape
+returns-clause-shape g c = λ attached told.
+    let ok = sym c.is_err.ensures.value ∙ c.if-is_err.false in
+    let t = c.serve_image.ensures.told told in
+    let same = on_ok_part c.attach.result _ ok c.attach.ensures.words t in
+    let known = size_part c.attach.result (g.B.Board.sector_bytes c.attach.new.self) (λ _. Unit {0}) ok c.attach.ensures.geometry in
+    subst (λ (n : ℕ). HasShape n (g.B.Board.words c.args.board.now)) (sym c.serve_image.ensures.geometry)
+    (subst (λ (w : Words). HasShape (g.B.Board.sector_bytes c.attach.new.self) w) same (g.met.B.Board.shape c.attach.new.self t known))
