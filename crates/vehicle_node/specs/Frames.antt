@@ -69,8 +69,8 @@ numbered issued machine (d ∷ ds) = record {
   issued = issued;
 } ∷ numbered issued (counted machine d) ds
 
--- the most lines that were issued before one of the storage acknowledgements among these answers, or
--- 0
+-- the most lines that were issued before one of the storage acknowledgements among these answers,
+-- or 0
 abbrev pub acknowledged : List Answer → ℕ
 acknowledged [] = 0
 acknowledged (answer ∷ answers) =

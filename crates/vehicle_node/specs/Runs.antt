@@ -25,8 +25,8 @@ pub record Run : Type 0 where
   pub answers : List Answer
   pub floor : ℕ
 
--- what the vehicle does next, with this arming budget: its current bytes are those of the start with
--- all lines issued so far
+-- what the vehicle does next, with this arming budget: its current bytes are those of the start
+-- with all lines issued so far
 abbrev pub did_in : ℕ → List ℕ → Run → Act → Did
 did_in budget b r act = did budget (after b r.issued) r.machine.vehicle act
 

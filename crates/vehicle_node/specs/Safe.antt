@@ -20,8 +20,8 @@ pub record SafeAt (b : List ℕ) (r : Run) (floor : ℕ) (frames : List SentFram
   pub few : kept ≤ length r.issued
   pub stands : Stands words (after b (take kept r.issued))
 
--- Of the run over these events from these bytes, with this arming budget, m events are finished, and
--- the frames of these were all sent. At most one event isn't finished.
+-- Of the run over these events from these bytes, with this arming budget, m events are finished,
+-- and the frames of these were all sent. At most one event isn't finished.
 pub record Safe (budget : ℕ) (b : List ℕ) (events : List Received) (frames : List SentFrame)
     (m : ℕ) (words : Words) : Type 0 where
   pub acts : List (List Act)

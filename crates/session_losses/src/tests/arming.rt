@@ -30,7 +30,8 @@ fn order(command: u16, param1: u32) -> Message {
     }
 }
 
-// The filter is set to 30 and all lines are flushed, in one datagram: the order comes while the lines of the set are pending.
+// The filter is set to 30 and all lines are flushed, in one datagram: the order comes while the
+// lines of the set are pending.
 fn set_and_flush(alloc: Global) -> Result<Feed, Fail>
     ensures { IfOk result (λ item. IsTrue (peers_fit (item ∷ []))) }
 {

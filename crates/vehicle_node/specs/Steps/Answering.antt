@@ -154,8 +154,8 @@ IssueDone g armed writes old board result new after_board =
     Call g (Flushing old) (WornAlone g armed old new after_board)
     (IssuedAll g armed writes old board new after_board) board result after_board
 
--- These lines are issued after those that were pending, of which a prefix was put: all, where all is
--- needed. Then these deliveries are sent by these frames.
+-- These lines are issued after those that were pending, of which a prefix was put: all, where all
+-- is needed. Then these deliveries are sent by these frames.
 pub record Answered (need : Need) (armed : Bool) (writes : List LineWrite) (ds : List Delivery)
     (old : Node) (frames : List SentFrame) (new : Node) : Type 0 where
   pub budget : new.budget ≡ old.budget
