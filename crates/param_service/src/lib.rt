@@ -26,7 +26,7 @@ use param_index::Index;
 use param_records::SET_LINES;
 use param_tree::{Table, vehicle_table};
 use replies::{reply, row_value};
-pub use requests::is_vehicle;
+pub use requests::{is_vehicle, sets_parameter};
 use requests::{PARAMETERS, row_named, row_of};
 use setting::set_row;
 use std::marker::Model;
@@ -240,7 +240,8 @@ pub fn stream(state: &mut ParamState, current: &[u8], station: u8, replies: &mut
     requires station { station < STATIONS }
     requires replies { replies.old.items ≡ [] }
     ensures next { state.new ≡ record state.old {
-        next_rows = (streamed current.now state.old.next_rows station).next_rows } }
+      next_rows = (streamed current.now state.old.next_rows station).next_rows;
+    } }
     ensures shown { AreRepliesOf (streamed current.now state.old.next_rows station).shown
         replies.new.items }
 {
