@@ -22,8 +22,8 @@ pub use laws::{acknowledges, asks_one_thing, counts_lines};
 use mav_messages::{Message, Replies, Reply, Sender, To};
 use mission_service::MissionState;
 pub use orders::Need;
-pub use param_service::sets_parameter;
 use orders::{Order, VehicleCommand, acknowledgement, command_of, need_of};
+pub use param_service::sets_parameter;
 use param_service::{ParamState, stream};
 use std::marker::Model;
 use storage_lines::Batch;
@@ -54,8 +54,9 @@ impl Model for Core {
     ghost Value = { CoreState };
 
     ghost view = { λ core. record {
-        vehicle = view_of core.stations core.parameters.next_rows core.missions core.armed;
-        index = core.parameters.index } };
+      vehicle = view_of core.stations core.parameters.next_rows core.missions core.armed;
+      index = core.parameters.index;
+    } };
 
     ghost invariant = { λ core. length core.stations ≡ 8 };
 }
