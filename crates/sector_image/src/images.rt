@@ -32,7 +32,8 @@ impl Model for Images {
 
     ghost view = { λ images. record { whole = images.whole.items; upper = images.upper.items } };
 
-    ghost invariant = { λ images. AreCompared images.whole.items images.upper.items images.coverage };
+    ghost invariant = { λ images. AreCompared images.whole.items images.upper.items
+        images.coverage };
 }
 
 impl Images {

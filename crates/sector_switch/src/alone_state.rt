@@ -11,6 +11,7 @@ ghost use Rattle.sector_image.specs.Images.{Bytes};
 ghost use Rattle.sector_image.specs.Losses.{KeepsBytes, Puts, MayPut};
 ghost use Rattle.sector_image.specs.Fits.{FitsAlone, FitsMarked, free_of};
 ghost use Rattle.sector_switch.specs.States.{with_home, marked_from};
+ghost use Rattle.sector_switch.specs.Steps.Calls.{OnlyPrograms};
 
 use crate::{Images, Kept, Marked};
 use flash_traits::{Board, Fault, Mark};
@@ -112,11 +113,7 @@ fn put_alone<B: Board>(
     ensures err { OnErr result (images.new ≡ images.old) }
     ensures changes { Changes B.Board board.old board.new (MayPut first bytes.now)
         (ByResult result (Puts first bytes.now) (MayPut first bytes.now)) }
-    ensures erases { ErasesNothing B.Board board.old board.new }
-    ensures programs { (B.moment board.new).programs ≤ raised_by (2 + length bytes.now / 2)
-        (B.moment board.old).programs }
-    ensures cause { HasCause Flash (B.faults board.old) (B.faults board.new) result }
-    ensures kind { IfErr result (λ kind. kind ≡ Flash) }
+    ensures only_programs { OnlyPrograms B.Board (2 + length bytes.now / 2) board.old result board.new }
 {
     let home = append(board, kept.home, first, bytes)?;
     images.put_lines(first, bytes);
@@ -130,10 +127,7 @@ fn mark_full<B: Board>(board: &mut B, kept: Kept) -> Result<Kept, Fault>
         FitsMarked B.Board board.new new images) }
     ensures kept { IfOk result (λ new. new ≡ marked_from kept) }
     ensures changes { Changes B.Board board.old board.new (KeepsBytes 0) (KeepsBytes 0) }
-    ensures erases { ErasesNothing B.Board board.old board.new }
-    ensures programs { (B.moment board.new).programs ≡ raised_by 1 (B.moment board.old).programs }
-    ensures cause { HasCause Flash (B.faults board.old) (B.faults board.new) result }
-    ensures kind { IfErr result (λ kind. kind ≡ Flash) }
+    ensures only_programs { OnlyPrograms B.Board 1 board.old result board.new }
 {
     set_mark(board, kept.home.region, Mark::Full)?;
     let home = Log {

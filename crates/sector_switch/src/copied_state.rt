@@ -10,6 +10,7 @@ ghost use Rattle.sector_image.specs.Losses.{KeepsBytes};
 ghost use Rattle.sector_switch.specs.States.{FitsCopied, voided_from, settled_from};
 ghost use Rattle.sector_image.specs.Fits.{FitsAlone, FitsVoided};
 ghost use Rattle.sector_switch.specs.Refusals.{OnVoidWorn, OnVoidFault};
+ghost use Rattle.sector_switch.specs.Steps.Calls.{OnlyPrograms};
 
 use crate::{Alone, Kept, Voided};
 use flash_traits::{Board, Fault};
@@ -104,10 +105,7 @@ fn void_home<B: Board>(board: &mut B, kept: Kept) -> Result<Kept, Fault>
         FitsVoided B.Board board.new new images) }
     ensures kept { IfOk result (λ new. IfSome kept.other (λ log. new ≡ voided_from kept log)) }
     ensures changes { Changes B.Board board.old board.new (KeepsBytes 1) (KeepsBytes 1) }
-    ensures erases { ErasesNothing B.Board board.old board.new }
-    ensures programs { (B.moment board.new).programs ≤ raised_by 1 (B.moment board.old).programs }
-    ensures cause { HasCause Flash (B.faults board.old) (B.faults board.new) result }
-    ensures kind { IfErr result (λ kind. kind ≡ Flash) }
+    ensures only_programs { OnlyPrograms B.Board 1 board.old result board.new }
 {
     let Some(log) = kept.other else {
         unreachable!()

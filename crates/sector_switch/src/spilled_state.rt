@@ -18,6 +18,7 @@ ghost use Rattle.sector_image.specs.Losses.{KeepsBytes, Puts, MayPut};
 ghost use Rattle.sector_image.specs.Fits.{FitsAlone, FitsSpilled, free_of, left_chunks};
 ghost use Rattle.sector_switch.specs.States.{FitsCopied, left_in, taken_of, room_of, with_appended};
 ghost use Rattle.sector_switch.specs.Refusals.{kept_in, is_whole, OnSwitchWorn, OnSwitchFault};
+ghost use Rattle.sector_switch.specs.Steps.Calls.{OnlyPrograms};
 
 use crate::{Alone, Copied, Images, Kept, VoidError};
 use flash_traits::{Board, Fault};
@@ -231,11 +232,7 @@ fn put_spilled<B: Board>(
     ensures err { OnErr result (images.new ≡ images.old) }
     ensures changes { Changes B.Board board.old board.new (MayPut first bytes.now)
         (ByResult result (Puts first bytes.now) (MayPut first bytes.now)) }
-    ensures erases { ErasesNothing B.Board board.old board.new }
-    ensures programs { (B.moment board.new).programs ≤ raised_by (2 + length bytes.now / 2)
-        (B.moment board.old).programs }
-    ensures cause { HasCause Flash (B.faults board.old) (B.faults board.new) result }
-    ensures kind { IfErr result (λ kind. kind ≡ Flash) }
+    ensures only_programs { OnlyPrograms B.Board (2 + length bytes.now / 2) board.old result board.new }
 {
     let Some(log) = kept.other else {
         unreachable!()
@@ -271,10 +268,7 @@ fn copy_one<B: Board>(
     ensures falls { OnOk result (left_to_copy images.new.whole images.new.upper None
         < left_to_copy images.old.whole images.old.upper None) }
     ensures changes { Changes B.Board board.old board.new (KeepsBytes 0) (KeepsBytes 0) }
-    ensures erases { ErasesNothing B.Board board.old board.new }
-    ensures programs { (B.moment board.new).programs ≤ raised_by 34 (B.moment board.old).programs }
-    ensures cause { HasCause Flash (B.faults board.old) (B.faults board.new) result }
-    ensures kind { IfErr result (λ kind. kind ≡ Flash) }
+    ensures only_programs { OnlyPrograms B.Board 34 board.old result board.new }
 {
     let Some(log) = kept.other else {
         unreachable!()
@@ -302,10 +296,7 @@ fn finish_one<B: Board>(board: &mut B, kept: Kept, images: &mut Images) -> Resul
     ensures falls { OnOk result
         (left_to_copy images.new.whole images.new.upper None ≤ left_chunks kept images.old) }
     ensures changes { Changes B.Board board.old board.new (KeepsBytes 0) (KeepsBytes 0) }
-    ensures erases { ErasesNothing B.Board board.old board.new }
-    ensures programs { (B.moment board.new).programs ≤ raised_by 34 (B.moment board.old).programs }
-    ensures cause { HasCause Flash (B.faults board.old) (B.faults board.new) result }
-    ensures kind { IfErr result (λ kind. kind ≡ Flash) }
+    ensures only_programs { OnlyPrograms B.Board 34 board.old result board.new }
 {
     let Some(log) = kept.other else {
         unreachable!()
@@ -337,10 +328,7 @@ fn copy_step<B: Board>(board: &mut B, kept: Kept, images: &mut Images) -> Result
         (left_to_copy images.new.whole images.new.upper None ≤ left_in kept images.old - 1) }
     ensures idle { left_in kept images.old ≡ 0 → board.new ≡ board.old }
     ensures changes { Changes B.Board board.old board.new (KeepsBytes 0) (KeepsBytes 0) }
-    ensures erases { ErasesNothing B.Board board.old board.new }
-    ensures programs { (B.moment board.new).programs ≤ raised_by 34 (B.moment board.old).programs }
-    ensures cause { HasCause Flash (B.faults board.old) (B.faults board.new) result }
-    ensures kind { IfErr result (λ kind. kind ≡ Flash) }
+    ensures only_programs { OnlyPrograms B.Board 34 board.old result board.new }
 {
     if kept.completable {
         finish_one(board, kept, images)

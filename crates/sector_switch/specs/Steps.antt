@@ -1,0 +1,2 @@
+-- What the private steps of a state say.
+pub mod Calls
