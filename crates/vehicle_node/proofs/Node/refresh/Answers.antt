@@ -1,6 +1,5 @@
 use Rattle.std.proofs.Common.{◌∙◌, ap}
 use Rattle.vehicle_core.specs.Vehicle.{Vehicle}
-use Rattle.vehicle_core.specs.CoreState.{CoreState}
 use Rattle.vehicle_node.specs.Standing.{Node}
 use Rattle.vehicle_node.specs.Steps.Inside.{view_of}
 use Rattle.vehicle_node.proofs.Node.refresh.Goals as goal
