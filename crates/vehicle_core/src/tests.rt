@@ -155,6 +155,7 @@ fn command(core: &mut Core, number: u16, param1: u32, replies: &mut Replies) -> 
         target_component: 1,
         confirmation: 0,
     };
+    core.refresh(&[0; STORAGE_BYTES]);
     core.message(
         &[0; STORAGE_BYTES],
         BUDGET,
@@ -236,6 +237,7 @@ fn set_failsafe(core: &mut Core, bytes: &mut [u8; STORAGE_BYTES], bits: u32) -> 
     };
     let mut batch = Batch::new();
     let mut replies = Replies::new();
+    core.refresh(bytes);
     core.message(bytes, BUDGET, from, true, &set, &mut batch, &mut replies);
     for write in batch.as_slice() {
         apply(write, bytes);
