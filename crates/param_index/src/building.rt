@@ -3,6 +3,7 @@
 ghost use Rattle.std.specs.Prelude.{◌≡◌, ◌≤◌, ◌+◌, ◌∷◌, [], ◌++◌, ℕ, List, Option, Some, length, slice_get};
 ghost use Rattle.param_tree.specs.declared.Var.{Var};
 ghost use Rattle.param_records.specs.Records.{Record, size_of};
+ghost use Rattle.param_records.specs.Steps.{HasMagic};
 ghost use Rattle.param_index.specs.Places.{IsIndexOf};
 ghost use Rattle.param_index.specs.Inside.{IsIndexOfRecords, place_with, HasHeader};
 
@@ -35,9 +36,10 @@ fn keep_place<const N: usize>(
 }
 
 impl<const N: usize> Index<N> {
-    /// The index of no records.
-    fn empty(table: &Table<N>) -> Index<N>
-        ensures { IsIndexOfRecords table.now [] result }
+    /// The index of a storage without records.
+    pub fn empty(table: &Table<N>) -> Index<N>
+        ensures records { IsIndexOfRecords table.now [] result }
+        ensures index { (bytes : List ℕ) → ¬ HasMagic bytes → IsIndexOf table.now bytes result }
     {
         table.rules();
         Index {

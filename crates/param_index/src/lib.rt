@@ -51,6 +51,16 @@ impl<const N: usize> Index<N> {
         *end
     }
 
+    /// The same index once more.
+    pub fn copy(&self) -> Index<N>
+        ensures { result ≡ self.now }
+    {
+        Index {
+            places: self.places,
+            end: self.end,
+        }
+    }
+
     /// What the look-up of the row's record gives in the bytes that the index is of.
     fn lookup(&self, var: u16) -> Lookup
         requires { var < N }

@@ -1,5 +1,5 @@
 -- What a message asks of the parameters.
-use Rattle.std.specs.Prelude.{◌≡◌, ℕ, zero, suc, ℤ, pos, negsuc, Bool, List, Option, Some, None, option_map, IfSome, nat_lt, nat_le, ◌==◌, ◌&&◌, if◌then◌else◌, slice_get, position}
+use Rattle.std.specs.Prelude.{◌≡◌, ℕ, zero, suc, ℤ, pos, negsuc, Bool, true, false, List, Option, Some, None, option_map, IfSome, nat_lt, nat_le, ◌==◌, ◌&&◌, if◌then◌else◌, slice_get, position}
 use Rattle.std.specs.List.{before_first}
 use Rattle.param_tree.specs.declared.Var.{Var}
 use Rattle.param_tree.specs.Rules.{has_name}
@@ -45,6 +45,11 @@ IsSetting None bits asked = asked ≡ None
 IsSetting (Some index) bits asked = (number : Option ℕ)
     × IfSome (slice_get vehicle_rows index) (λ row. IsNumberFor row bits number)
     × (asked ≡ Some (Set index number))
+
+-- the message is a PARAM_SET
+abbrev pub sets_parameter : Message → Bool
+sets_parameter (ParamSet bits system component name kind) = true
+sets_parameter _ = false
 
 -- What the message asks for. PARAM_REQUEST_READ names a row by its index or, with the index -1, by
 -- its name. PARAM_SET names it by its name; its type isn't looked at. A message with another target

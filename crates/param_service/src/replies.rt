@@ -4,24 +4,27 @@ ghost use Rattle.storage_lines.specs.declared.lines.TheConstants.{STORAGE_BYTES}
 ghost use Rattle.param_tree.specs.Rows.{vehicle_rows};
 ghost use Rattle.param_tree.specs.declared.Var.{Var};
 ghost use Rattle.param_records.specs.Values.{params_of};
+ghost use Rattle.param_index.specs.Places.{IsIndexOf};
 ghost use Rattle.param_service.specs.Requests.{parameters};
 ghost use Rattle.param_service.specs.Replies.{IsPatternOf, IsReplyOf, type_of};
 
 use crate::requests::PARAMETERS;
 use mav_messages::{Message, Reply, To};
-use param_records::{Value, value};
+use param_index::Index;
+use param_records::Value;
 use param_tree::{Kind, Table};
 use word_bits::bits_of;
 
 /// The value of a row.
-pub fn row_value(table: &Table<240>, current: &[u8], row: u16) -> Value
+pub fn row_value(table: &Table<240>, places: &Index<240>, current: &[u8], row: u16) -> Value
     requires rows { table.now ≡ vehicle_rows }
     requires size { length current.now ≡ STORAGE_BYTES }
+    requires index { IsIndexOf vehicle_rows current.now places.now }
     requires row { row < parameters }
     ensures { (r : Var) × (slice_get vehicle_rows row ≡ Some r)
         × (result ≡ params_of current.now r) }
 {
-    value(current, table, row)
+    places.value(current, table, row)
 }
 
 /// The binary32 pattern of a value.

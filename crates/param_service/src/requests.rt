@@ -2,8 +2,9 @@
 //! lack its zeros.
 ghost use Rattle.std.specs.Prelude.{◌≡◌, ◌<◌, IfSome};
 ghost use Rattle.param_tree.specs.Rows.{vehicle_rows};
-ghost use Rattle.param_service.specs.Requests.{is_for, parameters, row_named, row_of};
+ghost use Rattle.param_service.specs.Requests.{is_for, parameters, row_named, row_of, sets_parameter};
 
+use mav_messages::Message;
 use param_tree::{Table, name_in};
 
 /// How many parameters the vehicle has.
@@ -20,6 +21,13 @@ pub fn is_vehicle(system: u8, component: u8) -> bool
     ensures { result ≡ is_for system component }
 {
     system <= VEHICLE && component <= VEHICLE
+}
+
+/// Whether a message is a PARAM_SET: no other one makes the parameter protocol write.
+pub fn sets_parameter(message: &Message) -> bool
+    ensures { result ≡ sets_parameter message.now }
+{
+    matches!(message, Message::ParamSet { .. })
 }
 
 /// The row with a name.

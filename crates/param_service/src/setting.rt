@@ -7,13 +7,15 @@ ghost use Rattle.param_tree.specs.Rows.{vehicle_rows};
 ghost use Rattle.param_records.specs.declared.values.Value.{Value};
 ghost use Rattle.param_records.specs.Patterns.{IsNumberOf, IsValueOf};
 ghost use Rattle.param_records.specs.Steps.{HasMagic};
+ghost use Rattle.param_index.specs.Places.{IsIndexOf};
 ghost use Rattle.param_service.specs.Requests.{parameters};
 ghost use Rattle.param_service.specs.Service.{is_total};
 ghost use Rattle.param_service.specs.Setting.{IsSet};
 
 use crate::budget::exceeds;
 use crate::replies::row_value;
-use param_records::{SET_LINES, Value, has_magic, set};
+use param_index::Index;
+use param_records::{SET_LINES, Value, has_magic};
 use param_tree::{Kind, Table, Var};
 use storage_lines::Batch;
 use word_bits::whole_of;
@@ -44,6 +46,7 @@ fn value_of(kind: Kind, bits: u32) -> Value
 /// takes, and gives the value that it then has.
 fn set_without_limit(
     table: &Table<240>,
+    places: &mut Index<240>,
     current: &[u8],
     index: u16,
     bits: u32,
@@ -51,24 +54,27 @@ fn set_without_limit(
 ) -> Value
     requires rows { table.now ≡ vehicle_rows }
     requires size { length current.now ≡ STORAGE_BYTES }
+    requires places { IsIndexOf vehicle_rows current.now places.old }
     requires row { index < parameters }
     requires batch { batch.old.items ≡ [] }
     ensures value { IfSome (slice_get vehicle_rows index)
         (λ row. IsSet current.now None row index bits batch.new.items result) }
+    ensures places { IsIndexOf vehicle_rows (after current.now batch.new.items) places.new }
     ensures inside { All (λ write. write.line < LINES) batch.new.items }
     ensures few { length batch.new.items ≤ SET_LINES }
     ensures magic { HasMagic current.now
         → (j : ℕ) → HasMagic (after current.now (take j batch.new.items)) }
 {
     let row = table.row(index);
+    let old = row_value(table, places, current, index);
     if is_total(&row) {
-        return row_value(table, current, index);
+        return old;
     }
-    match set(current, table, index, bits, batch) {
+    match places.set(current, table, index, bits, batch) {
         Ok(()) if has_magic(current) => value_of(row.kind, bits),
         // Without the magic the storage has no records: the row has its default still.
-        Ok(()) => row_value(table, current, index),
-        Err(_) => row_value(table, current, index),
+        Ok(()) => old,
+        Err(_) => old,
     }
 }
 
@@ -76,6 +82,7 @@ fn set_without_limit(
 /// needed than may be issued, and gives the value that it then has.
 pub fn set_row(
     table: &Table<240>,
+    places: &mut Index<240>,
     current: &[u8],
     allowed: Option<u32>,
     index: u16,
@@ -84,20 +91,24 @@ pub fn set_row(
 ) -> Value
     requires rows { table.now ≡ vehicle_rows }
     requires size { length current.now ≡ STORAGE_BYTES }
+    requires places { IsIndexOf vehicle_rows current.now places.old }
     requires row { index < parameters }
     requires batch { batch.old.items ≡ [] }
     ensures value { IfSome (slice_get vehicle_rows index)
         (λ row. IsSet current.now allowed row index bits batch.new.items result) }
     ensures within { (limit : ℕ) → allowed ≡ Some limit → length batch.new.items ≤ limit }
+    ensures places { IsIndexOf vehicle_rows (after current.now batch.new.items) places.new }
     ensures inside { All (λ write. write.line < LINES) batch.new.items }
     ensures few { length batch.new.items ≤ SET_LINES }
     ensures magic { HasMagic current.now
         → (j : ℕ) → HasMagic (after current.now (take j batch.new.items)) }
 {
-    let value = set_without_limit(table, current, index, bits, batch);
+    let before = places.copy();
+    let value = set_without_limit(table, places, current, index, bits, batch);
     if exceeds(allowed, batch) {
         batch.clear();
-        return row_value(table, current, index);
+        *places = before;
+        return row_value(table, places, current, index);
     }
     value
 }

@@ -50,6 +50,7 @@ fn shows_failsafe(reply: &Reply, bits: u32) -> bool {
 fn reads_a_row_by_a_name_of_sixteen_bytes(rt: HostRuntime) {
     let mut state = ParamState::new();
     let bytes = [0; STORAGE_BYTES];
+    state.refresh(&bytes);
     let request = Message::ParamRequestRead {
         param_index: -1,
         target_system: 1,
@@ -99,6 +100,7 @@ fn sets_a_byte_to_what_it_holds_alone(rt: HostRuntime) {
         (0xC300_0000, 0xC300_0000, Some(0x80)),
         (0, 0, Some(0)),
     ] {
+        state.refresh(&bytes);
         let mut batch = Batch::new();
         let mut replies = Replies::new();
         answer(
@@ -123,9 +125,12 @@ fn sets_a_byte_to_what_it_holds_alone(rt: HostRuntime) {
 #[test]
 fn issues_the_lines_of_a_new_record(rt: HostRuntime) {
     let mut batch = Batch::new();
+    let mut state = ParamState::new();
+    let bytes = formatted();
+    state.refresh(&bytes);
     answer(
-        &mut ParamState::new(),
-        &formatted(),
+        &mut state,
+        &bytes,
         None,
         SENDER,
         &failsafe(0),
@@ -156,6 +161,7 @@ fn issues_the_lines_of_a_new_record(rt: HostRuntime) {
 fn sends_the_whole_list_in_thirty_stretches(rt: HostRuntime) {
     let mut state = ParamState::new();
     let bytes = [0; STORAGE_BYTES];
+    state.refresh(&bytes);
     let request = Message::ParamRequestList {
         target_system: 0,
         target_component: 0,
@@ -171,6 +177,7 @@ fn sends_the_whole_list_in_thirty_stretches(rt: HostRuntime) {
     );
     for stretch in 0..30usize {
         let mut replies = Replies::new();
+        state.refresh(&bytes);
         stream(&mut state, &bytes, SENDER.station, &mut replies);
         assert_eq!(rt; replies.len(), 8);
         for (i, reply) in replies.as_slice().iter().enumerate() {
@@ -184,6 +191,7 @@ fn sends_the_whole_list_in_thirty_stretches(rt: HostRuntime) {
     }
     for station in [SENDER.station, 4] {
         let mut replies = Replies::new();
+        state.refresh(&bytes);
         stream(&mut state, &bytes, station, &mut replies);
         assert!(rt; replies.is_empty());
     }

@@ -2,7 +2,7 @@
 //! a list. Each protocol is a service of its own below.
 #![tactic(auto)]
 
-ghost use Rattle.std.specs.Prelude.{◌≡◌, ◌<◌, ◌≤◌, ◌+◌, [], All, length, take, List, ℕ, true, false, Option, None, IsFalse, IfSome};
+ghost use Rattle.std.specs.Prelude.{◌≡◌, ◌⊎◌, ◌<◌, ◌≤◌, ◌+◌, [], All, length, take, List, ℕ, true, false, Option, None, IsFalse, IfSome};
 ghost use Rattle.storage_lines.specs.declared.lines.TheConstants.{STORAGE_BYTES, LINES, BATCH_LINES};
 ghost use Rattle.storage_lines.specs.Lines.{after};
 ghost use Rattle.param_records.specs.Steps.{HasMagic};
@@ -10,6 +10,7 @@ ghost use Rattle.param_service.specs.Requests as parameters;
 ghost use Rattle.mission_service.specs.Requests as missions;
 ghost use Rattle.mission_service.specs.Replies.{target_of};
 ghost use Rattle.vehicle_core.specs.Orders as orders;
+ghost use Rattle.vehicle_core.specs.CoreState.{CoreState, IsIndexed};
 ghost use Rattle.vehicle_core.specs.Vehicle.{Asked, Asks, Alive, new_vehicle, is_heard, is_armed, speaks_v2, allowed_of, issues};
 ghost use Rattle.vehicle_core.specs.Acts.{Said, Beat, Stream, SinceArming, heard_as, nothing, asked_of, ordered, did};
 ghost use Rattle.vehicle_core.specs.Replies.{AreRepliesOf, IsAnswered, Tells};
@@ -22,6 +23,7 @@ use mav_messages::{Message, Replies, Reply, Sender, To};
 use mission_service::MissionState;
 pub use orders::{Need, Order, VehicleCommand};
 use orders::{acknowledgement, command_of, need_of};
+pub use param_service::sets_parameter;
 use param_service::{ParamState, stream};
 use std::marker::Model;
 use storage_lines::Batch;
@@ -34,7 +36,8 @@ struct StationState {
 }
 
 /// The vehicle's state: its eight stations, the lists that are being sent, the uploads, and, where
-/// it is armed, how many lines were issued since.
+/// it is armed, how many lines were issued since. Beside it, where the parameter records stand in
+/// the storage.
 #[derive(Drop)]
 pub struct Core {
     stations: [StationState; 8],
@@ -45,12 +48,15 @@ pub struct Core {
 
 impl Model for Core {
     ghost use Rattle.std.specs.Prelude.{◌≡◌, length};
-    ghost use Rattle.vehicle_core.specs.Vehicle.{Vehicle};
+    ghost use Rattle.vehicle_core.specs.CoreState.{CoreState};
     ghost use Rattle.vehicle_core.specs.Inside.{view_of};
 
-    ghost Value = { Vehicle };
+    ghost Value = { CoreState };
 
-    ghost view = { λ core. view_of core.stations core.parameters core.missions core.armed };
+    ghost view = { λ core. record {
+      vehicle = view_of core.stations core.parameters.next_rows core.missions core.armed;
+      index = core.parameters.index;
+    } };
 
     ghost invariant = { λ core. length core.stations ≡ 8 };
 }
@@ -76,6 +82,7 @@ fn heartbeat(armed: bool) -> Message
 fn asks_parameters(message: &Message) -> bool
     ensures parameters { result ≡ false → parameters.Asks message.now None }
     ensures missions { result ≡ true → missions.Asks message.now None }
+    ensures sets { result ≡ false → parameters.sets_parameter message.now ≡ false }
 {
     match message {
         Message::ParamRequestRead { .. }
@@ -86,9 +93,10 @@ fn asks_parameters(message: &Message) -> bool
 }
 
 impl Core {
-    /// No station was heard, and the vehicle isn't armed.
+    /// No station was heard, the vehicle isn't armed, and the storage has no parameter records.
     pub fn new() -> Core
-        ensures { result ≡ new_vehicle }
+        ensures vehicle { result.vehicle ≡ new_vehicle }
+        ensures index { (bytes : List ℕ) → ¬ HasMagic bytes → IsIndexed bytes result }
     {
         let unheard = StationState {
             heard: false,
@@ -102,9 +110,18 @@ impl Core {
         }
     }
 
+    /// Finds the places of the parameter records of these storage bytes.
+    pub fn refresh(&mut self, current: &[u8])
+        requires { length current.now ≡ STORAGE_BYTES }
+        ensures vehicle { self.new.vehicle ≡ self.old.vehicle }
+        ensures index { IsIndexed current.now self.new }
+    {
+        self.parameters.refresh(current);
+    }
+
     /// How many lines may still be issued while the vehicle is armed.
     fn allowed(&self, budget: u32) -> Option<u32>
-        ensures { result ≡ allowed_of budget self.now }
+        ensures { result ≡ allowed_of budget self.now.vehicle }
     {
         match self.armed {
             Some(since) => Some(budget.saturating_sub(since)),
@@ -114,8 +131,10 @@ impl Core {
 
     /// Counts lines that are issued.
     fn count(&mut self, batch: &Batch)
-        requires { IfSome self.old.armed (λ since. since + length batch.now.items ≤ u32.MAX) }
-        ensures { self.new ≡ issues self.old batch.now.items }
+        requires { IfSome self.old.vehicle.armed
+            (λ since. since + length batch.now.items ≤ u32.MAX) }
+        ensures { self.new ≡
+            record self.old { vehicle = issues self.old.vehicle batch.now.items } }
     {
         if let Some(since) = self.armed {
             self.armed = Some(since + batch.len() as u32);
@@ -133,15 +152,18 @@ impl Core {
         replies: &mut Replies,
     )
         requires size { length current.now ≡ STORAGE_BYTES }
+        requires index { IsIndexed current.now self.old }
         requires station { from.station < 8 }
         requires order { orders.command_of message.now ≡ None }
         requires batch { batch.old.items ≡ [] }
         requires replies { replies.old.items ≡ [] }
         ensures answered { (asked : Option Asked) × Asks (target_of from) message.now asked ×
-            IsAnswered (asked_of budget current.now self.old from.station asked)
-            self.new batch.new.items replies.new.items orders.Nothing }
-        ensures armed { self.new.armed ≡ self.old.armed }
-        ensures allowed { IfSome (allowed_of budget self.old)
+            IsAnswered (asked_of budget current.now self.old.vehicle from.station asked)
+            self.new.vehicle batch.new.items replies.new.items orders.Nothing }
+        ensures index { (parameters.sets_parameter message.now ≡ true) ⊎ (batch.new.items ≡ [])
+            → IsIndexed (after current.now batch.new.items) self.new }
+        ensures armed { self.new.vehicle.armed ≡ self.old.vehicle.armed }
+        ensures allowed { IfSome (allowed_of budget self.old.vehicle)
             (λ limit. length batch.new.items ≤ limit) }
         ensures inside { All (λ write. write.line < LINES) batch.new.items }
         ensures few { length batch.new.items ≤ BATCH_LINES }
@@ -175,8 +197,9 @@ impl Core {
     /// Does what a command orders, but for what is needed before its answer is sent.
     fn obey(&mut self, from: Sender, command: VehicleCommand, replies: &mut Replies) -> Need
         requires { replies.old.items ≡ [] }
-        ensures { IsAnswered (ordered self.old from.station (target_of from) command.number
-            command.order) self.new [] replies.new.items result }
+        ensures answered { IsAnswered (ordered self.old.vehicle from.station (target_of from)
+            command.number command.order) self.new.vehicle [] replies.new.items result }
+        ensures index { self.new.index ≡ self.old.index }
     {
         match command.order {
             Order::Arm => self.armed = Some(self.armed.unwrap_or(0)),
@@ -204,13 +227,18 @@ impl Core {
         replies: &mut Replies,
     ) -> Need
         requires size { length current.now ≡ STORAGE_BYTES }
+        requires index { IsIndexed current.now self.old }
         requires station { from.station < 8 }
         requires batch { batch.old.items ≡ [] }
         requires replies { replies.old.items ≡ [] }
         ensures answered { (asked : Option Asked) × Asks (target_of from) message.now asked ×
-            IsAnswered (did budget current.now self.old (Said from.station (heard_as v2 asked)))
-            self.new batch.new.items replies.new.items result }
-        ensures within { SinceArming budget self.old.armed self.new.armed batch.new.items result }
+            IsAnswered
+            (did budget current.now self.old.vehicle (Said from.station (heard_as v2 asked)))
+            self.new.vehicle batch.new.items replies.new.items result }
+        ensures index { (parameters.sets_parameter message.now ≡ true) ⊎ (batch.new.items ≡ [])
+            → IsIndexed (after current.now batch.new.items) self.new }
+        ensures within { SinceArming budget self.old.vehicle.armed self.new.vehicle.armed
+            batch.new.items result }
         ensures inside { All (λ write. write.line < LINES) batch.new.items }
         ensures few { length batch.new.items ≤ BATCH_LINES }
         ensures magic { HasMagic current.now → (j : ℕ) →
@@ -231,9 +259,10 @@ impl Core {
         requires station { station < 8 }
         requires replies { replies.old.items ≡ [] }
         ensures next { (budget : ℕ) →
-            self.new ≡ (did budget [] self.old (Beat station)).vehicle }
+            self.new.vehicle ≡ (did budget [] self.old.vehicle (Beat station)).vehicle }
+        ensures index { self.new.index ≡ self.old.index }
         ensures told { (budget : ℕ) →
-            AreRepliesOf (did budget [] self.old (Beat station)).told replies.new.items }
+            AreRepliesOf (did budget [] self.old.vehicle (Beat station)).told replies.new.items }
     {
         if self.heard(station) {
             replies.push(Reply {
@@ -247,11 +276,13 @@ impl Core {
     /// The next values of the list that is being sent to a station.
     pub fn stream(&mut self, current: &[u8], station: u8, replies: &mut Replies)
         requires size { length current.now ≡ STORAGE_BYTES }
+        requires index { IsIndexed current.now self.old }
         requires station { station < 8 }
         requires replies { replies.old.items ≡ [] }
-        ensures next { (budget : ℕ) →
-            self.new ≡ (did budget current.now self.old (Stream station)).vehicle }
-        ensures told { (budget : ℕ) → AreRepliesOf (did budget current.now self.old
+        ensures next { (budget : ℕ) → self.new.vehicle
+            ≡ (did budget current.now self.old.vehicle (Stream station)).vehicle }
+        ensures index { self.new.index ≡ self.old.index }
+        ensures told { (budget : ℕ) → AreRepliesOf (did budget current.now self.old.vehicle
             (Stream station)).told replies.new.items }
     {
         if !self.heard(station) {
@@ -264,7 +295,7 @@ impl Core {
     pub fn streams(&self, station: u8) -> bool
         requires { station < 8 }
         ensures { IsFalse result → (budget : ℕ) (bytes : List ℕ) →
-            did budget bytes self.now (Stream station) ≡ nothing self.now }
+            did budget bytes self.now.vehicle (Stream station) ≡ nothing self.now.vehicle }
     {
         let heard = self.heard(station);
         if !heard {
@@ -275,7 +306,7 @@ impl Core {
 
     /// Whether the vehicle is armed.
     pub fn armed(&self) -> bool
-        ensures { result ≡ is_armed self.now }
+        ensures { result ≡ is_armed self.now.vehicle }
     {
         self.armed.is_some()
     }
@@ -283,7 +314,7 @@ impl Core {
     /// Whether a right frame came from the station.
     pub fn heard(&self, station: u8) -> bool
         requires { station < 8 }
-        ensures { result ≡ is_heard self.now station }
+        ensures { result ≡ is_heard self.now.vehicle station }
     {
         self.stations[station as usize].heard
     }
@@ -291,7 +322,7 @@ impl Core {
     /// Whether the station's last right frame was of version 2.
     pub fn version_two(&self, station: u8) -> bool
         requires { station < 8 }
-        ensures { result ≡ speaks_v2 self.now station }
+        ensures { result ≡ speaks_v2 self.now.vehicle station }
     {
         self.stations[station as usize].v2
     }

@@ -20,6 +20,7 @@ fn ask(core: &mut Core, station: u8, version_two: bool)
         target_system: 1,
         target_component: 1,
     };
+    core.refresh(&[0; STORAGE_BYTES]);
     core.message(
         &[0; STORAGE_BYTES],
         BUDGET,
@@ -36,6 +37,7 @@ fn next_values(core: &mut Core, station: u8) -> Replies
     requires { station < 8 }
 {
     let mut replies = Replies::new();
+    core.refresh(&[0; STORAGE_BYTES]);
     core.stream(&[0; STORAGE_BYTES], station, &mut replies);
     replies
 }
@@ -100,6 +102,7 @@ fn asks_for_the_next_item_of_an_upload_again(rt: HostRuntime) {
     };
     let mut batch = Batch::new();
     let mut replies = Replies::new();
+    core.refresh(&[0; STORAGE_BYTES]);
     core.message(
         &[0; STORAGE_BYTES],
         BUDGET,
@@ -152,6 +155,7 @@ fn command(core: &mut Core, number: u16, param1: u32, replies: &mut Replies) -> 
         target_component: 1,
         confirmation: 0,
     };
+    core.refresh(&[0; STORAGE_BYTES]);
     core.message(
         &[0; STORAGE_BYTES],
         BUDGET,
@@ -233,6 +237,7 @@ fn set_failsafe(core: &mut Core, bytes: &mut [u8; STORAGE_BYTES], bits: u32) -> 
     };
     let mut batch = Batch::new();
     let mut replies = Replies::new();
+    core.refresh(bytes);
     core.message(bytes, BUDGET, from, true, &set, &mut batch, &mut replies);
     for write in batch.as_slice() {
         apply(write, bytes);

@@ -11,6 +11,7 @@ use Rattle.flash_traits.proofs.Moments.{weaker}
 use Rattle.storage_lines.specs.declared.lines.LineWrite.{LineWrite}
 use Rattle.storage_lines.specs.Lines.{after, put_line}
 use Rattle.sector_image.specs.Stands.{Stands}
+use Rattle.param_index.specs.Places.{Places}
 use Rattle.block_store.specs.Store.{durable_of, guard_ahead, is_alone, HasSpare}
 use Rattle.block_store.specs.Store as store
 use Rattle.dirty_lines.specs.Lines.{Lines, current_of}
@@ -18,6 +19,7 @@ use Rattle.dirty_lines.specs.Losses.{IsWornForNext}
 use Rattle.vehicle_core.specs.declared.orders.Need.{Need}
 use Rattle.vehicle_core.specs.declared.orders.Need.TheVariants.{Nothing}
 use Rattle.vehicle_core.specs.Vehicle.{Vehicle, is_armed}
+use Rattle.vehicle_core.specs.CoreState.{CoreState}
 use Rattle.vehicle_core.specs.Acts.{Act, Did, did, nothing}
 use Rattle.vehicle_node.specs.declared.NodeError.{NodeError}
 use Rattle.vehicle_node.specs.Frames.{Machine, Answer, Delivery, deliveries, counted_all, AreFramesOf}
@@ -213,19 +215,71 @@ module _ {B : Type 0} (g : Ghosts B) where
             still = λ armed. record { erases = x.still.erases ∙ (settled.still armed).erases ∙ (all.still armed).erases };
           }
 
+  -- what was answered doesn't say which places are kept
+  module _ (need : Need) (armed : Bool) (writes : List LineWrite) (ds : List Delivery) (node : Node) (before : Places) (a : B) (mid : Node) (after_index : Places) (c : B) where
+    any_losses : (s o : Outcome) → Answering need writes ds (record node { index = before }) s o → Answering need writes ds node s o
+    any_losses s o x = record {
+      events = x.events;
+      sent = x.sent;
+      frames = x.frames;
+      first = x.first;
+      put = x.put;
+      rest = x.rest;
+      split = x.split;
+      whole = x.whole;
+      stands = x.stands;
+      guard = x.guard;
+    }
+
+    any_answered : AnsweredAs g need armed writes ds (record node { index = before }) a mid c → AnsweredAs g need armed writes ds node a (record mid { index = after_index }) c
+    any_answered x = record {
+      frames = x.frames;
+      answered = record {
+        budget = x.answered.budget;
+        machine = x.answered.machine;
+        rests = x.answered.rests;
+        put = x.answered.put;
+        split = x.answered.split;
+        durable = x.answered.durable;
+        few = x.answered.few;
+        whole = x.answered.whole;
+        frames_are = x.answered.frames_are;
+        frame_count = x.answered.frame_count;
+        line_count = x.answered.line_count;
+        ahead = x.answered.ahead;
+        spare = x.answered.spare;
+        alone = x.answered.alone;
+      };
+      sent = x.sent;
+      still = x.still;
+    }
+
+    pub any_index : (r : Result ⊤ NodeError) → AnswerDone g need armed writes ds (record node { index = before }) a r mid c → AnswerDone g need armed writes ds node a r (record mid { index = after_index }) c
+    any_index r d =
+        let A = Answering need writes ds node in
+        record {
+          losses = weaker A A d.losses (λ s o was x. any_losses s o x) (λ s o was x. any_losses s o x);
+          lists = d.lists;
+          done = on_ok r (AnsweredAs g need armed writes ds (record node { index = before }) a mid c) (AnsweredAs g need armed writes ds node a (record mid { index = after_index }) c) any_answered d.done;
+          stopped = d.stopped;
+        }
+
   -- the same of what a node has inside
-  pub act_of : (s : Inside) (node : Node) (act : Act) (core : Vehicle) (need : Need) (armed : Bool) (writes : List LineWrite) (a : B) (r : Result ⊤ NodeError) (new : Node) (c : B)
-      → view_of s ≡ node → core ≡ (did_at (view_of s) act).vehicle → need ≡ (did_at (view_of s) act).need → armed ≡ armed_over (view_of s) act → writes ≡ (did_at (view_of s) act).writes
-      → AnswerDone g need armed writes (deliveries core (did_at (view_of s) act).told) (view_of (record s { core = core })) a r new c
-      → ActDone g node a act r new c
-  act_of s node act core need armed writes a r new c is vehicle needs over lines done =
+  pub act_of : (s : Inside) (node : Node) (act : Act) (core : CoreState) (need : Need) (armed : Bool) (writes : List LineWrite) (a : B) (r : Result ⊤ NodeError) (mid new : Node) (c : B)
+      → view_of s ≡ node → core.vehicle ≡ (did_at (view_of s) act).vehicle → need ≡ (did_at (view_of s) act).need → armed ≡ armed_over (view_of s) act → writes ≡ (did_at (view_of s) act).writes
+      → AnswerDone g need armed writes (deliveries core.vehicle (did_at (view_of s) act).told) (view_of (record s { core = core })) a r mid c
+      → new ≡ record mid { index = new.index } → ActDone g node a act r new c
+  act_of s node act core need armed writes a r mid new c is vehicle needs over lines done same =
       let old = view_of s in
       let told = (did_at old act).told in
-      subst (λ (n : Node). ActDone g n a act r new c) is
-      (subst (λ (v : Vehicle). AnswerDone g (did_at old act).need (armed_over old act) (did_at old act).writes (deliveries v told) (view_of (record s { core = v })) a r new c) vehicle
-      (subst (λ (l : List LineWrite). AnswerDone g (did_at old act).need (armed_over old act) l (deliveries core told) (view_of (record s { core = core })) a r new c) lines
-      (subst (λ (b : Bool). AnswerDone g (did_at old act).need b writes (deliveries core told) (view_of (record s { core = core })) a r new c) over
-      (subst (λ (n : Need). AnswerDone g n armed writes (deliveries core told) (view_of (record s { core = core })) a r new c) needs done))))
+      let at : Vehicle → Node = λ v. record (view_of s) { machine = record (view_of s).machine { vehicle = v } } in
+      subst (λ (n : Node). ActDone g node a act r n c) (sym same)
+      (subst (λ (n : Node). ActDone g n a act r (record mid { index = new.index }) c) is
+      (subst (λ (v : Vehicle). AnswerDone g (did_at old act).need (armed_over old act) (did_at old act).writes (deliveries v told) (at v) a r (record mid { index = new.index }) c) vehicle
+      (any_index (did_at old act).need (armed_over old act) (did_at old act).writes (deliveries core.vehicle told) (at core.vehicle) core.index a mid new.index c r
+      (subst (λ (l : List LineWrite). AnswerDone g (did_at old act).need (armed_over old act) l (deliveries core.vehicle told) (view_of (record s { core = core })) a r mid c) lines
+      (subst (λ (b : Bool). AnswerDone g (did_at old act).need b writes (deliveries core.vehicle told) (view_of (record s { core = core })) a r mid c) over
+      (subst (λ (n : Need). AnswerDone g n armed writes (deliveries core.vehicle told) (view_of (record s { core = core })) a r mid c) needs done))))))
 
 module _ {B : Type 0} (g : Ghosts B) (reads : (b : B) (o : Outcome) → g.now b o → g.tells b × (o.words ≡ g.words b)) where
   answer_nothing : (node : Node) (armed : Bool) (board : B) → store.Fits g board node.lines.store → AnswerDone g Nothing armed [] [] node board (Ok tt) node board
@@ -274,5 +328,5 @@ module _ {B : Type 0} (g : Ghosts B) (reads : (b : B) (o : Outcome) → g.now b 
       (answer_nothing node (armed_in node && armed_in node) board fits.store)
 
 -- the same of what a node has inside
-pub did_nothing : (s : Inside) (node : Node) (act : Act) → view_of s ≡ node → ((budget : ℕ) (bytes : List ℕ) → did budget bytes s.core act ≡ nothing s.core) → did_at node act ≡ nothing node.machine.vehicle
+pub did_nothing : (s : Inside) (node : Node) (act : Act) → view_of s ≡ node → ((budget : ℕ) (bytes : List ℕ) → did budget bytes s.core.vehicle act ≡ nothing s.core.vehicle) → did_at node act ≡ nothing node.machine.vehicle
 did_nothing s node act is none = subst (λ (n : Node). did_at n act ≡ nothing n.machine.vehicle) is (none s.budget (current_of s.lines))

@@ -56,6 +56,7 @@ use Rattle.vehicle_node.specs.Steps.Opening.{error_of, IsBooted}
 use Rattle.vehicle_node.proofs.RunLaws.{run_of_none, safe_by}
 use Rattle.vehicle_node.proofs.At.{current_is}
 use Rattle.vehicle_node.proofs.ActAnswers.{counts_more}
+use Rattle.vehicle_node.proofs.Fitting.{puts_index}
 use Rattle.vehicle_node.proofs.Events.{since_put, rises_still}
 use Rattle.vehicle_node.proofs.Finishing.{Leaves}
 use Rattle.block_store.proofs.StoreLaws.{fits_stands, fits_guard}
@@ -206,6 +207,7 @@ booted_fits g budget lines node last board booted w fits is = record {
   store = fits;
   budget = w.budget ∙ booted.budget_is ∙ is;
   armed = subst (λ (m : Machine). IfSome m.vehicle.armed (HasRoomSince last)) (sym (w.machine ∙ booted.machine)) tt;
+  index = puts_index false node last w booted.index;
 }
 
 pub booted_unarmed : (budget : ℕ) (lines : Lines) (node last : Node) → IsBooted budget lines node → OnlyPuts false node last → armed_in last ≡ false

@@ -112,6 +112,7 @@ module _ {B : Type 0} (g : Ghosts B) where
   pub lines_none : (node : Node) (a : B) → KeepsLines g node a (Ok tt) node a
   lines_none node a = record {
     lines = refl;
+    index = refl;
     words = record { geometry = refl; told = λ told. told; content = λ told. refl };
     never_memory = tt;
     never_foreign = tt;
@@ -123,6 +124,7 @@ module _ {B : Type 0} (g : Ghosts B) where
   pub lines_then : (old : Node) (a : B) (mid : Node) (b : B) (r : Result ⊤ NodeError) (new : Node) (c : B) → KeepsLines g old a (Ok tt) mid b → KeepsLines g mid b r new c → KeepsLines g old a r new c
   lines_then old a mid b (Ok v) new c first second = record {
     lines = second.lines ∙ first.lines;
+    index = second.index ∙ first.index;
     words = words_then a b c first.words second.words;
     never_memory = tt;
     never_foreign = tt;
@@ -132,6 +134,7 @@ module _ {B : Type 0} (g : Ghosts B) where
   }
   lines_then old a mid b (Err e) new c first second = record {
     lines = second.lines ∙ first.lines;
+    index = second.index ∙ first.index;
     words = words_then a b c first.words second.words;
     never_memory = second.never_memory;
     never_foreign = second.never_foreign;

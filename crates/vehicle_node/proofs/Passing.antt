@@ -28,6 +28,10 @@ pub on_err : {T E : Type 0} (r : Result T E) (P : Type 0) → P → OnErr r P
 on_err (Ok x) P p = tt
 on_err (Err e) P p = p
 
+pub on_any : {T E : Type 0} (r : Result T E) (P : Type 0) → P → OnOk r P
+on_any (Ok x) P p = p
+on_any (Err e) P p = tt
+
 -- what an error says, where that is more than enough
 pub worn_more : (e : NodeError) (P Q : Type 0) → (P → Q) → OnWorn e (λ count. P) → OnWorn e (λ count. Q)
 worn_more node_error.Memory P Q more worn = tt

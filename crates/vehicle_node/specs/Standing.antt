@@ -7,9 +7,11 @@ use Rattle.flash_traits.specs.Losses.{Received, End, SentFrame, Outcome, After, 
 pub use Rattle.flash_traits.specs.Counts.{counts, raised_by}
 use Rattle.storage_lines.specs.declared.lines.LineWrite.{LineWrite}
 use Rattle.storage_lines.specs.Lines.{after}
+use Rattle.param_tree.specs.Rows.{vehicle_rows}
+use Rattle.param_index.specs.Places.{Places, IsIndexOf}
 use Rattle.block_store.specs.Store as store
 use Rattle.block_store.specs.Store.{durable_of, guard_ahead, is_alone, HasSpare}
-use Rattle.dirty_lines.specs.Lines.{Lines}
+use Rattle.dirty_lines.specs.Lines.{Lines, current_of}
 use Rattle.vehicle_core.specs.Vehicle.{is_armed}
 use Rattle.vehicle_core.specs.Acts.{Act}
 use Rattle.vehicle_node.specs.Arming.{NoneFlushes, is_armed_after_all, IsArmedThroughout, IsArmedOnce}
@@ -23,7 +25,7 @@ use Rattle.vehicle_node.specs.declared.TheConstants.{ROOM_FROM}
 
 -- What contracts see of a node: the arming budget of its board, its pending lines over the store,
 -- the vehicle's state with the sequence numbers, each station's bytes that don't make a whole frame
--- yet, and how many frames it has sent and lines issued.
+-- yet, how many frames it has sent and lines issued, and the places of the parameter records.
 pub record Node : Type 0 where
   pub budget : ℕ
   pub lines : Lines
@@ -31,6 +33,7 @@ pub record Node : Type 0 where
   pub rests : List (List ℕ)
   pub frames : ℕ
   pub issued : ℕ
+  pub index : Places
 
 -- the node's vehicle is armed
 abbrev pub armed_in : Node → Bool
@@ -47,11 +50,17 @@ pub record HasRoomSince (node : Node) (since : ℕ) : Type 0 where
 abbrev pub HasRoomWhereArmed : Node → Type 0
 HasRoomWhereArmed node = IfSome node.machine.vehicle.armed (HasRoomSince node)
 
--- The store fits the board, and the budget is that of the board's sectors.
+-- the places are those of the storage bytes with all pending lines
+abbrev pub IsIndexed : Node → Type 0
+IsIndexed node = IsIndexOf vehicle_rows (current_of node.lines) node.index
+
+-- The store fits the board, the budget is that of the board's sectors, and the places are those of
+-- the current bytes.
 pub record Fits {B : Type 0} (g : Ghosts B) (b : B) (node : Node) : Type 0 where
   pub store : store.Fits g b node.lines.store
   pub budget : node.budget ≡ budget_of (g.sector_bytes b)
   pub armed : HasRoomWhereArmed node
+  pub index : IsIndexed node
 
 -- one sector has all bytes
 abbrev pub IsAlone : Node → Type 0

@@ -1,8 +1,9 @@
 //! One act of an event: its lines are issued, all lines are put where it asks for that, and then
 //! its frames are sent.
-ghost use Rattle.std.specs.Prelude.{◌≡◌, ◌<◌, ◌≤◌, List, ℕ, All, length, Option, OnOk, true};
+ghost use Rattle.std.specs.Prelude.{◌≡◌, ◌⊎◌, ◌<◌, ◌≤◌, [], List, ℕ, All, length, Option, OnOk, true};
 ghost use Rattle.flash_traits.specs.declared.numbers.TheConstants.{STATIONS};
 ghost use Rattle.storage_lines.specs.declared.lines.TheConstants.{BATCH_LINES};
+ghost use Rattle.param_service.specs.Requests as parameters;
 ghost use Rattle.mav_frames.specs.Cut.{IsFrame};
 ghost use Rattle.mav_frames.specs.Frames.{IsReadFrom};
 ghost use Rattle.block_store.specs.Store as store;
@@ -12,7 +13,7 @@ ghost use Rattle.vehicle_core.specs.Vehicle.{Asked, Asks, Told};
 ghost use Rattle.vehicle_core.specs.Acts.{Beat, Said, Stream, heard_as};
 ghost use Rattle.vehicle_core.specs.Replies.{AreRepliesOf};
 ghost use Rattle.vehicle_node.specs.Frames.{deliveries};
-ghost use Rattle.vehicle_node.specs.Standing.{Fits};
+ghost use Rattle.vehicle_node.specs.Standing.{Fits, IsIndexed};
 ghost use Rattle.vehicle_node.specs.Steps.Calls.{Keeps, OfAnswer};
 ghost use Rattle.vehicle_node.specs.Steps.Answering.{HasSpareFor, AnswerDone, ActDone, FrameDone};
 ghost use Rattle.vehicle_node.specs.Steps.Sending.{IsInside};
@@ -25,7 +26,7 @@ use flash_traits::Board;
 use mav_frames::{Frame, heading_of, message, message_in};
 use mav_messages::{Message, Replies, Sender};
 use storage_lines::Batch;
-use vehicle_core::Need;
+use vehicle_core::{Need, sets_parameter};
 
 impl Node {
     /// Issues the lines of an act, does what it needs, and then sends its replies.
@@ -45,6 +46,7 @@ impl Node {
         ensures done { (told : List Told) → AreRepliesOf told replies.now.items → AnswerDone B.Board
             need armed batch.now.items (deliveries self.old.machine.vehicle told) self.old board.old
             result self.new board.new }
+        ensures index { OnOk result (self.new.index ≡ self.old.index) }
         ensures fits { OnOk result (store.Fits B.Board board.new self.new.lines.store) }
         ensures keeps { Keeps B.Board OfAnswer board.old result board.new }
     {
@@ -52,6 +54,20 @@ impl Node {
         self.issued = self.issued.saturating_add(batch.len() as u64);
         self.settle(board, need, armed)?;
         self.send_replies(board, replies)
+    }
+
+    /// Finds the places of the parameter records anew where a message issued lines, but for those
+    /// of a PARAM_SET, which the core has followed.
+    fn refresh(&mut self, message: &Message, batch: &Batch)
+        requires { (parameters.sets_parameter message.now ≡ true) ⊎ (batch.now.items ≡ [])
+            → IsIndexed self.old }
+        ensures same { self.new ≡ record self.old { index = self.new.index } }
+        ensures index { IsIndexed self.new }
+    {
+        if sets_parameter(message) || batch.is_empty() {
+            return;
+        }
+        self.core.refresh(self.lines.current());
     }
 
     /// Answers a message of a station.
@@ -84,7 +100,9 @@ impl Node {
         );
         let is_armed = self.core.armed();
         let armed = was_armed && is_armed;
-        self.answer(board, need, armed, &batch, &replies)
+        self.answer(board, need, armed, &batch, &replies)?;
+        self.refresh(message, &batch);
+        Ok(())
     }
 
     /// Answers a frame of a station, where it has a message.

@@ -98,10 +98,12 @@ pub(crate) fn booted(budget: u32, mut lines: DirtyLines) -> Node
     ensures { IsBooted budget lines result }
 {
     let issued = issue_boot(&mut lines);
+    let mut core = Core::new();
+    core.refresh(lines.current());
     Node {
         budget,
         lines,
-        core: Core::new(),
+        core,
         cutters: [
             Cutter::new(),
             Cutter::new(),

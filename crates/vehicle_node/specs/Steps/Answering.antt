@@ -49,6 +49,7 @@ pub record OnlyPuts (armed : Bool) (old new : Node) : Type 0 where
   pub rests : new.rests ≡ old.rests
   pub frame_count : new.frames ≡ old.frames
   pub line_count : new.issued ≡ old.issued
+  pub index : new.index ≡ old.index
   pub put : List LineWrite
   pub split : put ++ new.lines.pending ≡ old.lines.pending
   pub durable : durable_of new.lines.store ≡ after (durable_of old.lines.store) put
@@ -137,6 +138,7 @@ pub record Issued (armed : Bool) (old : Node) (writes : List LineWrite) (new : N
   pub few : length old.lines.pending ≤ ROOM_FROM → put ≡ []
   pub frame_count : new.frames ≡ old.frames
   pub line_count : new.issued ≡ old.issued
+  pub index : new.index ≡ old.index
   pub ahead : ceiling new ≤ ceiling old + 2 * length writes
   pub spare : armed ≡ true → (more : ℕ) → HasSpareFor old (length writes + more)
       → HasSpareFor new more

@@ -70,10 +70,11 @@ pub record Keeps {B : Type 0} (g : Ghosts B) (kinds : Fault → Type 0) (board :
       × Rose (g.faults board kind) (g.faults after_board kind)))
   pub counts : (k : Fault) → g.faults board k ≤ g.faults after_board k
 
--- A call that only sends keeps lines and words, and stops only where a sending failed.
+-- A call that only sends keeps lines, places and words, and stops only where a sending failed.
 pub record KeepsLines {B : Type 0} (g : Ghosts B) (old : Node) (board : B)
     (result : Result ⊤ NodeError) (new : Node) (after_board : B) : Type 0 where
   pub lines : new.lines ≡ old.lines
+  pub index : new.index ≡ old.index
   pub words : KeepsWords g.sector_bytes g.tells g.words board after_board
   pub never_memory : IfErr result (λ e. OnMemory e ⊥)
   pub never_foreign : IfErr result (λ e. OnForeign e (λ place. ⊥))

@@ -6,8 +6,9 @@ abbrev pub view_of : Inside → Node
 view_of s = record {
   budget = s.budget;
   lines = s.lines;
-  machine = record { vehicle = s.core; sequences = s.sequences };
+  machine = record { vehicle = s.core.vehicle; sequences = s.sequences };
   rests = s.cutters;
   frames = s.frames;
   issued = s.issued;
+  index = s.core.index;
 }

@@ -7,7 +7,7 @@ use Rattle.dirty_lines.specs.Lines.{Lines, lines_of}
 use Rattle.vehicle_node.specs.Reading.{no_rests}
 use Rattle.vehicle_node.specs.Frames.{new_machine}
 use Rattle.vehicle_node.specs.Runs.{boot}
-use Rattle.vehicle_node.specs.Standing.{Node, counts}
+use Rattle.vehicle_node.specs.Standing.{Node, IsIndexed, counts}
 use Rattle.vehicle_node.specs.declared.NodeError.{NodeError}
 use Rattle.vehicle_node.specs.declared.NodeError.TheVariants as node_error
 
@@ -18,7 +18,7 @@ error_of (open_error.Fault kind) = node_error.Fault kind
 error_of (open_error.Foreign region offset word) = node_error.Foreign region offset word
 error_of (open_error.Worn count) = node_error.Worn count
 
--- The lines of boot are pending, and nothing else has happened.
+-- The lines of boot are pending, the places are those with them, and nothing else has happened.
 pub record IsBooted (budget : ℕ) (lines : Lines) (node : Node) : Type 0 where
   pub budget_is : node.budget ≡ budget
   pub lines_are : node.lines ≡ lines_of lines.store (boot (durable_of lines.store))
@@ -26,3 +26,4 @@ pub record IsBooted (budget : ℕ) (lines : Lines) (node : Node) : Type 0 where
   pub rests : node.rests ≡ no_rests
   pub frames : node.frames ≡ 0
   pub issued : node.issued ≡ counts (length (boot (durable_of lines.store)))
+  pub index : IsIndexed node

@@ -37,6 +37,7 @@ pub record Counted (station : ℕ) (old new : Node) : Type 0 where
   pub rests : new.rests ≡ old.rests
   pub frame_count : new.frames ≡ raised_by 1 old.frames
   pub line_count : new.issued ≡ old.issued
+  pub index : new.index ≡ old.index
 
 -- these frames were sent, and nothing else happened
 pub record SendsFrames (frames : List SentFrame) (from o : Outcome) : Type 0 where

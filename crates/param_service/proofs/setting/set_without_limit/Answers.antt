@@ -15,9 +15,9 @@ returns-then-is_total-clause-value c =
     let bytes = c.args.current.now in
     let row = c.row-row.result in
     let is : slice_get vehicle_rows c.args.index ≡ Some row = subst (λ (l : List Var). slice_get l c.args.index ≡ Some row) c.requires.rows c.row-row.ensures.row in
-    let value = value_there (slice_get vehicle_rows c.args.index) row bytes c.row_value.result is c.row_value.ensures in
-    from_some (slice_get vehicle_rows c.args.index) (λ r. IsSet bytes None r c.args.index c.args.bits c.args.batch.now.items c.row_value.result) row is
-    (total_kept bytes c.args.index c.args.bits row c.args.batch.now.items c.row_value.result is (sym c.is_total.ensures ∙ c.if-is_total.true) c.requires.batch value)
+    let value = value_there (slice_get vehicle_rows c.args.index) row bytes c.row_value-old.result is c.row_value-old.ensures in
+    from_some (slice_get vehicle_rows c.args.index) (λ r. IsSet bytes None r c.args.index c.args.bits c.args.batch.now.items c.row_value-old.result) row is
+    (total_kept bytes c.args.index c.args.bits row c.args.batch.now.items c.row_value-old.result is (sym c.is_total.ensures ∙ c.if-is_total.true) c.requires.batch value)
 
 pub returns-in-Ok-clause-value : goal.returns-in-Ok-clause-value
 returns-in-Ok-clause-value c =
@@ -55,10 +55,10 @@ returns-in-Ok-2-clause-value c =
     let is : slice_get vehicle_rows c.args.index ≡ Some row = subst (λ (l : List Var). slice_get l c.args.index ≡ Some row) c.requires.rows c.row-row.ensures.row in
     let small : IsBytes bytes = λ i. omega (arith, c.type_inv.current i) in
     let t : Taken bytes row c.args.index c.args.bits writes = taken_by c.args.table.now bytes c.args.batch.now.items row c.args.index c.args.bits writes c.in-Ok-2.field-0 c.requires.rows c.requires.batch small c.row-row.ensures.row c.in-Ok-2.ensures.ok c.in-Ok-2.ensures.full c.in-Ok-2.ensures.steps c.in-Ok-2.ensures.value in
-    let was = value_there (slice_get vehicle_rows c.args.index) row bytes c.row_value-in-Ok-2.result is c.row_value-in-Ok-2.ensures in
+    let was = value_there (slice_get vehicle_rows c.args.index) row bytes c.row_value-old.result is c.row_value-old.ensures in
     let value = was ∙ old_value bytes row c.args.index c.args.bits writes t (λ m. both_ways _ c.if-has_magic.false (c.has_magic.ensures.1 m)) in
-    from_some (slice_get vehicle_rows c.args.index) (λ r. IsSet bytes None r c.args.index c.args.bits writes c.row_value-in-Ok-2.result) row is
-    (taken_set bytes row c.args.index c.args.bits writes c.row_value-in-Ok-2.result is t (sym c.is_total.ensures ∙ c.if-is_total.false) value)
+    from_some (slice_get vehicle_rows c.args.index) (λ r. IsSet bytes None r c.args.index c.args.bits writes c.row_value-old.result) row is
+    (taken_set bytes row c.args.index c.args.bits writes c.row_value-old.result is t (sym c.is_total.ensures ∙ c.if-is_total.false) value)
 
 pub returns-in-Ok-2-clause-inside : goal.returns-in-Ok-2-clause-inside
 returns-in-Ok-2-clause-inside c = lines_inside c.args.batch.now.items c.set.new.batch.items c.requires.batch c.in-Ok-2.ensures.inside
@@ -72,7 +72,7 @@ returns-in-Err-clause-value c =
     let writes = c.set.new.batch.items in
     let row = c.row-row.result in
     let is : slice_get vehicle_rows c.args.index ≡ Some row = subst (λ (l : List Var). slice_get l c.args.index ≡ Some row) c.requires.rows c.row-row.ensures.row in
-    let value = value_there (slice_get vehicle_rows c.args.index) row bytes c.row_value-in-Err.result is c.row_value-in-Err.ensures in
+    let value = value_there (slice_get vehicle_rows c.args.index) row bytes c.row_value-old.result is c.row_value-old.ensures in
     let same : writes ≡ c.args.batch.now.items = ap (λ (b : ArrayVec LineWrite). b.items) c.in-Err.ensures.err in
-    from_some (slice_get vehicle_rows c.args.index) (λ r. IsSet bytes None r c.args.index c.args.bits writes c.row_value-in-Err.result) row is
-    (refused_by c.args.table.now bytes c.args.batch.now.items row c.args.index c.args.bits writes c.row_value-in-Err.result c.in-Err.field-0 c.requires.rows c.requires.batch c.row-row.ensures.row c.in-Err.ensures.range c.in-Err.ensures.full c.in-Err.ensures.only same value)
+    from_some (slice_get vehicle_rows c.args.index) (λ r. IsSet bytes None r c.args.index c.args.bits writes c.row_value-old.result) row is
+    (refused_by c.args.table.now bytes c.args.batch.now.items row c.args.index c.args.bits writes c.row_value-old.result c.in-Err.field-0 c.requires.rows c.requires.batch c.row-row.ensures.row c.in-Err.ensures.range c.in-Err.ensures.full c.in-Err.ensures.only same value)

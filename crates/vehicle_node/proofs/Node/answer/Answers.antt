@@ -11,7 +11,7 @@ use Rattle.vehicle_node.specs.Steps.Sending.{SendDone}
 use Rattle.block_store.proofs.StoreLaws.{fits_attached}
 use Rattle.vehicle_node.proofs.ActAnswers.{counted_as, issue_short, settle_short, answer_done}
 use Rattle.vehicle_node.proofs.Keeping.{flash_answers, keeps_then, keeps_wider, keeps_sending}
-use Rattle.vehicle_node.proofs.Passing.{error_passed}
+use Rattle.vehicle_node.proofs.Passing.{on_any, error_passed}
 use Rattle.vehicle_node.proofs.Node.answer.Goals as goal
 
 pub issue-requires-clause-room : goal.issue-requires-clause-room
@@ -59,6 +59,18 @@ returns-clause-done g c = λ told are.
     (c.send_replies.ensures.done told are) in
     answer_done b g.met.B.Board.reads c.args.need c.args.armed c.args.batch.now.items (deliveries old.machine.vehicle told) old c.args.board.now mid counted c.issue.new.board c.in_ok-issue.ensures.done is
     last c.settle.new.board c.in_ok-settle.ensures.done c.in_ok-settle.ensures.fits c.send_replies.result c.send_replies.new.self c.send_replies.new.board sent c.send_replies.ensures.keeps.never_worn
+
+pub returns-clause-index : goal.returns-clause-index
+returns-clause-index g c =
+    let s = c.self.inside in
+    let mid = c.issue.new.self in
+    let counted : Node = view_of (record s { issued = c.saturating_add-self-inside.result }) in
+    let is : counted ≡ record mid { issued = raised_by (length c.args.batch.now.items) mid.issued } =
+    counted_as s mid c.saturating_add-self-inside.result c.len.result (length c.args.batch.now.items) c.self.view_is (omega (arith, c.saturating_add-self-inside.ensures)) c.len.ensures.value in
+    let issued : IssuedAll g.B.Board c.args.armed c.args.batch.now.items c.args.self.now c.args.board.now mid c.issue.new.board = c.in_ok-issue.ensures.done.done in
+    let settled : SettledAll g.B.Board c.args.need c.args.armed counted c.issue.new.board c.settle.new.self c.settle.new.board = c.in_ok-settle.ensures.done.done in
+    on_any c.send_replies.result (c.send_replies.new.self.index ≡ c.args.self.now.index)
+    (c.send_replies.ensures.keeps.index ∙ settled.settled.puts.index ∙ ap (λ (n : Node). n.index) is ∙ issued.issued.index)
 
 pub send_replies-requires-clause-attached : goal.send_replies-requires-clause-attached
 send_replies-requires-clause-attached g c = fits_attached g.B.Board c.settle.new.board c.settle.new.self.lines.store c.in_ok-settle.ensures.fits

@@ -1,10 +1,15 @@
-use Rattle.std.proofs.Common.{ℕ, List, sym, ap, subst, ◌∙◌}
+use Rattle.std.proofs.Common.{ℕ, List, refl, sym, ap, subst, ◌∙◌}
 use Rattle.dirty_lines.specs.Lines.{current_of}
+use Rattle.param_tree.specs.Rows.{vehicle_rows}
+use Rattle.param_index.specs.Places.{Places, IsIndexOf}
+use Rattle.vehicle_core.specs.declared.orders.Need.TheVariants.{Nothing}
 use Rattle.vehicle_core.specs.Vehicle.{is_armed}
 use Rattle.vehicle_core.specs.Acts.{Stream, did}
 use Rattle.vehicle_core.specs.Replies.{AreRepliesOf}
+use Rattle.vehicle_node.specs.Frames.{deliveries}
+use Rattle.vehicle_node.specs.Steps.Inside.{view_of}
 use Rattle.vehicle_node.proofs.ActAnswers.{act_of}
-use Rattle.vehicle_node.proofs.Fitting.{fits_act, quiet_room, quiet_over}
+use Rattle.vehicle_node.proofs.Fitting.{fits_act, quiet_room, quiet_over, quiet_index, indexed_inside}
 use Rattle.vehicle_node.proofs.Orders.{did_arms, did_needs}
 use Rattle.vehicle_node.proofs.StationsTold.{act_told, replies_inside, stream_writes}
 use Rattle.vehicle_node.proofs.Node.stream.Goals as goal
@@ -13,13 +18,13 @@ pub answer-requires-clause-stations : goal.answer-requires-clause-stations
 answer-requires-clause-stations g c =
     let s = c.self.inside in
     let act = Stream c.args.station in
-    replies_inside (did s.budget c.current.result.now s.core act).told c.stream.new.replies.items (c.stream.ensures.told s.budget) (act_told s.budget c.current.result.now s.core act c.requires.station)
+    replies_inside (did s.budget c.current.result.now s.core.vehicle act).told c.stream.new.replies.items (c.stream.ensures.told s.budget) (act_told s.budget c.current.result.now s.core.vehicle act c.requires.station)
 
 pub answer-requires-clause-room : goal.answer-requires-clause-room
 answer-requires-clause-room g c =
     let s = c.self.inside in
     quiet_room g.B.Board c.args.board.now s c.args.self.now c.armed-armed.result c.stream.new.self c.new.result.items c.self.view_is c.requires.fits c.armed-armed.ensures
-    (ap is_armed (c.stream.ensures.next s.budget) ∙ did_arms s.budget c.current.result.now s.core (Stream c.args.station)) c.new.ensures
+    (ap is_armed (c.stream.ensures.next s.budget) ∙ did_arms s.budget c.current.result.now s.core.vehicle (Stream c.args.station)) c.new.ensures
 
 pub returns-clause-done : goal.returns-clause-done
 returns-clause-done g c =
@@ -27,12 +32,21 @@ returns-clause-done g c =
     let act = Stream c.args.station in
     let bytes = current_of s.lines in
     let is = c.current.ensures.bytes in
-    let next = c.stream.ensures.next s.budget ∙ ap (λ (l : List ℕ). (did s.budget l s.core act).vehicle) is in
-    let are : AreRepliesOf (did s.budget bytes s.core act).told c.stream.new.replies.items = subst (λ (l : List ℕ). AreRepliesOf (did s.budget l s.core act).told c.stream.new.replies.items) is (c.stream.ensures.told s.budget) in
-    act_of g.B.Board s c.args.self.now act c.stream.new.self _ c.armed-armed.result c.new.result.items c.args.board.now c.answer.result c.answer.new.self c.answer.new.board c.self.view_is
-    next (sym (did_needs s.budget bytes s.core act)) (c.armed-armed.ensures ∙ ap is_armed next ∙ quiet_over (is_armed s.core) (is_armed (did s.budget bytes s.core act).vehicle) (did_arms s.budget bytes s.core act))
-    (c.new.ensures ∙ sym (stream_writes s.budget bytes s.core c.args.station)) (c.answer.ensures.done (did s.budget bytes s.core act).told are)
+    let next = c.stream.ensures.next s.budget ∙ ap (λ (l : List ℕ). (did s.budget l s.core.vehicle act).vehicle) is in
+    let are : AreRepliesOf (did s.budget bytes s.core.vehicle act).told c.stream.new.replies.items = subst (λ (l : List ℕ). AreRepliesOf (did s.budget l s.core.vehicle act).told c.stream.new.replies.items) is (c.stream.ensures.told s.budget) in
+    act_of g.B.Board s c.args.self.now act c.stream.new.self _ c.armed-armed.result c.new.result.items c.args.board.now c.answer.result c.answer.new.self c.answer.new.self c.answer.new.board c.self.view_is
+    next (sym (did_needs s.budget bytes s.core.vehicle act)) (c.armed-armed.ensures ∙ ap is_armed next ∙ quiet_over (is_armed s.core.vehicle) (is_armed (did s.budget bytes s.core.vehicle act).vehicle) (did_arms s.budget bytes s.core.vehicle act))
+    (c.new.ensures ∙ sym (stream_writes s.budget bytes s.core.vehicle c.args.station)) (c.answer.ensures.done (did s.budget bytes s.core.vehicle act).told are) refl
 
 pub returns-clause-fits : goal.returns-clause-fits
 returns-clause-fits g c =
-    fits_act g.B.Board c.args.board.now c.answer.new.board c.args.self.now (Stream c.args.station) c.answer.result c.answer.new.self c.requires.fits (returns-clause-done g c) c.answer.ensures.fits c.answer.ensures.keeps.geometry
+    let s = c.self.inside in
+    let told = (did s.budget c.current.result.now s.core.vehicle (Stream c.args.station)).told in
+    let are = c.stream.ensures.told s.budget in
+    fits_act g.B.Board c.args.board.now c.answer.new.board c.args.self.now (Stream c.args.station) c.answer.result c.answer.new.self c.requires.fits (returns-clause-done g c) c.answer.ensures.fits
+    (quiet_index g.B.Board Nothing c.armed-armed.result c.new.result.items (deliveries c.stream.new.self.vehicle told) (view_of (record s { core = c.stream.new.self })) c.args.board.now c.answer.new.self c.answer.new.board c.answer.result
+    (c.answer.ensures.done told are) c.new.ensures c.answer.ensures.index (subst (λ (i : Places). IsIndexOf vehicle_rows (current_of s.lines) i) (sym c.stream.ensures.index) (indexed_inside s c.args.self.now (current_of s.lines) c.self.view_is refl c.requires.fits.index)))
+    c.answer.ensures.keeps.geometry
+
+pub stream-requires-clause-index : goal.stream-requires-clause-index
+stream-requires-clause-index g c = indexed_inside c.self.inside c.args.self.now c.current.result.now c.self.view_is c.current.ensures.bytes c.requires.fits.index
