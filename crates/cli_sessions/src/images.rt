@@ -202,12 +202,9 @@ fn next_random(random: &mut u64) -> u32 {
 }
 
 // Puts a word that is no mark, no signature and no header somewhere into a span. Gives its place.
-fn put_foreign(image: &mut Vec<u8>, span: Span, random: &mut u64) -> Option<(u32, u16)>
-    requires { length image.old.items ≡ 49152 }
-    ensures { length image.new.items ≡ 49152 }
-{
+fn put_foreign(image: &mut Vec<u8>, span: Span, random: &mut u64) -> Option<(u32, u16)> {
     let (part, first, end) = span;
-    if first >= end || end > 8_192 {
+    if first >= end || end > 8_192 || image.len() != 49_152 {
         return None;
     }
     let offset = first + next_random(random) % (end - first);
