@@ -261,12 +261,12 @@ class Bench:
         programs, size = (int(number) / rounds for number in FLASH.search(written).groups())
         print(f"\nIn each of {rounds} rounds {programs:.1f} programs and {size:.1f} bytes of entries.")
 
-    def instructions(self, image, requests, count):
+    def instructions(self, source, requests, count, *program):
         """The user instructions of a server over a copy of an image that answers so many of the requests."""
-        port = free_port()
+        image, port = self.copy(source, self.folder), free_port()
         counter = ["valgrind", "--tool=callgrind", f"--callgrind-out-file={os.devnull}"]
-        words = [*counter, self.program, "serve", self.copy(image, self.folder), "--port", str(port)]
-        with Server([], words, port, stderr=subprocess.PIPE) as server:
+        words = [word.format(port=port, image=image) for word in program]
+        with Server([], [*counter, *words], port, stderr=subprocess.PIPE) as server:
             self.seconds(server, free_port(), 1, count, requests)
             with socket.socket(socket.AF_INET, socket.SOCK_DGRAM) as station:
                 station.sendto(END, ("127.0.0.1", port))
@@ -278,18 +278,21 @@ class Bench:
             raise SystemExit("measure: valgrind is needed")
         last = self.names[-1]
         cases = {
-            "PARAM_REQUEST_READ, index 0": [mavlink.request_read(0)],
-            "PARAM_REQUEST_READ, the last index": [mavlink.request_read(len(self.names) - 1)],
-            "PARAM_REQUEST_READ, the last name": [mavlink.request_read(-1, name=last)],
-            "PARAM_SET, the last name": [mavlink.set_value(last, value) for value in (1.0, 2.0)],
+            "a read of index 0": [mavlink.request_read(0)],
+            "a read of the last index": [mavlink.request_read(len(self.names) - 1)],
+            "a read of the last name": [mavlink.request_read(-1, name=last)],
+            "a set of the last name": [mavlink.set_value(last, value) for value in (1.0, 2.0)],
         }
-        table("User instructions of an event", ["nothing stored", f"{self.taken} values stored", "of nothing stored"])
+        ours = [self.program, "serve", "{image}", "--port", "{port}"]
+        bare = [self.path("floor"), "{port}", self.path("names"), "{image}", "sync"]
+        servers = [(self.empty, ours), (self.stored, ours), (self.stored, bare)]
+        table("User instructions of an event", ["nothing stored", f"{self.taken} values stored", "of nothing", "C server"])
         for title, frames in cases.items():
             requests = self.requests("requests", frames)
             few, many = COUNTED
-            runs = [[self.instructions(image, requests, count) for count in COUNTED] for image in (self.empty, self.stored)]
-            bare, full = ((long - short) / (many - few) for short, long in runs)
-            row(title, [f"{bare:.0f}", f"{full:.0f}", f"{full / bare:.2f}"])
+            runs = [[self.instructions(source, requests, count, *words) for count in COUNTED] for source, words in servers]
+            events = [(long - short) / (many - few) for short, long in runs]
+            row(title, [f"{events[0]:.0f}", f"{events[1]:.0f}", f"{events[1] / events[0]:.2f}", f"{events[2]:.0f}"])
 
 
 def table(title, columns):
