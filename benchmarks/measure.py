@@ -29,6 +29,7 @@ from decimals import as_float  # noqa: E402
 from server import END, free_port  # noqa: E402
 from vehicle import Vehicle  # noqa: E402
 
+PARTS = ("trips", "lists", "sets", "openings", "session", "counts")
 TRIPS = 20_000  # round trips of a turn
 SETS = 1_000
 OPENINGS = 20  # starts of a turn
@@ -317,7 +318,7 @@ def main():
     parser.add_argument("--turns", type=int, default=7, help="turns of each measurement (7)")
     parser.add_argument("--disk", default=".", help="a folder on a disk (the current one)")
     parser.add_argument("--memory", default="/dev/shm", help="a folder in memory (/dev/shm)")
-    parser.add_argument("--only", choices=("trips", "lists", "sets", "openings", "session", "counts"), help="one part alone")
+    parser.add_argument("--only", choices=PARTS, help="one part alone")
     words = parser.parse_args()
     with tempfile.TemporaryDirectory(dir=words.memory) as folder, tempfile.TemporaryDirectory(dir=words.disk) as disk:
         bench = Bench(words, folder)
