@@ -3,13 +3,17 @@
 
     benchmarks/measure.py PROGRAM [--turns N] [--disk FOLDER] [--memory FOLDER] [--only PART]
 
-Parts: trips, lists, sets, openings. Each number of the program stands beside one of C from the same run: `echo.c` sends
-back what comes, and `floor.c` is the least server that does the same work. Program and C take turns on a processor of
-their own, the client has another; a number is the median of the turns. It needs a C compiler (cc) and compares nothing.
+Parts: trips, lists, sets, openings, session, counts. Each number of the program stands beside one of C from the same
+run: `echo.c` sends back what comes, `floor.c` is the least server that does the same work, and `gen_floor.c` makes the
+writes of a generated session. Program and C take turns on a processor of their own, the client has another; a number is
+the median of the turns. The part counts has instructions of the program alone. It needs a C compiler (cc), and for the
+counts valgrind. It compares nothing but the lines and the digest of the session.
 """
 import argparse
 import os
 import platform
+import re
+import shutil
 import socket
 import statistics
 import subprocess
@@ -25,9 +29,15 @@ from decimals import as_float  # noqa: E402
 from server import END, free_port  # noqa: E402
 from vehicle import Vehicle  # noqa: E402
 
+PARTS = ("trips", "lists", "sets", "openings", "session", "counts")
 TRIPS = 20_000  # round trips of a turn
 SETS = 1_000
 OPENINGS = 20  # starts of a turn
+SESSIONS = (1, 1_000)  # rounds of the generated sessions
+COUNTED = (200, 1_200)  # requests of two runs whose instructions are counted
+RESULT = re.compile("lines ([0-9]+) sha256 ([0-9a-f]{64})")  # of a generated session
+COLLECTED = re.compile(b"Collected : ([0-9]+)")  # of callgrind
+FLASH = re.compile("programs ([0-9]+) bytes ([0-9]+)")
 PAUSE = 20e-6  # seconds between two tries
 PATIENCE = 20  # seconds until an answer is given up
 LIST_PATIENCE = 60  # seconds until a list is given up
@@ -60,9 +70,9 @@ def wait(port):
 class Server:
     """A server in the background, which has answered once."""
 
-    def __init__(self, pin, words, port):
+    def __init__(self, pin, words, port, stderr=None):
         self.port = port
-        self.process = subprocess.Popen([*pin, *words], stdout=subprocess.DEVNULL)
+        self.process = subprocess.Popen([*pin, *words], stdout=subprocess.DEVNULL, stderr=stderr)
         wait(port)
 
     def __enter__(self):
@@ -78,7 +88,7 @@ class Bench:
         self.program, self.turns = os.path.abspath(words.program), words.turns
         self.folder = folder
         self.pin_server, self.pin_client, self.pin_both = processors()
-        for name in ("echo", "client", "floor", "opener"):
+        for name in ("echo", "client", "floor", "gen_floor", "opener"):
             source = os.path.join(HERE, name + ".c")
             subprocess.run(["cc", "-O2", "-o", self.path(name), source], check=True)
 
@@ -226,6 +236,65 @@ class Bench:
             bare = self.opening(source, folders[0][1], self.path("floor"), "{port}", self.path("names"), "{image}")
             row(state, [f"{statistics.median(times):.2f}" for times in (*took, bare)])
 
+    def session_run(self, *words):
+        """The milliseconds of processor time that a session takes, from the start of its program, and what it prints."""
+        with subprocess.Popen(words, stdout=subprocess.PIPE, text=True) as process:
+            printed = process.stdout.read()
+            _, status, usage = os.wait4(process.pid, 0)
+            process.returncode = os.waitstatus_to_exitcode(status)
+        if process.returncode != 0:
+            raise SystemExit(f"measure: {words} ends with {process.returncode}")
+        return 1000 * (usage.ru_utime + usage.ru_stime), printed
+
+    def session(self):
+        table("A generated session, ms of processor time", ["gen", "C: its writes", "of C"])
+        for rounds in SESSIONS:
+            ours, bare = [], []
+            for _ in range(self.turns):
+                took, printed = self.session_run(self.program, "gen", str(rounds))
+                ours.append(took)
+                took, written = self.session_run(self.path("gen_floor"), str(rounds))
+                bare.append(took)
+                if RESULT.search(printed).groups() != RESULT.search(written).groups():
+                    raise SystemExit(f"measure: {printed!r} and {written!r}")
+            mine, other = statistics.median(ours), statistics.median(bare)
+            row(f"{rounds} rounds" if rounds > 1 else "1 round", [f"{mine:.2f}", f"{other:.2f}", f"{other / mine:.3f}"])
+        programs, size = (int(number) / rounds for number in FLASH.search(written).groups())
+        print(f"\nIn each of {rounds} rounds {programs:.1f} programs and {size:.1f} bytes of entries.")
+
+    def instructions(self, source, requests, count, *program):
+        """The user instructions of a server over a copy of an image that answers so many of the requests."""
+        image, port = self.copy(source, self.folder), free_port()
+        counter = ["valgrind", "--tool=callgrind", f"--callgrind-out-file={os.devnull}"]
+        words = [word.format(port=port, image=image) for word in program]
+        with Server([], [*counter, *words], port, stderr=subprocess.PIPE) as server:
+            self.seconds(server, free_port(), 1, count, requests)
+            with socket.socket(socket.AF_INET, socket.SOCK_DGRAM) as station:
+                station.sendto(END, ("127.0.0.1", port))
+            _, told = server.process.communicate(timeout=PATIENCE)
+        return int(COLLECTED.search(told).group(1))
+
+    def counts(self):
+        if shutil.which("valgrind") is None:
+            raise SystemExit("measure: valgrind is needed")
+        last = self.names[-1]
+        cases = {
+            "a read of index 0": [mavlink.request_read(0)],
+            "a read of the last index": [mavlink.request_read(len(self.names) - 1)],
+            "a read of the last name": [mavlink.request_read(-1, name=last)],
+            "a set of the last name": [mavlink.set_value(last, value) for value in (1.0, 2.0)],
+        }
+        ours = [self.program, "serve", "{image}", "--port", "{port}"]
+        bare = [self.path("floor"), "{port}", self.path("names"), "{image}", "sync"]
+        servers = [(self.empty, ours), (self.stored, ours), (self.stored, bare)]
+        table("User instructions of an event", ["nothing stored", f"{self.taken} values stored", "of nothing", "C server"])
+        for title, frames in cases.items():
+            requests = self.requests("requests", frames)
+            few, many = COUNTED
+            runs = [[self.instructions(source, requests, count, *words) for count in COUNTED] for source, words in servers]
+            events = [(long - short) / (many - few) for short, long in runs]
+            row(title, [f"{events[0]:.0f}", f"{events[1]:.0f}", f"{events[1] / events[0]:.2f}", f"{events[2]:.0f}"])
+
 
 def table(title, columns):
     print(f"\n| {title} | " + " | ".join(columns) + " |")
@@ -249,7 +318,7 @@ def main():
     parser.add_argument("--turns", type=int, default=7, help="turns of each measurement (7)")
     parser.add_argument("--disk", default=".", help="a folder on a disk (the current one)")
     parser.add_argument("--memory", default="/dev/shm", help="a folder in memory (/dev/shm)")
-    parser.add_argument("--only", choices=("trips", "lists", "sets", "openings"), help="one part alone")
+    parser.add_argument("--only", choices=PARTS, help="one part alone")
     words = parser.parse_args()
     with tempfile.TemporaryDirectory(dir=words.memory) as folder, tempfile.TemporaryDirectory(dir=words.disk) as disk:
         bench = Bench(words, folder)
@@ -262,6 +331,8 @@ def main():
             "lists": bench.lists,
             "sets": lambda: bench.sets(folders),
             "openings": lambda: bench.openings(folders),
+            "session": bench.session,
+            "counts": bench.counts,
         }
         for name, part in parts.items():
             if words.only in (None, name):
