@@ -12,7 +12,16 @@ use Rattle.vehicle_node.specs.Safe.{Safe}
 use Rattle.script_lines.specs.Script.{ScriptLine, LossNow}
 use Rattle.script_board.specs.Taking.{events_of}
 use Rattle.script_board.specs.Printing.{frame_lines, loss_line}
-use Rattle.script_board.specs.Hearing.{loses, HasNoLossNow}
+use Rattle.script_board.specs.Hearing.{loses, HasNoLossNow, HasNoEnd, EndsWithEnd}
+use Rattle.replay.specs.Breaks.{OnRefused, BetweenEvents}
+use Rattle.replay.specs.declared.Stop.{Stop}
+use Rattle.replay.specs.declared.Break.TheVariants.{Stopped}
+
+-- whichever lines of the script were taken before, now these were taken too
+abbrev pub AreNext : (List ScriptLine → Type 0) → (List ScriptLine → Type 0) → List ScriptLine
+    → Type 0
+AreNext took_before took_now lines =
+    (before : List ScriptLine) → took_before before → took_now (before ++ lines)
 
 -- One run that a loss ended: the lines of the script that it took, the frames that it sent, how
 -- many of its events were finished, and the words that the loss left.
@@ -30,12 +39,14 @@ EndsSo true lines finished = (front : List ScriptLine) × (lines ≡ front ++ Lo
     × HasNoLossNow front × (finished ≡ length (events_of lines))
 EndsSo false lines finished = HasNoLossNow lines
 
--- It began with the bytes of the words before, and what the loss left is safe.
+-- It began with the bytes of the words before, and what the loss left is safe. It came to no end of
+-- the script.
 pub record IsRun (budget : ℕ) (before : Words) (r : Ran) : Type 0 where
   pub bytes : List ℕ
   pub began : Stands before bytes
   pub safe : Safe budget bytes (events_of r.lines) r.frames r.finished r.words
   pub ends : EndsSo r.between_calls r.lines r.finished
+  pub no_end : HasNoEnd r.lines
 
 -- The first run begins with these words, and each later one with those that the loss before it
 -- left; at last these are left.
@@ -72,22 +83,21 @@ pub record IsWhole (budget : ℕ) (b : List ℕ) (events : List Received) (frame
   pub all_answers : AreFramesOf (run_of budget b acts).answers frames
   pub all_lines : Stands words (after b (run_of budget b acts).issued)
 
--- Runs that losses ended: the lines that they took and what was printed, since a start.
-pub record Ended (budget : ℕ) (before : Words) (lines_before lines : List ScriptLine)
-    (printed_before printed : List ℕ) (waiting_before waiting : ℕ) (now : Words)
-    : Type 0 where
+-- Runs that losses ended: the lines that they took, what was printed, and how many losses wait. Each
+-- line `l` ended one of them or waits.
+pub record Ended (budget : ℕ) (before : Words) (lines : List ScriptLine) (text : List ℕ)
+    (waiting : ℕ) (now : Words) : Type 0 where
   pub runs : List Ran
   pub history : History budget before runs now
-  -- each loss by a line `l` was waiting or stands among these lines
-  pub enough : losses_by_call runs + waiting ≤ waiting_before + loses (lines_taken runs)
-  pub lines_are : lines ≡ lines_before ++ lines_taken runs
-  pub printed_are : printed ≡ printed_before ++ history_lines runs
+  pub lines_are : lines ≡ lines_taken runs
+  pub text_is : text ≡ history_lines runs
+  pub each_loses : losses_by_call runs + waiting ≡ loses lines
 
--- A replay that came to its end: runs that losses ended, and one whole run after them.
-pub record Replayed (budget : ℕ) (before : Words) (lines_before lines : List ScriptLine)
-    (printed_before printed : List ℕ) (waiting_before : ℕ) (now : Words) : Type 0 where
+-- A replay that came to its end: these lines were taken and this was printed, of runs that losses
+-- ended, and of one whole run after them.
+pub record Replayed (budget : ℕ) (before : Words) (lines : List ScriptLine) (text : List ℕ)
+    (now : Words) : Type 0 where
   pub runs : List Ran
-  pub enough : losses_by_call runs ≤ waiting_before + loses (lines_taken runs)
   pub words : Words
   pub history : History budget before runs words
   pub last_lines : List ScriptLine
@@ -95,14 +105,20 @@ pub record Replayed (budget : ℕ) (before : Words) (lines_before lines : List S
   pub bytes : List ℕ
   pub began : Stands words bytes
   pub whole : IsWhole budget bytes (events_of last_lines) last_frames now
-  pub lines_are : lines ≡ lines_before ++ (lines_taken runs ++ last_lines)
-  pub printed_are : printed ≡ printed_before ++ (history_lines runs ++ frame_lines last_frames)
+  pub lines_are : lines ≡ lines_taken runs ++ last_lines
+  pub text_is : text ≡ history_lines runs ++ frame_lines last_frames
+  -- the end is the last line, and no line `x` stands in the last run
+  pub ends : EndsWithEnd lines
+  pub no_loss_now : HasNoLossNow last_lines
+  -- each loss by a call stands among the lines `l`
+  pub enough : losses_by_call runs ≤ loses (lines_taken runs)
 
--- A replay that was cut short: what is left of the last run is safe too.
-pub record CutShort (budget : ℕ) (before : Words) (lines_before lines : List ScriptLine)
-    (printed_before printed : List ℕ) (waiting_before : ℕ) (now : Words) : Type 0 where
+-- A replay that was cut short: what is left of the last run is safe too. Where the next line was
+-- refused or the source failed, all of its events are finished; where a line was refused, each line
+-- `l` before it ended a run or waits.
+pub record CutShort (budget : ℕ) (before : Words) (lines : List ScriptLine) (text : List ℕ)
+    (stop : Stop) (waiting : ℕ) (now : Words) : Type 0 where
   pub runs : List Ran
-  pub enough : losses_by_call runs ≤ waiting_before + loses (lines_taken runs)
   pub words : Words
   pub history : History budget before runs words
   pub last_lines : List ScriptLine
@@ -111,5 +127,10 @@ pub record CutShort (budget : ℕ) (before : Words) (lines_before lines : List S
   pub bytes : List ℕ
   pub began : Stands words bytes
   pub safe : Safe budget bytes (events_of last_lines) last_frames finished now
-  pub lines_are : lines ≡ lines_before ++ (lines_taken runs ++ last_lines)
-  pub printed_are : printed ≡ printed_before ++ (history_lines runs ++ frame_lines last_frames)
+  pub lines_are : lines ≡ lines_taken runs ++ last_lines
+  pub text_is : text ≡ history_lines runs ++ frame_lines last_frames
+  pub no_loss_now : HasNoLossNow last_lines
+  pub between : BetweenEvents (finished ≡ length (events_of last_lines)) stop
+  pub enough : losses_by_call runs ≤ loses (lines_taken runs)
+  pub each_loses : OnRefused (λ line. HasNoEnd lines
+      × (losses_by_call runs + waiting ≡ loses lines)) (Stopped stop)

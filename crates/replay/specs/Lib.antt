@@ -1,3 +1,4 @@
+pub mod Breaks
 pub mod Histories
 pub mod Playing
 pub mod Keeping

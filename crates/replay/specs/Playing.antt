@@ -1,5 +1,5 @@
 -- What one call of a node does over a board that runs a script.
-use Rattle.std.specs.Prelude.{◌≡◌, ◌⊎◌, ℕ, ◌+◌, ◌≤◌, true, false, length, List, [], ◌++◌, Result, Ok, Err}
+use Rattle.std.specs.Prelude.{◌≡◌, ◌⊎◌, ℕ, ◌+◌, true, false, length, List, [], ◌++◌, Result, Ok, Err}
 use Rattle.flash_traits.specs.Words.{Words}
 use Rattle.flash_traits.specs.Losses.{Received, SentFrame}
 use Rattle.storage_lines.specs.Lines.{after}
@@ -9,13 +9,20 @@ use Rattle.vehicle_node.specs.Safe.{Safe}
 use Rattle.vehicle_node.specs.Standing.{Node, StandsAt, StandsForRun}
 use Rattle.script_lines.specs.Script.{ScriptLine}
 use Rattle.script_board.specs.Printing.{frame_lines}
-use Rattle.script_board.specs.Hearing.{loses, HasNoLossNow}
-use Rattle.replay.specs.Histories.{IsWhole, EndsSo}
+use Rattle.script_board.specs.Hearing.{loses, HasNoLossNow, HasNoEnd, EndsWithEnd}
+use Rattle.vehicle_node.specs.declared.Turn.{Turn}
+use Rattle.vehicle_node.specs.declared.Turn.TheVariants as turn
+use Rattle.replay.specs.Breaks.{BetweenEvents, OnRefused}
+use Rattle.replay.specs.Histories.{AreNext, IsWhole, EndsSo}
+use Rattle.replay.specs.declared.Stop.{Stop}
+use Rattle.replay.specs.declared.Break.{Break}
+use Rattle.replay.specs.declared.Break.TheVariants.{Lost, Stopped}
 
 -- these lines of the script were taken, and these frames printed
-pub record Adds (lines_before lines_now : List ScriptLine) (printed_before printed_now : List ℕ)
-    (lines : List ScriptLine) (frames : List SentFrame) : Type 0 where
-  pub lines_are : lines_now ≡ lines_before ++ lines
+pub record Adds (took_before took_now : List ScriptLine → Type 0)
+    (printed_before printed_now : List ℕ) (lines : List ScriptLine) (frames : List SentFrame)
+    : Type 0 where
+  pub lines_are : AreNext took_before took_now lines
   pub printed_are : printed_now ≡ printed_before ++ frame_lines frames
 
 -- whatever run the node stood for, it stands for the run that goes on with these events and frames
@@ -64,10 +71,39 @@ RunEnds budget (Err e) before events frames finished now =
 -- one fewer loss waits
 abbrev pub Falls : List ScriptLine → ℕ → ℕ → ℕ → Type 0
 Falls lines finished before now =
-    (EndsSo true lines finished × (now ≤ before + loses lines))
-    ⊎ (EndsSo false lines finished × (now + 1 ≤ before + loses lines))
+    (EndsSo true lines finished × (now ≡ before + loses lines))
+    ⊎ (EndsSo false lines finished × (now + 1 ≡ before + loses lines))
 
--- what a call does with the waiting losses
-abbrev pub Uses : {T E : Type 0} → Result T E → Type 0 → List ScriptLine → ℕ → ℕ → ℕ → Type 0
-Uses (Ok t) lost lines finished before now = HasNoLossNow lines × (now ≤ before + loses lines)
-Uses (Err e) lost lines finished before now = lost → Falls lines finished before now
+-- What became of the lines and of the waiting losses where a run stopped: no line `x` was taken,
+-- and where a line was refused or the source failed, all events are finished. A refused line leaves
+-- the losses waiting.
+abbrev pub StopsSo : Stop → List ScriptLine → ℕ → ℕ → ℕ → Type 0
+StopsSo why lines finished before now =
+    HasNoLossNow lines
+    × BetweenEvents (finished ≡ length (events_of lines)) why
+    × OnRefused (λ line. HasNoEnd lines × (now ≡ before + loses lines)) (Stopped why)
+
+-- the same where it broke off
+abbrev pub BreaksSo : Break → List ScriptLine → ℕ → ℕ → ℕ → Type 0
+BreaksSo Lost lines finished before now = HasNoEnd lines × Falls lines finished before now
+BreaksSo (Stopped why) lines finished before now = StopsSo why lines finished before now
+
+-- what one event does with the lines and with the waiting losses, which the end forgets
+abbrev pub TurnUses : Result Turn Break → List ScriptLine → ℕ → ℕ → ℕ → Type 0
+TurnUses (Ok turn.More) lines finished before now =
+    HasNoLossNow lines × HasNoEnd lines × (now ≡ before + loses lines)
+TurnUses (Ok turn.End) lines finished before now =
+    HasNoLossNow lines × EndsWithEnd lines × (now ≡ 0)
+TurnUses (Err how) lines finished before now = BreaksSo how lines finished before now
+
+-- what events up to the end do
+abbrev pub PlayUses : {T : Type 0} → Result T Break → List ScriptLine → ℕ → ℕ → ℕ → Type 0
+PlayUses (Ok t) lines finished before now =
+    HasNoLossNow lines × EndsWithEnd lines × (now ≡ 0)
+PlayUses (Err how) lines finished before now = BreaksSo how lines finished before now
+
+-- what a call does that takes no line: a loss waits no more where it fell
+abbrev pub QuietUses : {T : Type 0} → Result T Break → ℕ → ℕ → Type 0
+QuietUses (Ok t) before now = now ≡ before
+QuietUses (Err Lost) before now = now + 1 ≡ before
+QuietUses (Err (Stopped why)) before now = now ≡ before

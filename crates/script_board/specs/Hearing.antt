@@ -51,15 +51,40 @@ abbrev pub HasNoLossNow : List ScriptLine → Type 0
 HasNoLossNow [] = Unit {0}
 HasNoLossNow (line ∷ lines) = (line ≢ LossNow) × HasNoLossNow lines
 
--- the last of these lines is a loss now, and no earlier one
-abbrev pub EndsWithLossNow : List ScriptLine → Type 0
-EndsWithLossNow lines =
-    (front : List ScriptLine) × (lines ≡ front ++ LossNow ∷ []) × HasNoLossNow front
+-- none of these lines is the end
+abbrev pub HasNoEnd : List ScriptLine → Type 0
+HasNoEnd [] = Unit {0}
+HasNoEnd (line ∷ lines) = (line ≢ End) × HasNoEnd lines
 
--- What a reception takes: the losses at later calls, and then the line of its event, or a loss now,
--- or no more.
-abbrev pub HearsSo : Result Event Failed → List ℕ → Type 0 → List ScriptLine → Type 0
-HearsSo (Ok event) buffer lost lines =
-    (events_of lines ≡ received event buffer ∷ []) × HasNoLossNow lines
-HearsSo (Err e) buffer lost lines =
-    (events_of lines ≡ []) × (HasNoLossNow lines ⊎ (EndsWithLossNow lines × lost))
+-- the last of these lines is the end, and no earlier one
+abbrev pub EndsWithEnd : List ScriptLine → Type 0
+EndsWithEnd lines = (front : List ScriptLine) × (lines ≡ front ++ End ∷ []) × HasNoEnd front
+
+-- each of these lines is a loss at a later call
+abbrev pub AreLosses : List ScriptLine → Type 0
+AreLosses [] = Unit {0}
+AreLosses (line ∷ lines) = (loses_in line ≡ 1) × AreLosses lines
+
+-- an event was heard: that of the last line, behind losses at later calls
+abbrev pub IsHeard : Event → List ℕ → List ScriptLine → Type 0
+IsHeard event buffer lines = (front : List ScriptLine) × (last : ScriptLine)
+    × (lines ≡ front ++ last ∷ []) × AreLosses front
+    × (events_in last ≡ received event buffer ∷ [])
+
+-- Why no event came behind the losses at later calls: a line `x` was the last one taken, or the
+-- source failed, or the next line is refused. Each leaves its mark, but for a fault of the source
+-- where the script had failed before.
+abbrev pub IsUnheard : Option ScriptMark → Option ScriptMark → ℕ → List ScriptLine → Type 0 → ℕ
+    → Type 0 → Type 0
+IsUnheard mark_before mark_now failures lines faulted line refused =
+    ((front : List ScriptLine) × (lines ≡ front ++ LossNow ∷ []) × AreLosses front
+    × (mark_now ≡ marked mark_before Lost))
+    ⊎ (AreLosses lines × faulted × (failures ≡ 0 → mark_now ≡ marked mark_before Input))
+    ⊎ (AreLosses lines × refused × (mark_now ≡ marked mark_before (Refused line)))
+
+-- how many losses wait behind a reception: the end forgets them
+abbrev pub waiting_behind : Result Event Failed → ℕ → List ScriptLine → ℕ
+waiting_behind (Ok event.End) waiting lines = 0
+waiting_behind (Ok event.Idle) waiting lines = waiting + loses lines
+waiting_behind (Ok (event.Datagram peer len)) waiting lines = waiting + loses lines
+waiting_behind (Err e) waiting lines = waiting + loses lines
