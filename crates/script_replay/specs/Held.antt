@@ -1,0 +1,60 @@
+-- The events and the frames of a board since a call of a node began.
+use Rattle.std.specs.Prelude.{◌≡◌, ◌≢◌, ℕ, ◌+◌, ◌≤◌, Bool, true, false, Option, Some, List, ◌++◌, length}
+use Rattle.flash_traits.specs.declared.stream.Source as source
+use Rattle.flash_traits.specs.declared.stream.Sink as sink
+use Rattle.flash_traits.specs.Losses.{Received, SentFrame, Outcome}
+use Rattle.flash_traits.specs.Causes.{Rose}
+use Rattle.flash_traits.specs.declared.board.Event.{Event}
+use Rattle.flash_traits.specs.declared.board.Fault.{Fault}
+use Rattle.flash_traits.specs.declared.board.Fault.TheVariants.{Attach, Read, Flash, Recv, Send}
+use Rattle.script_lines.specs.Script.{ScriptLine}
+use Rattle.script_board.specs.Boards.{words_in, unread_in}
+use Rattle.script_board.specs.Hearing.{IsRefused}
+use Rattle.script_board.specs.declared.board.ScriptMark.TheVariants.{Output}
+use Rattle.script_board.specs.declared.board.ScriptBoard.{ScriptBoard}
+use Rattle.script_replay.specs.Calls.{Takes, ArePrinted, HasHeard, events_heard, too_many}
+use Rattle.script_replay.specs.declared.start.Start as start
+
+module _ {S K N : Type 0} {g : source.Ghosts S} {h : sink.Ghosts K} (n : start.Ghosts N) where
+  -- The events are those that were received, and the frames those that were printed, where no line
+  -- failed and the sink tells its bytes. The lines of the script that were taken are told by what
+  -- was heard.
+  pub record HasLists (b : ScriptBoard S K g h) (heard : Option Event) (buffer : List ℕ)
+      (events : List Received) (frames : List SentFrame) : Type 0 where
+    pub events_are : events ≡ events_heard heard buffer
+    pub printed : b.mark ≢ Some Output → h.tells_written b.out.now
+        → ArePrinted n.written (h.written b.out.now) frames
+    pub lines : List ScriptLine
+    pub line : b.line ≡ n.line + length lines
+    pub hears : HasHeard heard buffer b.mark n.waiting (length b.waiting.items)
+        (Rose n.input_faults (g.faults b.input.now)) (b.line + 1)
+        (IsRefused b.line b.waiting.items (unread_in b) (g.tells_rest b.input.now)
+        (g.rest b.input.now))
+        lines
+    pub takes : g.tells_rest b.input.now
+        → Takes n.unread n.rest (unread_in b) (g.rest b.input.now) lines
+
+  -- the same, but where there were more receptions than a call makes, only their number is told
+  abbrev pub StandsFor : Bool → Bool → ScriptBoard S K g h → Option Event → List ℕ
+      → List Received → List SentFrame → Type 0
+  StandsFor room true b heard buffer events frames = too_many room ≤ length events
+  StandsFor room false b heard buffer events frames = HasLists b heard buffer events frames
+
+  -- What a loss leaves now: the words as they stand, the event that was received, and the frames
+  -- that were printed. After a fault of the sink nothing is told.
+  pub record HasLeft (over : Bool) (b : ScriptBoard S K g h) (heard : Option Event)
+      (buffer : List ℕ) (o : Outcome) : Type 0 where
+    pub within : over ≡ false
+    pub told : h.tells_written b.out.now
+    pub unfailed : b.mark ≢ Some Output
+    pub words : o.words ≡ words_in b
+    pub events : o.events ≡ events_heard heard buffer
+    pub frames : ArePrinted n.written (h.written b.out.now) o.frames
+
+-- how often each kind of call has failed: an attach does always, and the others are counted as one
+abbrev pub failures : ℕ → ℕ → Fault → ℕ
+failures attaches failed Attach = attaches
+failures attaches failed Read = failed
+failures attaches failed Flash = failed
+failures attaches failed Recv = failed
+failures attaches failed Send = failed

@@ -1,0 +1,146 @@
+//! The board of a script during one call of a node.
+ghost use Rattle.std.specs.Prelude.{◌≡◌, ◌≤◌, ◌+◌, ◌-◌, ◌^◌, min, ℕ, Some, None, slice_index};
+ghost use Rattle.flash_traits.specs.Causes.{Rose};
+ghost use Rattle.script_board.specs.declared.board.ScriptMark.TheVariants.{Output};
+
+use crate::start::Start;
+use flash_traits::{Board, DATAGRAM_BYTES, Event, Failed, Geometry, Region, Sink, Source};
+use script_board::ScriptBoard;
+use std::marker::PhantomData;
+
+/// A script's board for one call of a node, which makes one reception at most, or none where it has
+/// no room for one. Behind its first failure it is off: each call fails, and nothing is changed.
+#[derive(Drop)]
+pub(crate) struct Held<'a, S: Source, K: Sink, N: Start> {
+    pub(crate) board: ScriptBoard<'a, S, K>,
+    /// The call may receive an event.
+    pub(crate) room: bool,
+    /// There were more receptions than that.
+    pub(crate) over: bool,
+    /// The event that was received, with the bytes of its buffer.
+    pub(crate) heard: Option<Event>,
+    pub(crate) buffer: [u8; DATAGRAM_BYTES],
+    /// How many calls failed, and attaches, which always do.
+    pub(crate) failed: u64,
+    pub(crate) attaches: u64,
+    pub(crate) names: PhantomData<N>,
+    ghost same_input: { board.input.ghost_name ≡ N.input },
+    ghost same_out: { board.out.ghost_name ≡ N.out },
+    ghost size: { board.geometry.sector_bytes ≡ N.sector_bytes },
+    ghost on: { board.mark ≡ None → failed ≡ 0 },
+    ghost unfailed: { board.mark ≡ None → slice_index board.faults 3 ≡ 0 },
+    ghost told_rest: { S.tells_rest board.input.now → N.tells_rest },
+    ghost told_written: { K.tells_written board.out.now → N.tells_written },
+    ghost input_counts: { N.input_faults ≤ S.faults board.input.now },
+    ghost output_counts: { N.output_faults ≤ K.faults board.out.now },
+    ghost output: { board.mark ≡ Some Output → Rose N.output_faults (K.faults board.out.now) },
+}
+
+impl<'a, S: Source, K: Sink, N: Start> Board for Held<'a, S, K, N> {
+    ghost use Rattle.script_board.specs.Boards.{words_in};
+    ghost use Rattle.script_board.specs.Lists.{moment_of};
+    ghost use Rattle.script_board.specs.Shape.{shape_in};
+    ghost use Rattle.script_replay.specs.Held.{StandsFor, HasLeft, failures};
+
+    ghost records = { ⊥ };
+
+    ghost sector_bytes = { λ h. h.board.geometry.sector_bytes };
+
+    ghost tells = { λ _. Unit {0} };
+
+    ghost words = { λ h. words_in h.board };
+
+    ghost has_lists = { λ h. StandsFor N.Start h.room h.over h.board h.heard h.buffer };
+
+    ghost moment = { λ h. moment_of h.board };
+
+    ghost now = { λ h. HasLeft N.Start h.over h.board h.heard h.buffer };
+
+    ghost left = { λ h t. HasLeft N.Start h.over h.board h.heard h.buffer };
+
+    ghost faults = { λ h. failures h.attaches h.failed };
+
+    ghost reads = { λ h o now. now.words };
+
+    ghost counts_now = { λ h t o le now. now };
+
+    ghost only_now = { λ h o left. left };
+
+    ghost shape = { λ h told known. shape_in h.board };
+
+    fn attach(&mut self, _name: &str, _port: u16, _make: Option<u32>) -> Result<Geometry, Failed> {
+        self.attaches = self.attaches.saturating_add(1);
+        Err(Failed)
+    }
+
+    fn geometry(&self) -> Geometry {
+        self.board.geometry
+    }
+
+    fn read(&mut self, region: Region, at: u32) -> Result<u16, Failed> {
+        if self.board.mark.is_some() {
+            return Err(self.refuse());
+        }
+        Ok(self.board.halfword(region, at))
+    }
+
+    fn program(&mut self, region: Region, at: u32, word: u16) -> Result<(), Failed> {
+        self.board.moment[0] = self.board.moment[0].saturating_add(1);
+        if self.board.mark.is_some() {
+            return Err(self.refuse());
+        }
+        match self.board.program_or_lose(region, at, word) {
+            Ok(()) => Ok(()),
+            Err(_) => Err(self.refuse()),
+        }
+    }
+
+    fn erase(&mut self, region: Region) -> Result<(), Failed> {
+        self.board.moment[1] = self.board.moment[1].saturating_add(1);
+        if self.board.mark.is_some() {
+            return Err(self.refuse());
+        }
+        match self.board.erase_or_lose(region) {
+            Ok(()) => Ok(()),
+            Err(_) => Err(self.refuse()),
+        }
+    }
+
+    fn recv(&mut self, into: &mut [u8]) -> Result<Event, Failed> {
+        self.board.moment[2] = self.board.moment[2].saturating_add(1);
+        if self.board.mark.is_some() {
+            return Err(self.refuse());
+        }
+        if self.over || !self.room || self.heard.is_some() {
+            self.over = true;
+            return Ok(Event::Idle);
+        }
+        match self.board.take_event(into) {
+            Ok(event) => {
+                self.heard = Some(event);
+                self.buffer.copy_from_slice(into);
+                Ok(event)
+            }
+            Err(_) => Err(self.refuse()),
+        }
+    }
+
+    fn send(&mut self, peer: u8, bytes: &[u8]) -> Result<(), Failed> {
+        self.board.moment[3] = self.board.moment[3].saturating_add(1);
+        if self.board.mark.is_some() {
+            return Err(self.refuse());
+        }
+        match self.board.print_frame(peer, bytes) {
+            Ok(()) => Ok(()),
+            Err(_) => Err(self.refuse()),
+        }
+    }
+}
+
+impl<'a, S: Source, K: Sink, N: Start> Held<'a, S, K, N> {
+    /// Counts a call that fails: the board is off.
+    fn refuse(&mut self) -> Failed {
+        self.failed = self.failed.saturating_add(1);
+        Failed
+    }
+}
