@@ -110,7 +110,8 @@ class Documents(unittest.TestCase):
         for document in quotes.documents():
             for name, heading in ANCHOR.findall(sources.text_of(document)):
                 with self.subTest(f"{document}: {name}#{heading}"):
-                    self.assertIn(heading, headings(os.path.join(os.path.dirname(document), name) if name else document))
+                    place = os.path.join(os.path.dirname(document), name) if name else document
+                    self.assertIn(heading, headings(place))
 
     def test_each_place_on_the_map_is_there(self):
         for item in joined(ITEM.findall(sources.text_of("docs/MAP.md"))):
