@@ -1,23 +1,29 @@
 #!/usr/bin/env python3
 """Compares the documents with the repository: documents.py
 
-Quotes are word for word what the sources say (tools/quotes.py). Each link leads to a file. In docs/MAP.md each file is
-there and has the functions that are named with it, and in docs/DEFINITIONS.md each crate has its definitions. In the
-README of each crate each function has the clauses that stand beside it in parentheses. Wherever a document names a
-clause, a law or a wrong body of a crate, the crate has it.
+Quotes are word for word what the sources say (tools/quotes.py). Each link leads to a file, and to a heading there. In
+docs/MAP.md each file is there and has the functions that are named with it, and in docs/DEFINITIONS.md each crate has
+its definitions. In the README of each crate each function has the clauses that stand beside it in parentheses. Wherever
+a document names a clause, a law or a wrong body of a crate, the crate has it. All name one kit, and it is told where
+the kit of this machine is another one. The sizes in docs/PROVED.md are those of the sources to a tenth, and the longest
+chain in docs/MAP.md is a longest one.
 """
 import os
 import re
+import shutil
+import subprocess
 import sys
 import unittest
 
 TOP = os.path.join(os.path.dirname(os.path.abspath(__file__)), "..")
 sys.path.insert(0, os.path.join(TOP, "tools"))
 sys.dont_write_bytecode = True
+import program  # noqa: E402
 import quotes  # noqa: E402
 import sources  # noqa: E402
 
 LINK = re.compile(r"(?:\]\(|^\[[^\]^]+\]: )([^)#\s]+)", re.M)
+ANCHOR = re.compile(r"\]\(((?:[\w./-]+\.md)?)#([\w-]+)\)")
 NAME = r"[A-Za-z_][\w:]*"
 POINT = re.compile(r"^- (.*\n(?:  \S.*\n)*)", re.M)
 SECTION = re.compile(r"^(?=[a-z_]+(?: and [a-z_]+)?(?: \(.*\))?:$)", re.M)
@@ -30,10 +36,21 @@ WRONG_BODIES = re.compile(r"wrong bod(?:y|ies): ([^)]*)\)")
 # a place in a list of docs/MAP.md: a file, or a function
 PLACE = re.compile(rf"`({NAME}(?:/[\w./]+)?)`")
 
+KIT = re.compile(r"\brattle-kit-\w+")
+SIZES = re.compile(r"about ([\d,]+) lines of code with contracts and tests, ([\d,]+) of definitions and ([\d,]+) of "
+                   r"proofs: ([\d,]+) functions with ([\d,]+) clauses, and ([\d,]+) wrong bodies")
+CHAIN = re.compile(r"The longest chain of crates is ((?:\w+, )+\w+)\.")
+
 
 def prose(document):
     """A document on one line, without what it quotes."""
     return re.sub(r"\s+", " ", re.sub(r"```.*?```", "", sources.text_of(document), flags=re.S))
+
+
+def headings(document):
+    """The names by which hosts link to the headings of a document."""
+    return {re.sub(r"[^\w -]", "", heading.lower()).replace(" ", "-")
+            for heading in re.findall(r"^#+ (.*)$", sources.text_of(document), re.M)}
 
 
 def joined(points):
@@ -64,6 +81,18 @@ def names(text):
     return re.findall(r"`([^`]+)`", text)
 
 
+def longest_chain(uses):
+    """How many crates the longest chain has, each of which uses the one before it."""
+    lengths = {}
+
+    def length(crate):
+        if crate not in lengths:
+            lengths[crate] = 1 + max(map(length, uses[crate]), default=0)
+        return lengths[crate]
+
+    return max(map(length, uses))
+
+
 class Documents(unittest.TestCase):
     def test_quotes_are_what_the_sources_say(self):
         for document in quotes.documents():
@@ -76,6 +105,13 @@ class Documents(unittest.TestCase):
                 if "://" not in link:
                     with self.subTest(f"{document}: {link}"):
                         self.assertTrue(os.path.exists(os.path.join(TOP, os.path.dirname(document), link)))
+
+    def test_each_link_into_a_document_leads_to_a_heading(self):
+        for document in quotes.documents():
+            for name, heading in ANCHOR.findall(sources.text_of(document)):
+                with self.subTest(f"{document}: {name}#{heading}"):
+                    place = os.path.join(os.path.dirname(document), name) if name else document
+                    self.assertIn(heading, headings(place))
 
     def test_each_place_on_the_map_is_there(self):
         for item in joined(ITEM.findall(sources.text_of("docs/MAP.md"))):
@@ -120,6 +156,30 @@ class Documents(unittest.TestCase):
                     self.assertNotIn(None, [sources.clauses_of(crate, name) for name in functions + laws])
                     known = set().union(*(sources.clauses_of(crate, name) for name in functions))
                     self.assertLessEqual(set(clauses), known)
+
+    def test_one_kit_is_named(self):
+        named = {document: set(KIT.findall(prose(document))) for document in quotes.documents()}
+        self.assertEqual(len(named["README.md"]), 1)
+        for document, kits in named.items():
+            with self.subTest(document):
+                self.assertLessEqual(kits, named["README.md"])
+        if shutil.which("rt"):
+            kit = KIT.findall(subprocess.run(["rt", "version"], capture_output=True, text=True, check=False).stdout)
+            if set(kit) != named["README.md"]:
+                print(f"README.md says that {named['README.md'].pop()} proved all; the kit here is {' '.join(kit)}")
+
+    def test_the_sizes_are_so(self):
+        told = SIZES.search(prose("docs/PROVED.md"))
+        for (name, size), text in zip(sources.sizes().items(), told.groups()):
+            with self.subTest(name):
+                self.assertAlmostEqual(int(text.replace(",", "")), size, delta=size / 10)
+
+    def test_the_longest_chain_is_one(self):
+        chain, uses = CHAIN.search(prose("docs/MAP.md"))[1].split(", "), program.crates()
+        for low, high in zip(chain, chain[1:]):
+            with self.subTest(f"{low}, {high}"):
+                self.assertIn(low, uses[high])
+        self.assertEqual(len(chain), longest_chain(uses))
 
 
 if __name__ == "__main__":

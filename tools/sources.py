@@ -1,4 +1,5 @@
 """Where a definition, a function or a clause stands in the sources of the crates, and what is written there."""
+import glob
 import os
 import re
 
@@ -92,3 +93,17 @@ def clauses_of(crate, function):
     """The labels of the clauses of all functions of a crate with this name, or None where there is none."""
     labels = [set(functions(file)[function][1]) for file in files_of(crate) if function in functions(file)]
     return set().union(*labels) if labels else None
+
+
+def sizes():
+    """How large the repository is: lines of code, definitions and proofs, functions, clauses, and wrong bodies."""
+    crates = sorted(os.listdir(os.path.join(TOP, "crates")))
+    code, definitions, proofs = ([text_of(file) for crate in crates for file in files_of(crate, folder)]
+                                 for folder in ("src", "specs", "proofs"))
+    return {
+        **{name: sum(text.count("\n") for text in texts)
+           for name, texts in (("code", code), ("definitions", definitions), ("proofs", proofs))},
+        "functions": sum(len(re.findall(FUNCTION.pattern, text, re.M)) for text in code),
+        "clauses": sum(len(re.findall(r"^\s*ensures\b", text, re.M)) for text in code),
+        "wrong bodies": len(glob.glob(os.path.join(TOP, "crates", "*", "must-fail", "*.edit"))),
+    }
