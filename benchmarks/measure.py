@@ -3,11 +3,11 @@
 
     benchmarks/measure.py PROGRAM [--turns N] [--disk FOLDER] [--memory FOLDER] [--only PART]
 
-Parts: trips, lists, sets, openings, session, counts. Each number of the program stands beside one of C from the same
-run: `echo.c` sends back what comes, `floor.c` is the least server that does the same work, and `gen_floor.c` makes the
-writes of a generated session. Program and C take turns on a processor of their own, the client has another; a number is
-the median of the turns. The part counts has instructions of the program alone. It needs a C compiler (cc), and for the
-counts valgrind. It compares nothing but the lines and the digest of the session.
+Parts: trips, lists, sets, openings, session, counts, spilled. Each number of the program stands beside one of C from
+the same run: `echo.c` sends back what comes, `floor.c` is the least server that does the same work, and `gen_floor.c`
+makes the writes of a generated session. Program and C take turns on a processor of their own, the client has another; a
+number is the median of the turns. The parts counts and spilled have instructions, which no load changes. It needs a C
+compiler (cc), and for instructions valgrind. It compares nothing but the lines and the digest of the session.
 """
 import argparse
 import os
@@ -29,12 +29,13 @@ from decimals import as_float  # noqa: E402
 from server import END, free_port  # noqa: E402
 from vehicle import Vehicle  # noqa: E402
 
-PARTS = ("trips", "lists", "sets", "openings", "session", "counts")
+PARTS = ("trips", "lists", "sets", "openings", "session", "counts", "spilled")
 TRIPS = 20_000  # round trips of a turn
 SETS = 1_000
 OPENINGS = 20  # starts of a turn
 SESSIONS = (1, 1_000)  # rounds of the generated sessions
 COUNTED = (200, 1_200)  # requests of two runs whose instructions are counted
+LISTED = (2, 12)  # lists of two such runs
 RESULT = re.compile("lines ([0-9]+) sha256 ([0-9a-f]{64})")  # of a generated session
 COLLECTED = re.compile(b"Collected : ([0-9]+)")  # of callgrind
 FLASH = re.compile("programs ([0-9]+) bytes ([0-9]+)")
@@ -262,21 +263,57 @@ class Bench:
         programs, size = (int(number) / rounds for number in FLASH.search(written).groups())
         print(f"\nIn each of {rounds} rounds {programs:.1f} programs and {size:.1f} bytes of entries.")
 
-    def instructions(self, source, requests, count, *program):
-        """The user instructions of a server over a copy of an image that answers so many of the requests."""
+    def answered(self, requests):
+        """What has a server answer so many of the requests in a file."""
+        return lambda server, count: self.seconds(server, free_port(), 1, count, requests)
+
+    def listed(self, server, count):
+        """Has a server send so many lists, each asked for when the one before is whole."""
+        with socket.socket(socket.AF_INET, socket.SOCK_DGRAM) as station:
+            station.connect(("127.0.0.1", server.port))
+            station.settimeout(PATIENCE)
+            for _ in range(count):
+                station.send(mavlink.request_list(version=2))
+                seen = set()
+                while len(seen) < len(self.names):
+                    shown = mavlink.read_value(station.recv(2048))
+                    if shown is not None:
+                        seen.add(shown["index"])
+
+    def armed(self, requests):
+        """What arms a vehicle, and then has it answer so many of the requests in a file."""
+        def ask(server, count):
+            own_port = free_port()
+            with socket.socket(socket.AF_INET, socket.SOCK_DGRAM) as station:
+                station.bind(("127.0.0.1", own_port))
+                station.connect(("127.0.0.1", server.port))
+                station.settimeout(PATIENCE)
+                station.send(mavlink.command(mavlink.COMPONENT_ARM_DISARM, 1.0))
+                while mavlink.read_frame(station.recv(2048))["message"] != mavlink.COMMAND_ACK:
+                    pass
+            self.seconds(server, own_port, 1, count, requests)
+        return ask
+
+    def instructions(self, source, ask, count, *program):
+        """The user instructions of a server over a copy of an image that is asked for so much."""
         image, port = self.copy(source, self.folder), free_port()
         counter = ["valgrind", "--tool=callgrind", f"--callgrind-out-file={os.devnull}"]
         words = [word.format(port=port, image=image) for word in program]
         with Server([], [*counter, *words], port, stderr=subprocess.PIPE) as server:
-            self.seconds(server, free_port(), 1, count, requests)
+            ask(server, count)
             with socket.socket(socket.AF_INET, socket.SOCK_DGRAM) as station:
                 station.sendto(END, ("127.0.0.1", port))
             _, told = server.process.communicate(timeout=PATIENCE)
         return int(COLLECTED.search(told).group(1))
 
-    def counts(self):
+    def each(self, source, ask, counted, *program):
+        """The user instructions of one more answer, by two runs."""
         if shutil.which("valgrind") is None:
             raise SystemExit("measure: valgrind is needed")
+        few, many = counted
+        return (self.instructions(source, ask, many, *program) - self.instructions(source, ask, few, *program)) / (many - few)
+
+    def counts(self):
         last = self.names[-1]
         cases = {
             "a read of index 0": [mavlink.request_read(0)],
@@ -287,13 +324,30 @@ class Bench:
         ours = [self.program, "serve", "{image}", "--port", "{port}"]
         bare = [self.path("floor"), "{port}", self.path("names"), "{image}", "sync"]
         servers = [(self.empty, ours), (self.stored, ours), (self.stored, bare)]
-        table("User instructions of an event", ["nothing stored", f"{self.taken} values stored", "of nothing", "C server"])
-        for title, frames in cases.items():
-            requests = self.requests("requests", frames)
-            few, many = COUNTED
-            runs = [[self.instructions(source, requests, count, *words) for count in COUNTED] for source, words in servers]
-            events = [(long - short) / (many - few) for short, long in runs]
+        table("User instructions", ["nothing stored", f"{self.taken} values stored", "of nothing", "C server"])
+        asks = [(title, self.answered(self.requests("requests-" + title.replace(" ", "-"), frames)), COUNTED)
+                for title, frames in cases.items()]
+        for title, ask, counted in [*asks, ("a list of all", self.listed, LISTED)]:
+            events = [self.each(source, ask, counted, *words) for source, words in servers]
             row(title, [f"{events[0]:.0f}", f"{events[1]:.0f}", f"{events[1] / events[0]:.2f}", f"{events[2]:.0f}"])
+
+    def spilled(self):
+        """A set of an armed vehicle whose home is full: its line is put into the other sector, before the copy."""
+        booted = self.copy(self.empty, self.folder)
+        with self.serve(booted):
+            pass  # the opening has put the lines of boot
+        with open(booted, "rb") as file:
+            empty = file.read()
+        requests = self.requests("requests", [mavlink.set_value(self.names[-1], value) for value in (1.0, 2.0)])
+        found = []
+        for name, with_every_chunk in (("few.img", False), ("every.img", True)):
+            source = self.write(name, states.full_image(empty, with_every_chunk))
+            each = self.each(source, self.armed(requests), COUNTED, self.program, "serve", "{image}", "--port", "{port}")
+            with open(self.path("vehicle.img"), "rb") as file:
+                found.append((states.uncovered(file.read()), each))
+        (fewest, least), (most, all_of_them) = found
+        table("User instructions, while spilled", [f"{fewest} to copy", f"{most} to copy", f"of {fewest}"])
+        row("a set of the last name", [f"{least:.0f}", f"{all_of_them:.0f}", f"{all_of_them / least:.2f}"])
 
 
 def table(title, columns):
@@ -333,6 +387,7 @@ def main():
             "openings": lambda: bench.openings(folders),
             "session": bench.session,
             "counts": bench.counts,
+            "spilled": bench.spilled,
         }
         for name, part in parts.items():
             if words.only in (None, name):

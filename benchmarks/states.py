@@ -54,6 +54,26 @@ def without_zero_chunks(storage):
     return b"".join(part if any(part) else part[:-1] + b"\x5a" for part in parts)
 
 
+def full_image(alone, with_every_chunk):
+    """The image with a home that has no room for another entry, and with something in every chunk if that is asked."""
+    log, storage = log_of(alone[:SECTOR_BYTES]), image.storage_of(alone)
+    if with_every_chunk:
+        storage = without_zero_chunks(storage)
+        log = b"".join(chunks(storage))
+    return sector(image.IN_USE, full_log(log, storage)) + sector(image.AVAILABLE) + guard(0)
+
+
+def uncovered(spilled):
+    """How many chunks of a spilled image, whose home is sector 0, the other sector doesn't give."""
+    words = struct.unpack(f"<{SECTOR_BYTES // 2}H", spilled[SECTOR_BYTES:2 * SECTOR_BYTES])
+    if spilled[:2] != struct.pack("<H", image.FULL) or words[0] != image.IN_USE:
+        raise ValueError("the image isn't spilled")
+    storage, upper = image.storage_of(spilled), bytearray(STORAGE_BYTES)
+    image.apply(upper, image.entries(words))
+    return sum(storage[at:at + CHUNK_BYTES] != upper[at:at + CHUNK_BYTES]
+               for at in range(0, STORAGE_BYTES, CHUNK_BYTES))
+
+
 def states(alone):
     """Of an image with one sector in use: the same storage in each state, by name, and the worst marked image."""
     log = log_of(alone[:SECTOR_BYTES])
