@@ -21,6 +21,7 @@ lines-init g c = record {
   failures = refl;
   others = only_none c.args.self.now;
   into = refl;
+  same_input = refl;
 }
 
 pub lines-preserved : goal.lines-preserved
@@ -46,6 +47,7 @@ lines-preserved g c =
       failures = c.in-Ok.ensures.unfailed ∙ c.lines.invariant.failures;
       others = only_then c.args.self.now c.lines.self c.next_line.new.self c.lines.invariant.others c.in-Ok.ensures.others;
       into = c.lines.invariant.into;
+      same_input = c.in-Ok.ensures.same_input ∙ c.lines.invariant.same_input;
     }
 
 pub returns-in-LossNow-clause-took : goal.returns-in-LossNow-clause-took

@@ -20,6 +20,7 @@ invariant-lines g l = record {
   failures : slice_index l.self.faults 3 ≡ slice_index l.fn.self.faults 3;
   others : OnlyScript l.fn.self l.self;
   into : length l.into ≡ length l.fn.into;
+  same_input : l.self.input.ghost_name ≡ l.fn.self.input.ghost_name;
 }
 
 abbrev pub decreases-lines : goal.decreases-lines
