@@ -1,5 +1,5 @@
 -- The lists that a board stands for during a call of a node, from one of its calls to the next.
-use Rattle.std.proofs.Common.{◌≡◌, ◌≢◌, ◌⊎◌, inl, inr, ℕ, ◌+◌, ◌≤◌, Bool, true, false, List, [], ◌∷◌, ◌++◌, length, drop, Option, Some, None, refl, sym, ◌∙◌, ap, subst, arith}
+use Rattle.std.proofs.Common.{◌≡◌, ◌≢◌, ◌⊎◌, inl, inr, ℕ, ◌+◌, ◌≤◌, ◌<◌, Bool, true, false, List, [], ◌∷◌, ◌++◌, length, drop, Option, Some, None, refl, sym, ◌∙◌, ap, subst, arith}
 use Rattle.std.specs.Option.{is_some}
 use Rattle.flash_traits.specs.declared.stream.Source as source
 use Rattle.flash_traits.specs.declared.stream.Sink as sink
@@ -15,10 +15,15 @@ use Rattle.script_board.specs.Waiting.{falls_now}
 use Rattle.script_board.specs.declared.board.ScriptMark.{ScriptMark}
 use Rattle.script_board.specs.declared.board.ScriptMark.TheVariants.{Lost, Refused, Input, Output}
 use Rattle.script_board.specs.declared.board.ScriptBoard.{ScriptBoard}
+use Rattle.script_board.specs.Printing.{frame_line}
 use Rattle.script_board.proofs.Listed.{unread_by}
-use Rattle.script_replay.specs.Calls.{Takes, ArePrinted, WaitsBy, HasHeard, too_many}
+use Rattle.script_replay.specs.Calls.{Takes, AreBytes, ArePrinted, WaitsBy, HasHeard, too_many}
 use Rattle.script_replay.specs.Held.{HasLists, StandsFor}
 use Rattle.script_replay.specs.declared.start.Start as start
+use Rattle.script_replay.proofs.Frames.{printed_more}
+
+pub none_no_output : (let none : Option ScriptMark = None in none) ≡ Some Output → ⊥
+none_no_output is = cc
 
 -- a script without a failure heard the event that it was asked for
 pub on_heard : (faulted refused : Type 0) (next : ℕ) (lines : List ScriptLine) → IsUnheard None None 0 lines faulted next refused → ⊥
@@ -74,7 +79,7 @@ module _ {S K N : Type 0} {g : source.Ghosts S} {h : sink.Ghosts K} (n : start.G
     told_rest = λ told. had.told_rest (subst (λ (s : S). g.tells_rest s) input told);
     told_written = λ tells. had.told_written (told tells);
     events_are = had.events_are;
-    printed = λ other tells. prints other tells (had.printed (λ is. unmarked (sym on ∙ is)) (told tells));
+    printed = λ other tells. prints other tells (had.printed (λ is. none_no_output (sym on ∙ is)) (told tells));
     lines = had.lines;
     line = line ∙ had.line;
     hears = heard_then heard buffer b.mark n.waiting (length a.waiting.items) (length b.waiting.items) _ _ _ _ _ _ had.lines waits
@@ -83,13 +88,9 @@ module _ {S K N : Type 0} {g : source.Ghosts S} {h : sink.Ghosts K} (n : start.G
     takes = λ told. subst (λ (s : S). Takes n.unread n.rest (unread_in b) (g.rest s) had.lines) (sym input)
         (subst (λ (u : List ℕ). Takes n.unread n.rest u (g.rest a.input.now) had.lines) (sym unread) (had.takes (subst (λ (s : S). g.tells_rest s) input told)));
   }
-    where
-      unmarked : (let none : Option ScriptMark = None in none) ≡ Some Output → ⊥
-      unmarked is = cc
-
-pub none_is : (m : Option ScriptMark) (r : Bool) → r ≡ is_some m → r ≡ false → m ≡ None
+pub none_is : {A : Type 0} (o : Option A) (r : Bool) → r ≡ is_some o → r ≡ false → o ≡ None
 none_is None r is off = refl
-none_is (Some mark) r is off = let both : true ≡ false = sym is ∙ off in cc
+none_is (Some x) r is off = let both : true ≡ false = sym is ∙ off in cc
 
 fewer_wait : (waiting : List Waiting) (since : ℕ) → falls_now waiting since ≡ true → length (drop 1 waiting) + 1 ≡ length waiting
 fewer_wait [] since falls = cc
@@ -113,6 +114,30 @@ module _ {S K N : Type 0} {g : source.Ghosts S} {h : sink.Ghosts K} (n : start.G
       (λ would long. lost_waits a.waiting.items b.waiting.items since would a.mark b.mark on lost falls fewer long)
       (λ told. subst (λ o. h.tells_written o.now) out told) f f
       (λ other told printed. subst (λ o. ArePrinted n.written (h.written o.now) f) (sym out) printed) heard into e
+
+kept_waits : (old new : Option ScriptMark) (waiting later : List Waiting) (would : ℕ) → old ≡ None → new ≡ old → later ≡ waiting → length waiting ≡ would → WaitsBy new would (length later)
+kept_waits old new waiting later would none same is long =
+    subst (λ (m : Option ScriptMark). WaitsBy m would (length later)) (sym (same ∙ none)) (ap length is ∙ long)
+
+failed_waits : (new : Option ScriptMark) (waiting later : List Waiting) (would : ℕ) → new ≡ Some Output → later ≡ waiting → length waiting ≡ would → WaitsBy new would (length later)
+failed_waits new waiting later would marked is long =
+    subst (λ (m : Option ScriptMark). WaitsBy m would (length later)) (sym marked) (ap length is ∙ long)
+
+-- calls of the sink
+module _ {S K N : Type 0} {g : source.Ghosts S} {h : sink.Ghosts K} (n : start.Ghosts N) (a b : ScriptBoard S K g h) (on : a.mark ≡ None)
+    (input : b.input ≡ a.input) (buffer : b.buffer ≡ a.buffer) (ahead : b.ahead ≡ a.ahead) (line : b.line ≡ a.line) (waiting : b.waiting ≡ a.waiting)
+    (told : h.tells_written b.out.now → h.tells_written a.out.now) where
+  pub lists_sent : (x : SentFrame) → x.peer < 256 → AreBytes x.bytes → b.mark ≡ a.mark → (h.tells_written b.out.now → h.written b.out.now ≡ h.written a.out.now ++ frame_line x)
+      → (heard : Option Event) (into : List ℕ) (e : List Received) (f : List SentFrame) → HasLists n a heard into e f → HasLists n b heard into e (f ++ x ∷ [])
+  lists_sent x peer bytes mark written heard into e f = lists_then n a b on (ap (λ i. i.now) input) (unread_by _ _ _ _ (ap (λ l. l.items) buffer) ahead) line
+      (λ would long. kept_waits a.mark b.mark a.waiting.items b.waiting.items would on mark (ap (λ w. w.items) waiting) long)
+      told f (f ++ x ∷ []) (λ other tells printed. printed_more n.written (h.written a.out.now) (h.written b.out.now) f x peer bytes (written tells) printed) heard into e
+
+  pub lists_unsent : b.mark ≡ Some Output
+      → (heard : Option Event) (into : List ℕ) (e : List Received) (f : List SentFrame) → HasLists n a heard into e f → HasLists n b heard into e f
+  lists_unsent mark heard into e f = lists_then n a b on (ap (λ i. i.now) input) (unread_by _ _ _ _ (ap (λ l. l.items) buffer) ahead) line
+      (λ would long. failed_waits b.mark a.waiting.items b.waiting.items would mark (ap (λ w. w.items) waiting) long)
+      told f f (λ other tells printed. absurd (other mark)) heard into e
 
 -- a call where only the number of receptions may be told
 pub stands_then : {S K N : Type 0} {g : source.Ghosts S} {h : sink.Ghosts K} (n : start.Ghosts N) (a b : ScriptBoard S K g h) (room over : Bool) (heard later : Option Event) (buffer more : List ℕ)
