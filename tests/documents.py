@@ -3,10 +3,10 @@
 
 Quotes are word for word what the sources say (tools/quotes.py). Each link leads to a file, and to a heading there. In
 docs/MAP.md each file is there and has the functions that are named with it, and in docs/DEFINITIONS.md each crate has
-its definitions. In the README of each crate each function has the clauses that stand beside it in parentheses. Wherever
-a document names a clause, a law or a wrong body of a crate, the crate has it. All name one kit, and it is told where
-the kit of this machine is another one. The sizes in docs/PROVED.md are those of the sources to a tenth, and the longest
-chain in docs/MAP.md is a longest one.
+its definitions. docs/MAP.md and docs/PROVED.md name each crate, and in its README each function has the clauses that
+stand beside it in parentheses. Wherever a document names a clause, a law or a wrong body of a crate, the crate has it.
+All name one kit, and it is told where the kit of this machine is another one. The sizes in docs/PROVED.md are those of
+the sources to a tenth, and the longest chain in docs/MAP.md is a longest one.
 """
 import os
 import re
@@ -147,10 +147,13 @@ class Documents(unittest.TestCase):
                             self.assertTrue(os.path.exists(f"{TOP}/crates/{crate}/must-fail/{edit}.edit"))
 
     def test_each_crate_says_what_it_proves(self):
+        index, map_of_crates = sources.text_of("docs/PROVED.md"), sources.text_of("docs/MAP.md")
         for crate in sorted(os.listdir(os.path.join(TOP, "crates"))):
             document = f"crates/{crate}/README.md"
             with self.subTest(document):
                 self.assertTrue(os.path.exists(os.path.join(TOP, document)))
+                self.assertIn(f"../{document}", index)
+                self.assertRegex(map_of_crates, rf"\b{crate}\b")
             for functions, clauses, laws in points(document):
                 with self.subTest(f"{document}: {' '.join(functions)}"):
                     self.assertNotIn(None, [sources.clauses_of(crate, name) for name in functions + laws])
