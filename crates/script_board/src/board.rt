@@ -72,12 +72,20 @@ pub struct ScriptBoard<'a, S: Source, K: Sink> {
 }
 
 impl<'a, S: Source, K: Sink> ScriptBoard<'a, S, K> {
-    ghost use Rattle.std.specs.Prelude.{◌≡◌, ◌<◌, ◌⊎◌, ◌↔◌, true, false, Some, drop, OnOk, OnErr, IsOk, IsErr};
-    ghost use Rattle.flash_traits.specs.Words.{region_length, programmed, erased, IsSectorRegion};
+    ghost use Rattle.std.specs.Prelude.{◌≡◌, ◌<◌, ◌⊎◌, ◌↔◌, true, false, Some, drop, slice_index, OnOk, OnErr, IsOk, IsErr};
+    ghost use Rattle.flash_traits.specs.Words.{region_length, halfwords_in, programmed, erased, IsSectorRegion};
     ghost use Rattle.script_board.specs.Image.{words_of, half_erased};
     ghost use Rattle.script_board.specs.Waiting.{falls_now, counted, first_leaves};
     ghost use Rattle.script_board.specs.Boards.{words_in, OnlyDevice, after_loss, erased_by};
     ghost use Rattle.script_board.specs.declared.board.ScriptMark.TheVariants.{Lost};
+
+    /// The halfword at an offset of a region.
+    pub fn halfword(&self, region: Region, at: u32) -> u16
+        requires { at < region_length self.now.geometry.sector_bytes region }
+        ensures { result ≡ slice_index (halfwords_in (words_in self.now) region) at }
+    {
+        image::read(&self.image, self.geometry.sector_bytes, region, at)
+    }
 
     /// Programs a halfword, or loses power before or after that: exactly where the first waiting
     /// loss falls in this call.

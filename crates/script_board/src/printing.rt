@@ -65,6 +65,7 @@ impl<'a, S: Source, K: Sink> ScriptBoard<'a, S, K> {
         ensures unmarked { OnOk result (self.new.mark ≡ self.old.mark) }
         ensures marked { OnErr result (self.new.mark ≡ Some Output) }
         ensures cause { HasOneCause (K.faults self.old.out.now) (K.faults self.new.out.now) result }
+        ensures same_out { self.new.out.ghost_name ≡ self.old.out.ghost_name }
         ensures others { OnlySink self.old self.new }
     {
         let line = frame_line(peer, bytes);

@@ -79,6 +79,7 @@ impl<'a, S: Source, K: Sink> ScriptBoard<'a, S, K> {
         ensures marked { OnErr result (slice_index self.old.faults 3 ≡ 0 → IsSome self.new.mark) }
         ensures output { self.old.mark ≡ Some Output → self.new.mark ≡ Some Output }
         ensures cause { HasOneCause (hears S.Source self.old) (hears S.Source self.new) result }
+        ensures same_input { self.new.input.ghost_name ≡ self.old.input.ghost_name }
         ensures others { OnlyScript self.old self.new }
     {
         if self.line >= SCRIPT_LINES {
@@ -149,6 +150,7 @@ impl<'a, S: Source, K: Sink> ScriptBoard<'a, S, K> {
         ensures marked { OnErr result (slice_index self.old.faults 3 ≡ 0 → IsSome self.new.mark) }
         ensures output { self.old.mark ≡ Some Output → self.new.mark ≡ Some Output }
         ensures cause { HasOneCause (hears S.Source self.old) (hears S.Source self.new) result }
+        ensures same_input { self.new.input.ghost_name ≡ self.old.input.ghost_name }
         ensures others { OnlyScript self.old self.new }
     {
         'lines: loop {
