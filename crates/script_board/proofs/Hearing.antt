@@ -1,5 +1,5 @@
 -- What a reception heard, and what follows for the lines that it took.
-use Rattle.std.proofs.Common.{◌≡◌, ◌≢◌, inl, inr, ℕ, ◌+◌, ◌≤◌, List, [], ◌∷◌, ◌++◌, length, Option, Result, Ok, Err, refl, sym, ◌∙◌, ap, subst, arith, append_assoc, append-nil, length-append}
+use Rattle.std.proofs.Common.{◌≡◌, ◌≢◌, inl, inr, ℕ, ◌≤◌, List, [], ◌∷◌, ◌++◌, length, Option, Result, Ok, Err, refl, sym, ◌∙◌, ap, subst, arith, append_assoc, append-nil, length-append}
 use Rattle.std.specs.Prelude.{MatchResult}
 use Rattle.flash_traits.specs.Losses as link
 use Rattle.flash_traits.specs.Losses.{Received, received}
@@ -48,7 +48,7 @@ pub no_end-losses : (lines : List ScriptLine) → AreLosses lines → HasNoEnd l
 no_end-losses [] x = tt
 no_end-losses (l ∷ a) x = (loss_no_end l x.0, no_end-losses a x.1)
 
--- one line behind such losses
+-- one line after such losses
 event_last : (a : List ScriptLine) (l : ScriptLine) → AreLosses a → events_of (a ++ l ∷ []) ≡ events_in l
 event_last a l x = events-append a (l ∷ []) ∙ ap (λ (e : List Received). e ++ (events_in l ++ [])) (no_events-losses a x) ∙ append-nil (events_in l)
 
@@ -91,7 +91,7 @@ ends_in End is = refl
 pub ends-heard : (buffer : List ℕ) (lines : List ScriptLine) → IsHeard event.End buffer lines → EndsWithEnd lines
 ends-heard buffer lines h = (h.0, h.2 ∙ ap (λ (l : ScriptLine). h.0 ++ l ∷ []) (ends_in h.1 h.4), no_end-losses h.0 h.3)
 
--- a line `x` behind such losses
+-- a line `x` after such losses
 module _ (front lines : List ScriptLine) (ends : lines ≡ front ++ LossNow ∷ []) (losses : AreLosses front) where
   pub no_events-lost : events_of lines ≡ []
   no_events-lost = ap events_of ends ∙ event_last front LossNow losses

@@ -5,4 +5,5 @@ pub mod TakenLines
 pub mod Hearing
 pub mod Waits
 pub mod Listed
+pub mod FrameLines
 pub mod Leaving

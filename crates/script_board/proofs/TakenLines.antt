@@ -88,7 +88,7 @@ taken_join ls ms x y v w f r0 r1 (inr a) b rest unread =
         )
     last a (inr b) none ending = absurd (no_line ms (subst (λ (l : List ℕ). AreLines ms (l ++ line_feed ∷ [])) none b.0))
 
--- Lines that were taken, and lines behind them, are all those lines.
+-- Lines that were taken, and lines that were taken after them, are all those lines.
 pub taken-append : (ls ms : List ScriptLine) (a x b y c : List ℕ) → a ≡ x ++ b → AreTaken ls x b → b ≡ y ++ c → AreTaken ms y c
     → (a ≡ (x ++ y) ++ c) × AreTaken (ls ++ ms) (x ++ y) c
 taken-append ls ms a x b y c first are second more = (

@@ -1,5 +1,5 @@
 -- Losses at later calls before the line of an event.
-use Rattle.std.proofs.Common.{◌≡◌, ◌⊎◌, inl, inr, ℕ, ◌+◌, ◌≤◌, ◌<◌, List, [], ◌∷◌, ◌++◌, length, take, Option, refl, sym, ◌∙◌, ap, subst, arith, length-append}
+use Rattle.std.proofs.Common.{◌≡◌, ◌⊎◌, inl, inr, ℕ, ◌+◌, ◌≤◌, ◌<◌, List, [], ◌∷◌, ◌++◌, length, take, Option, refl, ◌∙◌, ap, subst, arith, length-append}
 use Rattle.flash_traits.specs.declared.numbers.TheConstants.{STATIONS}
 use Rattle.flash_traits.specs.declared.stream.Source as source
 use Rattle.flash_traits.specs.declared.stream.Sink as sink
@@ -40,7 +40,7 @@ take_front n xs ys is = ap (λ (k : ℕ). take k (xs ++ ys)) is ∙ front xs ys
 pub station_fits : (line : ScriptLine) (station : ℕ) (bytes text : List ℕ) → line ≡ Datagram station bytes → Spells line text → station < STATIONS
 station_fits line station bytes text is spells = (subst (λ (l : ScriptLine). Spells l text) is spells).station_fits
 
--- no event behind losses at later calls, by the line that wasn't taken
+-- no event after losses at later calls, by why the next line wasn't taken
 pub unheard_then : (m0 m1 m2 : Option ScriptMark) (f0 f1 s0 s1 s2 : ℕ) (lines : List ScriptLine) (line : ℕ) (refused : Type 0) → m1 ≡ m0 → f1 ≡ f0 → s0 ≤ s1 → AreLosses lines
     → (Rose s1 s2 × (f1 ≡ 0 → m2 ≡ marked m1 Input)) ⊎ (refused × (m2 ≡ marked m1 (Refused line)))
     → IsUnheard m0 m2 f0 lines (Rose s0 s2) line refused
