@@ -1,5 +1,5 @@
 -- The board in a place, from which a call of a node takes it and where it puts it back.
-use Rattle.std.specs.Prelude.{◌≡◌, ◌≢◌, ◌≤◌, ℕ, ◌+◌, ◌*◌, ◌-◌, true, Bool, Option, Some, None, IsSome, List, [], ◌++◌, length, take, Result, Err}
+use Rattle.std.specs.Prelude.{◌≡◌, ◌≢◌, ◌≤◌, ℕ, ◌+◌, ◌*◌, ◌-◌, true, Bool, Option, Some, None, IsSome, List, [], ◌++◌, length, take, Result, Err, OnOk}
 use Rattle.std.specs.Borrow.{GName}
 use Rattle.flash_traits.specs.Words.{Words}
 use Rattle.flash_traits.specs.Losses.{SentFrame}
@@ -12,7 +12,7 @@ use Rattle.script_lines.specs.Script.{ScriptLine}
 use Rattle.script_lines.specs.declared.line.Waiting.{Waiting}
 use Rattle.script_lines.specs.declared.numbers.TheConstants.{SCRIPT_LINES}
 use Rattle.script_board.specs.Boards.{words_in, unread_in}
-use Rattle.script_board.specs.Hearing.{IsRefused}
+use Rattle.script_board.specs.Hearing.{IsRefused, loses}
 use Rattle.script_board.specs.Printing.{frame_lines}
 use Rattle.script_board.specs.Taking.{events_of}
 use Rattle.script_board.specs.declared.board.ScriptBoard.{ScriptBoard}
@@ -179,6 +179,8 @@ module _ {S K : Type 0} {g : source.Ghosts S} {h : sink.Ghosts K} where
     pub finished : ℕ
     pub added : Added n place lines
     pub uses : TurnUses result lines finished n.waiting (waiting_at place)
+    pub some : OnOk result (1 ≤ length lines)
+    pub few : waiting_at place ≤ n.waiting + loses lines
     pub printed : result ≢ Err (Stopped stops.Output) → Printed n place frames
     pub ends : result ≢ Err (Stopped stops.Output) → TellsWritten place
         → EventEnds budget result old new (events_of lines) frames finished (words_at place)

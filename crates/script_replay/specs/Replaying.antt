@@ -10,7 +10,6 @@ use Rattle.script_board.specs.declared.board.ScriptBoard.{ScriptBoard}
 use Rattle.replay.specs.Breaks.{OnRefused}
 use Rattle.replay.specs.Histories.{Replayed, CutShort}
 use Rattle.replay.specs.declared.Stop.{Stop}
-use Rattle.replay.specs.declared.Break.TheVariants.{Stopped}
 use Rattle.script_replay.specs.Calls.{Takes}
 use Rattle.script_replay.specs.Places.{input_of, out_of, size_of, words_at, unread_at, rest_at, TellsRest, written_at, TellsWritten, line_at, losses_at, waiting_at, RefusesAt, input_faults_at, output_faults_at}
 use Rattle.script_replay.specs.declared.start.Beginning as beginning
@@ -60,4 +59,4 @@ module _ {S K : Type 0} {g : source.Ghosts S} {h : sink.Ghosts K} {M : Type 0}
   StopsAt before place stop = RanSo before place (λ lines text.
       CutShort (budget_of m.sector_bytes) before lines text stop (waiting_at place)
       (words_at place)
-      × OnRefused (RefusesAt place) (Stopped stop))
+      × OnRefused (RefusesAt place) stop)

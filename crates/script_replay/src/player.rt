@@ -7,7 +7,7 @@ ghost use Rattle.sector_image.specs.FirstBad.{FirstBad};
 ghost use Rattle.vehicle_node.specs.Refusals.{OnFault};
 ghost use Rattle.script_lines.specs.Script as script;
 ghost use Rattle.script_board.specs.Printing.{loss_line};
-ghost use Rattle.replay.specs.Breaks.{OnLost, OnRefused, OnForeign, OnWorn, OnInput, OnOutput};
+ghost use Rattle.replay.specs.Breaks.{OnStopped, OnRefused, OnForeign, OnWorn, OnInput, OnOutput};
 ghost use Rattle.replay.specs.Playing.{OpenEnds, CloseEnds, QuietUses};
 ghost use Rattle.replay.specs.declared.Break.TheVariants as breaks;
 ghost use Rattle.replay.specs.declared.Stop.TheVariants as stops;
@@ -66,13 +66,13 @@ fn open_on<'a, S: Source, K: Sink, N: Start>(
         → OpenEnds (budget_of N.sector_bytes) result (words_at place.old) (words_at place.new) }
     ensures uses { QuietUses result N.waiting (waiting_at place.new) }
     ensures foreign { IfErr result
-        (OnForeign (λ word. FirstBad (words_at place.old) word)) }
-    ensures worn { IfErr result (OnWorn (λ count. count ≡ GUARD_HALFWORDS)) }
-    ensures refused { IfErr result (OnRefused (λ line. ⊥)) }
+        (OnStopped (OnForeign (λ word. FirstBad (words_at place.old) word))) }
+    ensures worn { IfErr result (OnStopped (OnWorn (λ count. count ≡ GUARD_HALFWORDS))) }
+    ensures refused { IfErr result (OnStopped (OnRefused (λ line. ⊥))) }
     ensures input { IfErr result
-        (OnInput (Rose N.input_faults (input_faults_at place.new))) }
+        (OnStopped (OnInput (Rose N.input_faults (input_faults_at place.new)))) }
     ensures output { IfErr result
-        (OnOutput (Rose N.output_faults (output_faults_at place.new))) }
+        (OnStopped (OnOutput (Rose N.output_faults (output_faults_at place.new)))) }
 {
     let Some(mut board) = place.take() else {
         unreachable!();
@@ -116,13 +116,13 @@ fn event_on<'a, S: Source, K: Sink, N: Start>(
     ensures back { Returns N.Start place.new }
     ensures plays { Plays N.Start (budget_of N.sector_bytes) place.new node.old node.new result }
     ensures fits { OnOk result (FitsAt ⟦<ScriptBoard<'a, S, K> as Board>⟧ place.new node.new) }
-    ensures foreign { IfErr result (OnForeign (λ word. ⊥)) }
-    ensures worn { IfErr result (OnWorn (λ count. count ≡ GUARD_HALFWORDS)) }
-    ensures refused { IfErr result (OnRefused (RefusesAt place.new)) }
+    ensures foreign { IfErr result (OnStopped (OnForeign (λ word. ⊥))) }
+    ensures worn { IfErr result (OnStopped (OnWorn (λ count. count ≡ GUARD_HALFWORDS))) }
+    ensures refused { IfErr result (OnStopped (OnRefused (RefusesAt place.new))) }
     ensures input { IfErr result
-        (OnInput (Rose N.input_faults (input_faults_at place.new))) }
+        (OnStopped (OnInput (Rose N.input_faults (input_faults_at place.new)))) }
     ensures output { IfErr result
-        (OnOutput (Rose N.output_faults (output_faults_at place.new))) }
+        (OnStopped (OnOutput (Rose N.output_faults (output_faults_at place.new)))) }
 {
     let Some(mut board) = place.take() else {
         unreachable!();
@@ -170,13 +170,13 @@ fn close_on<'a, S: Source, K: Sink, N: Start>(
     ensures ends { result ≢ Err (breaks.Stopped stops.Output) → TellsWritten place.new
         → CloseEnds (budget_of N.sector_bytes) result node (words_at place.new) }
     ensures uses { QuietUses result N.waiting (waiting_at place.new) }
-    ensures foreign { IfErr result (OnForeign (λ word. ⊥)) }
-    ensures worn { IfErr result (OnWorn (λ count. count ≡ GUARD_HALFWORDS)) }
-    ensures refused { IfErr result (OnRefused (λ line. ⊥)) }
+    ensures foreign { IfErr result (OnStopped (OnForeign (λ word. ⊥))) }
+    ensures worn { IfErr result (OnStopped (OnWorn (λ count. count ≡ GUARD_HALFWORDS))) }
+    ensures refused { IfErr result (OnStopped (OnRefused (λ line. ⊥))) }
     ensures input { IfErr result
-        (OnInput (Rose N.input_faults (input_faults_at place.new))) }
+        (OnStopped (OnInput (Rose N.input_faults (input_faults_at place.new)))) }
     ensures output { IfErr result
-        (OnOutput (Rose N.output_faults (output_faults_at place.new))) }
+        (OnStopped (OnOutput (Rose N.output_faults (output_faults_at place.new)))) }
 {
     let Some(mut board) = place.take() else {
         unreachable!();
@@ -230,6 +230,17 @@ fn print_on<'a, S: Source, K: Sink, N: Start>(
     printed
 }
 
+/// Whether none of the printed lines failed, after a call that ended so.
+fn still_printed<T>(printed: bool, answer: &Result<T, Break>) -> bool
+    ensures before { result ≡ true → printed ≡ true }
+    ensures unfailed { result ≡ true → answer.now ≢ Err (breaks.Stopped stops.Output) }
+{
+    match answer {
+        Err(Break::Stopped(Stop::Output)) => false,
+        _ => printed,
+    }
+}
+
 /// The board of a replay, between the calls of its nodes.
 #[derive(Drop)]
 pub(crate) struct ScriptPlayer<'a, S: Source, K: Sink, M: Beginning> {
@@ -268,33 +279,25 @@ impl<'a, S: Source, K: Sink, M: Beginning> Player for ScriptPlayer<'a, S, K, M> 
 
     fn open(&mut self, alloc: Global) -> Result<Node, Break> {
         let opened = open_on::<S, K, Brand>(alloc, &mut self.place);
-        if let Err(Break::Stopped(Stop::Output)) = &opened {
-            self.printed = false;
-        }
+        self.printed = still_printed(self.printed, &opened);
         opened
     }
 
     fn event(&mut self, node: &mut Node) -> Result<Turn, Break> {
         let played = event_on::<S, K, Brand>(node, &mut self.place);
-        if let Err(Break::Stopped(Stop::Output)) = &played {
-            self.printed = false;
-        }
+        self.printed = still_printed(self.printed, &played);
         played
     }
 
     fn close(&mut self, node: Node) -> Result<(), Break> {
         let closed = close_on::<S, K, Brand>(node, &mut self.place);
-        if let Err(Break::Stopped(Stop::Output)) = &closed {
-            self.printed = false;
-        }
+        self.printed = still_printed(self.printed, &closed);
         closed
     }
 
     fn print_loss(&mut self) -> Result<(), Failed> {
         let printed = print_on::<S, K, Brand>(&mut self.place);
-        if printed.is_err() {
-            self.printed = false;
-        }
+        self.printed = self.printed && printed.is_ok();
         printed
     }
 }

@@ -9,7 +9,6 @@ ghost use Rattle.script_board.specs.Image.{words_of};
 ghost use Rattle.script_board.specs.declared.image.TheConstants.{IMAGE_BYTES};
 ghost use Rattle.replay.specs.Breaks.{OnForeign, OnWorn, OnInput, OnOutput};
 ghost use Rattle.replay.specs.declared.Stop.TheVariants as stops;
-ghost use Rattle.replay.specs.declared.Break.TheVariants.{Stopped};
 ghost use Rattle.sha2.specs.Sha256.{sha256};
 ghost use Rattle.sector_image.specs.FirstBad.{FirstBad};
 ghost use Rattle.script_replay.specs.Answers.{IsForeign};
@@ -106,15 +105,15 @@ fn replay_on<'a, S: Source, K: Sink, M: Beginning>(
     ensures replayed { OnOk result (ReplaysAt M.Beginning (words_at place.old) place.new) }
     ensures cut_short { IfErr result
         (λ stop. stop ≢ stops.Output → StopsAt M.Beginning (words_at place.old) place.new stop) }
-    ensures foreign { IfErr result (λ stop. OnForeign (λ word.
+    ensures foreign { IfErr result (OnForeign (λ word.
         TellsRest place.new → TellsWritten place.new
-        → (b : List ℕ) → Stands (words_at place.old) b → ⊥) (Stopped stop)) }
+        → (b : List ℕ) → Stands (words_at place.old) b → ⊥)) }
     ensures worn { IfErr result
-        (λ stop. OnWorn (λ count. count ≡ GUARD_HALFWORDS) (Stopped stop)) }
+        (OnWorn (λ count. count ≡ GUARD_HALFWORDS)) }
     ensures input { IfErr result
-        (λ stop. OnInput (Rose M.input_faults (input_faults_at place.new)) (Stopped stop)) }
+        (OnInput (Rose M.input_faults (input_faults_at place.new))) }
     ensures output { IfErr result
-        (λ stop. OnOutput (Rose M.output_faults (output_faults_at place.new)) (Stopped stop)) }
+        (OnOutput (Rose M.output_faults (output_faults_at place.new))) }
 {
     let mut player = ScriptPlayer {
         place: place.take(),
@@ -168,15 +167,15 @@ pub fn replay_script<S: Source, K: Sink>(
         → (text : List ℕ) × (K.written out.new ≡ K.written out.old ++ text) }
 
     // Why it stopped.
-    ensures foreign { IfErr result (λ stop. OnForeign (λ place.
+    ensures foreign { IfErr result (OnForeign (λ place.
         S.tells_rest input.new → K.tells_written out.new
-        → (b : List ℕ) → Stands (words_of sector_bytes image.items) b → ⊥) (Stopped stop)) }
+        → (b : List ℕ) → Stands (words_of sector_bytes image.items) b → ⊥)) }
     ensures worn { IfErr result
-        (λ stop. OnWorn (λ count. count ≡ GUARD_HALFWORDS) (Stopped stop)) }
+        (OnWorn (λ count. count ≡ GUARD_HALFWORDS)) }
     ensures input { IfErr result
-        (λ stop. OnInput (Rose (S.faults input.old) (S.faults input.new)) (Stopped stop)) }
+        (OnInput (Rose (S.faults input.old) (S.faults input.new))) }
     ensures output { IfErr result
-        (λ stop. OnOutput (Rose (K.faults out.old) (K.faults out.new)) (Stopped stop)) }
+        (OnOutput (Rose (K.faults out.old) (K.faults out.new))) }
 
     ensures input_counts { S.faults input.old ≤ S.faults input.new }
     ensures output_counts { K.faults out.old ≤ K.faults out.new }

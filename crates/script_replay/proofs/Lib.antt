@@ -1,0 +1,9 @@
+pub mod Fits
+pub mod Ended
+pub mod Uses
+pub mod Scripts
+pub mod Boards
+pub mod Heard
+pub mod Played
+pub mod Remaining
+pub mod Places
