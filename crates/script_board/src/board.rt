@@ -16,8 +16,8 @@ use script_lines::{READ_BYTES, Waiting};
 pub enum ScriptMark {
     /// Power was lost.
     Lost,
-    /// The line of this number isn't of the grammar, `e` is missing there, or one loss more than
-    /// sixteen would wait.
+    /// The line of this number, from 1, isn't of the grammar, `e` is missing there, or one loss
+    /// more than sixteen would wait.
     Refused { line: u32 },
     /// The source failed.
     Input,
