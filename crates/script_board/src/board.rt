@@ -72,7 +72,8 @@ pub struct ScriptBoard<'a, S: Source, K: Sink> {
 }
 
 impl<'a, S: Source, K: Sink> ScriptBoard<'a, S, K> {
-    ghost use Rattle.std.specs.Prelude.{◌≡◌, ◌<◌, ◌⊎◌, ◌↔◌, true, false, Some, drop, slice_index, OnOk, OnErr, IsOk, IsErr};
+    ghost use Rattle.std.specs.Prelude.{◌≡◌, ◌<◌, ◌⊎◌, ◌↔◌, ◌^◌, ℕ, true, false, Some, drop, slice_index, OnOk, OnErr, IsOk, IsErr};
+    ghost use Rattle.flash_traits.specs.declared.board.Region.{Region};
     ghost use Rattle.flash_traits.specs.Words.{region_length, halfwords_in, programmed, erased, IsSectorRegion};
     ghost use Rattle.script_board.specs.Image.{words_of, half_erased};
     ghost use Rattle.script_board.specs.Waiting.{falls_now, counted, first_leaves};
@@ -85,6 +86,13 @@ impl<'a, S: Source, K: Sink> ScriptBoard<'a, S, K> {
         ensures { result ≡ slice_index (halfwords_in (words_in self.now) region) at }
     {
         image::read(&self.image, self.geometry.sector_bytes, region, at)
+    }
+
+    /// Each word is a halfword.
+    pub fn are_halfwords(&self)
+        ensures { (r : Region) (k : ℕ) → slice_index (halfwords_in (words_in self.now) r) k < 2 ^ 16 }
+    {
+        image::has_shape(&self.image, self.geometry.sector_bytes)
     }
 
     /// Programs a halfword, or loses power before or after that: exactly where the first waiting

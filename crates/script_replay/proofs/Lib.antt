@@ -1,3 +1,6 @@
+pub mod Lists
+pub mod Steps
+pub mod Left
 pub mod Fits
 pub mod Ended
 pub mod Uses

@@ -18,9 +18,11 @@ use Rattle.script_replay.specs.declared.start.Start as start
 module _ {S K N : Type 0} {g : source.Ghosts S} {h : sink.Ghosts K} (n : start.Ghosts N) where
   -- The events are those that were received, and the frames those that were printed, where no line
   -- failed and the sink tells its bytes. The lines of the script that were taken are told by what
-  -- was heard.
+  -- was heard. What source and sink tell, they told before.
   pub record HasLists (b : ScriptBoard S K g h) (heard : Option Event) (buffer : List ℕ)
       (events : List Received) (frames : List SentFrame) : Type 0 where
+    pub told_rest : g.tells_rest b.input.now → n.tells_rest
+    pub told_written : h.tells_written b.out.now → n.tells_written
     pub events_are : events ≡ events_heard heard buffer
     pub printed : b.mark ≢ Some Output → h.tells_written b.out.now
         → ArePrinted n.written (h.written b.out.now) frames

@@ -1,5 +1,6 @@
 //! The board of a script during one call of a node.
-ghost use Rattle.std.specs.Prelude.{◌≡◌, ◌≤◌, ◌+◌, ◌-◌, ◌^◌, min, ℕ, Some, None, slice_index, length, take};
+ghost use Rattle.std.specs.Prelude.{◌≡◌, ◌≢◌, ◌<◌, ◌≤◌, ℕ, Some, None, length, take, slice_index};
+ghost use Rattle.flash_traits.specs.Counts.{raised};
 ghost use Rattle.flash_traits.specs.Causes.{Rose};
 ghost use Rattle.script_board.specs.declared.board.ScriptMark.TheVariants.{Output};
 
@@ -30,13 +31,31 @@ pub(crate) struct Held<'a, S: Source, K: Sink, N: Start> {
     ghost same_room: { room ≡ N.room },
     ghost on: { board.mark ≡ None → failed ≡ 0 },
     ghost unfailed: { board.mark ≡ None → slice_index board.faults 3 ≡ 0 },
-    ghost told_rest: { S.tells_rest board.input.now → N.tells_rest },
-    ghost told_written: { K.tells_written board.out.now → N.tells_written },
     ghost grows: { K.tells_written board.out.now
+        → length N.written ≤ length (K.written board.out.now) },
+    ghost kept: { K.tells_written board.out.now
         → take (length N.written) (K.written board.out.now) ≡ N.written },
     ghost input_counts: { N.input_faults ≤ S.faults board.input.now },
     ghost output_counts: { N.output_faults ≤ K.faults board.out.now },
     ghost output: { board.mark ≡ Some Output → Rose N.output_faults (K.faults board.out.now) },
+}
+
+/// A board's moment after one more call of this kind.
+fn counted(mut moment: [u64; 4], kind: usize) -> [u64; 4]
+    requires { kind < 4 }
+    ensures counted { slice_index result kind ≡ raised (slice_index moment kind) }
+    ensures others { (k : ℕ) → (k ≢ kind) → slice_index result k ≡ slice_index moment k }
+{
+    moment[kind] = moment[kind].saturating_add(1);
+    moment
+}
+
+/// Counts a call that fails.
+fn refuse(failed: &mut u64) -> Failed
+    ensures { failed.new ≡ raised failed.old }
+{
+    *failed = failed.saturating_add(1);
+    Failed
 }
 
 impl<'a, S: Source, K: Sink, N: Start> Board for Held<'a, S, K, N> {
@@ -63,7 +82,7 @@ impl<'a, S: Source, K: Sink, N: Start> Board for Held<'a, S, K, N> {
 
     ghost faults = { λ h. failures h.attaches h.failed };
 
-    ghost reads = { λ h o now. now.words };
+    ghost reads = { λ h o now. (tt, now.words) };
 
     ghost counts_now = { λ h t o le now. now };
 
@@ -82,37 +101,38 @@ impl<'a, S: Source, K: Sink, N: Start> Board for Held<'a, S, K, N> {
 
     fn read(&mut self, region: Region, at: u32) -> Result<u16, Failed> {
         if self.board.mark.is_some() {
-            return Err(self.refuse());
+            return Err(refuse(&mut self.failed));
         }
         Ok(self.board.halfword(region, at))
     }
 
     fn program(&mut self, region: Region, at: u32, word: u16) -> Result<(), Failed> {
-        self.board.moment[0] = self.board.moment[0].saturating_add(1);
+        self.board.moment = counted(self.board.moment, 0);
         if self.board.mark.is_some() {
-            return Err(self.refuse());
+            return Err(refuse(&mut self.failed));
         }
         match self.board.program_or_lose(region, at, word) {
             Ok(()) => Ok(()),
-            Err(_) => Err(self.refuse()),
+            Err(_) => Err(refuse(&mut self.failed)),
         }
     }
 
     fn erase(&mut self, region: Region) -> Result<(), Failed> {
-        self.board.moment[1] = self.board.moment[1].saturating_add(1);
+        self.board.moment = counted(self.board.moment, 1);
+        self.board.are_halfwords();
         if self.board.mark.is_some() {
-            return Err(self.refuse());
+            return Err(refuse(&mut self.failed));
         }
         match self.board.erase_or_lose(region) {
             Ok(()) => Ok(()),
-            Err(_) => Err(self.refuse()),
+            Err(_) => Err(refuse(&mut self.failed)),
         }
     }
 
     fn recv(&mut self, into: &mut [u8]) -> Result<Event, Failed> {
-        self.board.moment[2] = self.board.moment[2].saturating_add(1);
+        self.board.moment = counted(self.board.moment, 2);
         if self.board.mark.is_some() {
-            return Err(self.refuse());
+            return Err(refuse(&mut self.failed));
         }
         if self.over || !self.room || self.heard.is_some() {
             self.over = true;
@@ -124,26 +144,18 @@ impl<'a, S: Source, K: Sink, N: Start> Board for Held<'a, S, K, N> {
                 self.buffer.copy_from_slice(into);
                 Ok(event)
             }
-            Err(_) => Err(self.refuse()),
+            Err(_) => Err(refuse(&mut self.failed)),
         }
     }
 
     fn send(&mut self, peer: u8, bytes: &[u8]) -> Result<(), Failed> {
-        self.board.moment[3] = self.board.moment[3].saturating_add(1);
+        self.board.moment = counted(self.board.moment, 3);
         if self.board.mark.is_some() {
-            return Err(self.refuse());
+            return Err(refuse(&mut self.failed));
         }
         match self.board.print_frame(peer, bytes) {
             Ok(()) => Ok(()),
-            Err(_) => Err(self.refuse()),
+            Err(_) => Err(refuse(&mut self.failed)),
         }
-    }
-}
-
-impl<'a, S: Source, K: Sink, N: Start> Held<'a, S, K, N> {
-    /// Counts a call that fails: the board is off.
-    fn refuse(&mut self) -> Failed {
-        self.failed = self.failed.saturating_add(1);
-        Failed
     }
 }
