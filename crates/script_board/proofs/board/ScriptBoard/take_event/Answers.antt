@@ -20,6 +20,7 @@ lines-init g c = record {
   source = omega arith;
   failures = refl;
   others = only_none c.args.self.now;
+  same_input = refl;
   into = refl;
   same_input = refl;
 }
@@ -46,6 +47,7 @@ lines-preserved g c =
       source = omega (arith, c.lines.invariant.source, c.in-Ok.ensures.source);
       failures = c.in-Ok.ensures.unfailed ∙ c.lines.invariant.failures;
       others = only_then c.args.self.now c.lines.self c.next_line.new.self c.lines.invariant.others c.in-Ok.ensures.others;
+      same_input = c.in-Ok.ensures.same_input ∙ c.lines.invariant.same_input;
       into = c.lines.invariant.into;
       same_input = c.in-Ok.ensures.same_input ∙ c.lines.invariant.same_input;
     }
