@@ -36,7 +36,7 @@ pub heard_then : (room : Bool) (heard : Option Event) (buffer : List ℕ) (mark 
     → ((would : ℕ) → now ≡ would → WaitsBy mark would later)
     → HasHeard room heard buffer None before now faulted next refused lines → HasHeard room heard buffer mark before later fault more refusal lines
 heard_then room None buffer mark before now later next more faulted refused fault refusal lines waits (inl (none, same)) = inl (none, waits before same)
-heard_then room None buffer mark before now later next more faulted refused fault refusal lines waits (inr (open, unheard, same)) = absurd (on_heard faulted refused next lines unheard)
+heard_then room None buffer mark before now later next more faulted refused fault refusal lines waits (inr (roomy, unheard, same)) = absurd (on_heard faulted refused next lines unheard)
 heard_then room (Some event) buffer mark before now later next more faulted refused fault refusal lines waits (heard, same) = (heard, waits _ same)
 
 -- what was heard, by the parts of the board that tell it
@@ -84,10 +84,11 @@ module _ {S K N : Type 0} {g : source.Ghosts S} {h : sink.Ghosts K} (n : start.G
     line = line ∙ had.line;
     hears = heard_then n.room heard buffer b.mark n.waiting (length a.waiting.items) (length b.waiting.items) _ _ _ _ _ _ had.lines waits
         (subst (λ (m : Option ScriptMark). HasHeard n.room heard buffer m n.waiting (length a.waiting.items) (Rose n.input_faults (g.faults a.input.now)) (a.line + 1)
-            (IsRefused a.line a.waiting.items (unread_in a) (g.tells_rest a.input.now) (g.rest a.input.now)) had.lines) on had.hears);
+        (IsRefused a.line a.waiting.items (unread_in a) (g.tells_rest a.input.now) (g.rest a.input.now)) had.lines) on had.hears);
     takes = λ told. subst (λ (s : S). Takes n.unread n.rest (unread_in b) (g.rest s) had.lines) (sym input)
         (subst (λ (u : List ℕ). Takes n.unread n.rest u (g.rest a.input.now) had.lines) (sym unread) (had.takes (subst (λ (s : S). g.tells_rest s) input told)));
   }
+
 pub none_is : {A : Type 0} (o : Option A) (r : Bool) → r ≡ is_some o → r ≡ false → o ≡ None
 none_is None r is off = refl
 none_is (Some x) r is off = let both : true ≡ false = sym is ∙ off in cc

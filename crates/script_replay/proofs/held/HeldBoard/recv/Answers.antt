@@ -58,10 +58,10 @@ returns-in-Err-clause-lists g c e f =
     let now = c.in-Err.ensures in
     let was = c.args.self.now in
     let on = none_is was.board.mark _ c.is_some.ensures c.if-is_some.false in
-    let open = sym was.same_room ∙ c.if-not-self.false in
+    let roomy = sym was.same_room ∙ c.if-not-self.false in
     let none = none_is was.heard _ c.is_some-else-not-self.ensures c.if-is_some-2.false in
     stands_then g.N.Start c.args.self.now.board _ _ _ _ _ _ _ _ _ _ _ (omega arith)
-    (lists_unheard g.N.Start c.args.self.now.board _ on now.others.out now.took.0 now.took.1 now.took.2 now.took.4 _ _ _ _ _ open none (was.unfailed on) was.input_counts now.took.5 now.took.6)
+    (lists_unheard g.N.Start c.args.self.now.board _ on now.others.out now.took.0 now.took.1 now.took.2 now.took.4 _ _ _ _ _ roomy none (was.unfailed on) was.input_counts now.took.5 now.took.6)
 
 pub returns-in-Err-clause-time : goal.returns-in-Err-clause-time
 returns-in-Err-clause-time g c =
