@@ -54,7 +54,7 @@ fn put(bytes: &mut [u8], at: usize, word: u16)
 }
 
 /// The halfword at an offset of a region.
-pub(crate) fn read(image: &[u8], sector_bytes: u32, region: Region, at: u32) -> u16
+pub fn read(image: &[u8], sector_bytes: u32, region: Region, at: u32) -> u16
     requires size { length image.now ≡ IMAGE_BYTES }
     requires known { IsSectorSize sector_bytes }
     requires inside { at < region_length sector_bytes region }

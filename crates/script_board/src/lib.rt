@@ -8,7 +8,7 @@
 mod ahead;
 mod board;
 mod device;
-mod image;
+pub mod image;
 mod printing;
 mod taking;
 mod waiting;

@@ -46,7 +46,7 @@ impl<'a, S: Source, K: Sink> ScriptBoard<'a, S, K> {
     ghost use Rattle.std.specs.Prelude.{◌≡◌, ◌≤◌, ◌+◌, ◌-◌, ◌^◌, ◌++◌, min, ℕ, length, take, Some, OnOk, OnErr, MatchResult};
     ghost use Rattle.flash_traits.specs.Causes.{HasOneCause};
     ghost use Rattle.flash_traits.specs.Losses.{sent_frame};
-    ghost use Rattle.script_board.specs.Printing.{frame_line};
+    ghost use Rattle.script_board.specs.Printing.{frame_line, loss_line};
     ghost use Rattle.script_board.specs.Boards.{OnlySink};
     ghost use Rattle.script_board.specs.declared.board.ScriptMark.TheVariants.{Output};
 
@@ -79,5 +79,19 @@ impl<'a, S: Source, K: Sink> ScriptBoard<'a, S, K> {
                 Err(failed)
             }
         }
+    }
+
+    /// Prints `loss`. It fails only where the sink does.
+    pub fn print_loss(&mut self) -> Result<(), Failed>
+        ensures told { K.tells_written self.new.out.now → K.tells_written self.old.out.now }
+        ensures written { K.tells_written self.new.out.now → MatchResult result
+            (λ _. K.written self.new.out.now ≡ K.written self.old.out.now ++ loss_line)
+            (λ _. (count : ℕ) × (K.written self.new.out.now
+            ≡ K.written self.old.out.now ++ take count loss_line)) }
+        ensures cause { HasOneCause (K.faults self.old.out.now) (K.faults self.new.out.now) result }
+        ensures same_out { self.new.out.ghost_name ≡ self.old.out.ghost_name }
+        ensures others { OnlySink self.old self.new }
+    {
+        self.out.write_all(b"loss\n")
     }
 }

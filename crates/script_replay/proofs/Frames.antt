@@ -1,5 +1,6 @@
 -- The frames that were printed since a call of a node began, read from the back.
-use Rattle.std.proofs.Common.{◌≡◌, ◌⊎◌, inl, inr, ℕ, zero, suc, ◌≤◌, ◌<◌, List, [], ◌∷◌, ◌++◌, length, slice_index, refl, sym, ◌∙◌, ap, subst, arith, append_assoc, append-nil, length-append}
+use Rattle.std.proofs.Common.{◌≡◌, ◌⊎◌, inl, inr, ℕ, zero, suc, ◌≤◌, ◌<◌, List, [], ◌∷◌, ◌++◌, length, take, slice_index, refl, sym, ◌∙◌, ap, subst, arith, append_assoc, append-nil, length-append}
+use Rattle.std.proofs.lemmas.List.{length-take}
 use Rattle.flash_traits.specs.Losses.{SentFrame}
 use Rattle.script_board.specs.Printing.{frame_line, frame_lines}
 use Rattle.script_board.proofs.FrameLines.{frame_line-last, frame_line-some}
@@ -25,6 +26,10 @@ frames_apart (f ∷ first) last are = let rest = frames_apart first last are.2 i
 
 one_more : (first : List SentFrame) (last : SentFrame) → frame_lines (first ++ last ∷ []) ≡ frame_lines first ++ frame_line last
 one_more first last = frame_lines-append first (last ∷ []) ∙ ap (λ (l : List ℕ). frame_lines first ++ l) (append-nil (frame_line last))
+
+-- what begins with other bytes is no shorter
+pub front_fits : (before now : List ℕ) → take (length before) now ≡ before → length before ≤ length now
+front_fits before now is = omega (arith, ap length is, length-take (length before) now)
 
 -- one frame more was printed
 pub printed_more : (before was now : List ℕ) (frames : List SentFrame) (x : SentFrame) → x.peer < 256 → AreBytes x.bytes → now ≡ was ++ frame_line x → ArePrinted before was frames

@@ -1,5 +1,5 @@
 -- The one reception of a call of a node.
-use Rattle.std.proofs.Common.{◌≡◌, ◌≢◌, ◌⊎◌, inl, inr, ℕ, ◌+◌, ◌≤◌, true, false, List, [], ◌∷◌, ◌++◌, length, slice_index, Option, Some, None, Result, Ok, Err, refl, sym, ◌∙◌, ap, subst, arith, append_assoc}
+use Rattle.std.proofs.Common.{◌≡◌, ◌≢◌, ◌⊎◌, inl, inr, ℕ, ◌+◌, ◌≤◌, Bool, true, false, List, [], ◌∷◌, ◌++◌, length, slice_index, Option, Some, None, Result, Ok, Err, refl, sym, ◌∙◌, ap, subst, arith, append_assoc}
 use Rattle.std.specs.Option.{IsSome}
 use Rattle.flash_traits.specs.declared.stream.Source as source
 use Rattle.flash_traits.specs.declared.stream.Sink as sink
@@ -62,10 +62,10 @@ unheard_since old now failures next faults was lines here refused none few le (i
 unheard_since old now failures next faults was lines here refused none few le (inr (inr (losses, refusal, mark))) = inr (inr (losses, refusal, mark ∙ ap (λ m. marked m (Refused next)) none))
 
 -- nothing was heard before
-pub nothing_yet : (buffer : List ℕ) (mark : Option ScriptMark) (before now next : ℕ) (faulted refused : Type 0) (lines : List ScriptLine) → mark ≡ None → HasHeard None buffer mark before now faulted next refused lines
+pub nothing_yet : (room : Bool) (buffer : List ℕ) (mark : Option ScriptMark) (before now next : ℕ) (faulted refused : Type 0) (lines : List ScriptLine) → mark ≡ None → HasHeard room None buffer mark before now faulted next refused lines
     → (lines ≡ []) × (now ≡ before)
-nothing_yet buffer mark before now next faulted refused lines on (inl (none, waits)) = (none, subst (λ (m : Option ScriptMark). WaitsBy m before now) on waits)
-nothing_yet buffer mark before now next faulted refused lines on (inr (unheard, waits)) =
+nothing_yet room buffer mark before now next faulted refused lines on (inl (none, waits)) = (none, subst (λ (m : Option ScriptMark). WaitsBy m before now) on waits)
+nothing_yet room buffer mark before now next faulted refused lines on (inr (roomy, unheard, waits)) =
     absurd (on_heard faulted refused next lines (subst (λ (m : Option ScriptMark). IsUnheard None m 0 lines faulted next refused) on unheard))
 
 module _ {S K N : Type 0} {g : source.Ghosts S} {h : sink.Ghosts K} (n : start.Ghosts N) (a b : ScriptBoard S K g h) (on : a.mark ≡ None) (out : b.out ≡ a.out) (lines : List ScriptLine) (count : ℕ)
@@ -76,7 +76,7 @@ module _ {S K N : Type 0} {g : source.Ghosts S} {h : sink.Ghosts K} (n : start.G
     where
       more : HasLists n a None buffer e f → HasLists n b (Some event) later (e ++ received event into ∷ []) f
       more had =
-          let yet = nothing_yet buffer a.mark n.waiting (length a.waiting.items) _ _ _ had.lines on had.hears in
+          let yet = nothing_yet n.room buffer a.mark n.waiting (length a.waiting.items) _ _ _ had.lines on had.hears in
           record {
             told_rest = λ told. had.told_rest (took.told_rest told);
             told_written = λ told. had.told_written (subst (λ o. h.tells_written o.now) out told);
@@ -92,15 +92,15 @@ module _ {S K N : Type 0} {g : source.Ghosts S} {h : sink.Ghosts K} (n : start.G
             takes = λ told. takes_first g a.input.now b.input.now n.unread n.rest (unread_in a) (unread_in b) had.lines lines count yet.0 took told (had.takes (took.told_rest told));
           }
 
-  pub lists_unheard : (failures : ℕ) → heard ≡ None → failures ≡ 0 → n.input_faults ≤ g.faults a.input.now → length b.waiting.items ≡ length a.waiting.items + loses lines
+  pub lists_unheard : (failures : ℕ) → n.room ≡ true → heard ≡ None → failures ≡ 0 → n.input_faults ≤ g.faults a.input.now → length b.waiting.items ≡ length a.waiting.items + loses lines
       → IsUnheard a.mark b.mark failures lines (Rose (g.faults a.input.now) (g.faults b.input.now)) (b.line + 1) (IsRefused b.line b.waiting.items (unread_in b) (g.tells_rest b.input.now) (g.rest b.input.now))
       → HasLists n a heard buffer e f → HasLists n b heard buffer e f
-  lists_unheard failures none few low waits unheard stood =
+  lists_unheard failures roomy none few low waits unheard stood =
       subst (λ (x : Option Event). HasLists n b x buffer e f) (sym none) (more (subst (λ (x : Option Event). HasLists n a x buffer e f) none stood))
     where
       more : HasLists n a None buffer e f → HasLists n b None buffer e f
       more had =
-          let yet = nothing_yet buffer a.mark n.waiting (length a.waiting.items) _ _ _ had.lines on had.hears in
+          let yet = nothing_yet n.room buffer a.mark n.waiting (length a.waiting.items) _ _ _ had.lines on had.hears in
           record {
             told_rest = λ told. had.told_rest (took.told_rest told);
             told_written = λ told. had.told_written (subst (λ o. h.tells_written o.now) out told);
@@ -108,6 +108,6 @@ module _ {S K N : Type 0} {g : source.Ghosts S} {h : sink.Ghosts K} (n : start.G
             printed = λ other told. subst (λ o. ArePrinted n.written (h.written o.now) f) (sym out) (had.printed (λ is. none_no_output (sym on ∙ is)) (subst (λ o. h.tells_written o.now) out told));
             lines = lines;
             line = line ∙ omega (arith, had.line, ap length yet.0);
-            hears = inr (unheard_since a.mark b.mark failures (b.line + 1) n.input_faults (g.faults a.input.now) lines (g.faults b.input.now) _ on few low unheard, omega (arith, waits, yet.1));
+            hears = inr (roomy, unheard_since a.mark b.mark failures (b.line + 1) n.input_faults (g.faults a.input.now) lines (g.faults b.input.now) _ on few low unheard, omega (arith, waits, yet.1));
             takes = λ told. takes_first g a.input.now b.input.now n.unread n.rest (unread_in a) (unread_in b) had.lines lines count yet.0 took told (had.takes (took.told_rest told));
           }

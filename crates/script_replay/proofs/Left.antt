@@ -1,5 +1,5 @@
 -- What a loss leaves of a board during a call of a node, from one of its calls to the next.
-use Rattle.std.proofs.Common.{◌≡◌, ◌≢◌, ◌⊎◌, inl, inr, ℕ, zero, suc, ◌+◌, ◌≤◌, ◌<◌, Bool, true, false, List, [], ◌∷◌, ◌++◌, length, Option, Some, None, refl, sym, ◌∙◌, ap, subst, arith}
+use Rattle.std.proofs.Common.{◌≡◌, ◌≢◌, ◌⊎◌, inl, inr, ℕ, zero, suc, ◌+◌, ◌≤◌, ◌<◌, Bool, true, false, List, [], ◌∷◌, ◌++◌, length, take, Option, Some, None, refl, sym, ◌∙◌, ap, subst, arith}
 use Rattle.flash_traits.specs.declared.stream.Source as source
 use Rattle.flash_traits.specs.declared.stream.Sink as sink
 use Rattle.flash_traits.specs.Words.{Words}
@@ -13,7 +13,7 @@ use Rattle.script_board.specs.Printing.{frame_line}
 use Rattle.script_replay.specs.Calls.{AreBytes, ArePrinted, events_heard}
 use Rattle.script_replay.specs.Held.{HasLeft}
 use Rattle.script_replay.specs.declared.start.Start as start
-use Rattle.script_replay.proofs.Frames.{printed_last}
+use Rattle.script_replay.proofs.Frames.{front_fits, printed_last}
 
 -- what a loss in a program leaves, by the way of the loss
 pub program_leaves : (how : ℕ) (before later now : Words) → now ≡ after_loss how before later → (now ≡ before) ⊎ (now ≡ later)
@@ -66,10 +66,10 @@ module _ {S K N : Type 0} {g : source.Ghosts S} {h : sink.Ghosts K} (n : start.G
 
   -- a frame was printed
   pub left_sent : (x : SentFrame) → x.peer < 256 → AreBytes x.bytes → (h.tells_written b.out.now → h.tells_written a.out.now) → b.mark ≡ a.mark → words_in b ≡ words_in a
-      → (h.tells_written a.out.now → length n.written ≤ length (h.written a.out.now)) → (h.tells_written b.out.now → h.written b.out.now ≡ h.written a.out.now ++ frame_line x)
+      → (h.tells_written a.out.now → take (length n.written) (h.written a.out.now) ≡ n.written) → (h.tells_written b.out.now → h.written b.out.now ≡ h.written a.out.now ++ frame_line x)
       → (o : Outcome) → HasLeft n over b heard buffer o → After (HasLeft n over a heard buffer) (Sends x) o
-  left_sent x peer bytes told mark words grown written o left =
-      let last = printed_last n.written (h.written a.out.now) (h.written b.out.now) o.frames x (grown (told left.told)) peer bytes (written left.told) left.frames in
+  left_sent x peer bytes told mark words kept written o left =
+      let last = printed_last n.written (h.written a.out.now) (h.written b.out.now) o.frames x (front_fits n.written (h.written a.out.now) (kept (told left.told))) peer bytes (written left.told) left.frames in
       record {
         from = record { words = o.words; events = o.events; frames = last.0 };
         was = record {

@@ -3,3 +3,12 @@ pub mod Lists
 pub mod Hearing
 pub mod Left
 pub mod Steps
+pub mod Fits
+pub mod Ended
+pub mod Uses
+pub mod Scripts
+pub mod Boards
+pub mod Heard
+pub mod Played
+pub mod Remaining
+pub mod Places

@@ -32,17 +32,17 @@ on_heard faulted refused next lines (inr (inl (losses, fault, mark))) = let is =
 on_heard faulted refused next lines (inr (inr (losses, refusal, mark))) = cc
 
 -- what a call that takes no line does to the losses that wait, where the script had not failed
-pub heard_then : (heard : Option Event) (buffer : List ℕ) (mark : Option ScriptMark) (before now later next more : ℕ) (faulted refused fault refusal : Type 0) (lines : List ScriptLine)
+pub heard_then : (room : Bool) (heard : Option Event) (buffer : List ℕ) (mark : Option ScriptMark) (before now later next more : ℕ) (faulted refused fault refusal : Type 0) (lines : List ScriptLine)
     → ((would : ℕ) → now ≡ would → WaitsBy mark would later)
-    → HasHeard heard buffer None before now faulted next refused lines → HasHeard heard buffer mark before later fault more refusal lines
-heard_then None buffer mark before now later next more faulted refused fault refusal lines waits (inl (none, same)) = inl (none, waits before same)
-heard_then None buffer mark before now later next more faulted refused fault refusal lines waits (inr (unheard, same)) = absurd (on_heard faulted refused next lines unheard)
-heard_then (Some event) buffer mark before now later next more faulted refused fault refusal lines waits (heard, same) = (heard, waits _ same)
+    → HasHeard room heard buffer None before now faulted next refused lines → HasHeard room heard buffer mark before later fault more refusal lines
+heard_then room None buffer mark before now later next more faulted refused fault refusal lines waits (inl (none, same)) = inl (none, waits before same)
+heard_then room None buffer mark before now later next more faulted refused fault refusal lines waits (inr (roomy, unheard, same)) = absurd (on_heard faulted refused next lines unheard)
+heard_then room (Some event) buffer mark before now later next more faulted refused fault refusal lines waits (heard, same) = (heard, waits _ same)
 
 -- what was heard, by the parts of the board that tell it
-abbrev HasHeardOf : {S : Type 0} → ℕ → ℕ → source.Ghosts S → Option Event → List ℕ → List ScriptLine → S → List ℕ → ℕ → Option ScriptMark → List Waiting → Type 0
-HasHeardOf waited faults g heard buffer lines s unread line mark waiting =
-    HasHeard heard buffer mark waited (length waiting) (Rose faults (g.faults s)) (line + 1) (IsRefused line waiting unread (g.tells_rest s) (g.rest s)) lines
+abbrev HasHeardOf : {S : Type 0} → Bool → ℕ → ℕ → source.Ghosts S → Option Event → List ℕ → List ScriptLine → S → List ℕ → ℕ → Option ScriptMark → List Waiting → Type 0
+HasHeardOf room waited faults g heard buffer lines s unread line mark waiting =
+    HasHeard room heard buffer mark waited (length waiting) (Rose faults (g.faults s)) (line + 1) (IsRefused line waiting unread (g.tells_rest s) (g.rest s)) lines
 
 module _ {S K N : Type 0} {g : source.Ghosts S} {h : sink.Ghosts K} (n : start.Ghosts N) (a b : ScriptBoard S K g h) where
   -- the board is the same
@@ -61,13 +61,13 @@ module _ {S K N : Type 0} {g : source.Ghosts S} {h : sink.Ghosts K} (n : start.G
   }
     where
       by_parts : (s : S) (u : List ℕ) (l : ℕ) (m : Option ScriptMark) (w : List Waiting) → s ≡ a.input.now → u ≡ unread_in a → l ≡ a.line → m ≡ a.mark → w ≡ a.waiting.items
-          → HasHeardOf n.waiting n.input_faults g heard buffer had.lines s u l m w
+          → HasHeardOf n.room n.waiting n.input_faults g heard buffer had.lines s u l m w
       by_parts s u l m w si ui li mi wi =
-          subst (λ (s : S). HasHeardOf n.waiting n.input_faults g heard buffer had.lines s u l m w) (sym si)
-          (subst (λ (u : List ℕ). HasHeardOf n.waiting n.input_faults g heard buffer had.lines a.input.now u l m w) (sym ui)
-          (subst (λ (l : ℕ). HasHeardOf n.waiting n.input_faults g heard buffer had.lines a.input.now (unread_in a) l m w) (sym li)
-          (subst (λ (m : Option ScriptMark). HasHeardOf n.waiting n.input_faults g heard buffer had.lines a.input.now (unread_in a) a.line m w) (sym mi)
-          (subst (λ (w : List Waiting). HasHeardOf n.waiting n.input_faults g heard buffer had.lines a.input.now (unread_in a) a.line a.mark w) (sym wi) had.hears))))
+          subst (λ (s : S). HasHeardOf n.room n.waiting n.input_faults g heard buffer had.lines s u l m w) (sym si)
+          (subst (λ (u : List ℕ). HasHeardOf n.room n.waiting n.input_faults g heard buffer had.lines a.input.now u l m w) (sym ui)
+          (subst (λ (l : ℕ). HasHeardOf n.room n.waiting n.input_faults g heard buffer had.lines a.input.now (unread_in a) l m w) (sym li)
+          (subst (λ (m : Option ScriptMark). HasHeardOf n.room n.waiting n.input_faults g heard buffer had.lines a.input.now (unread_in a) a.line m w) (sym mi)
+          (subst (λ (w : List Waiting). HasHeardOf n.room n.waiting n.input_faults g heard buffer had.lines a.input.now (unread_in a) a.line a.mark w) (sym wi) had.hears))))
 
   -- a call of the device or of the sink, where the script had not failed
   pub lists_then : a.mark ≡ None → b.input.now ≡ a.input.now → unread_in b ≡ unread_in a → b.line ≡ a.line
@@ -82,12 +82,13 @@ module _ {S K N : Type 0} {g : source.Ghosts S} {h : sink.Ghosts K} (n : start.G
     printed = λ other tells. prints other tells (had.printed (λ is. none_no_output (sym on ∙ is)) (told tells));
     lines = had.lines;
     line = line ∙ had.line;
-    hears = heard_then heard buffer b.mark n.waiting (length a.waiting.items) (length b.waiting.items) _ _ _ _ _ _ had.lines waits
-        (subst (λ (m : Option ScriptMark). HasHeard heard buffer m n.waiting (length a.waiting.items) (Rose n.input_faults (g.faults a.input.now)) (a.line + 1)
-            (IsRefused a.line a.waiting.items (unread_in a) (g.tells_rest a.input.now) (g.rest a.input.now)) had.lines) on had.hears);
+    hears = heard_then n.room heard buffer b.mark n.waiting (length a.waiting.items) (length b.waiting.items) _ _ _ _ _ _ had.lines waits
+        (subst (λ (m : Option ScriptMark). HasHeard n.room heard buffer m n.waiting (length a.waiting.items) (Rose n.input_faults (g.faults a.input.now)) (a.line + 1)
+        (IsRefused a.line a.waiting.items (unread_in a) (g.tells_rest a.input.now) (g.rest a.input.now)) had.lines) on had.hears);
     takes = λ told. subst (λ (s : S). Takes n.unread n.rest (unread_in b) (g.rest s) had.lines) (sym input)
         (subst (λ (u : List ℕ). Takes n.unread n.rest u (g.rest a.input.now) had.lines) (sym unread) (had.takes (subst (λ (s : S). g.tells_rest s) input told)));
   }
+
 pub none_is : {A : Type 0} (o : Option A) (r : Bool) → r ≡ is_some o → r ≡ false → o ≡ None
 none_is None r is off = refl
 none_is (Some x) r is off = let both : true ≡ false = sym is ∙ off in cc

@@ -28,7 +28,7 @@ module _ {S K N : Type 0} {g : source.Ghosts S} {h : sink.Ghosts K} (n : start.G
         → ArePrinted n.written (h.written b.out.now) frames
     pub lines : List ScriptLine
     pub line : b.line ≡ n.line + length lines
-    pub hears : HasHeard heard buffer b.mark n.waiting (length b.waiting.items)
+    pub hears : HasHeard n.room heard buffer b.mark n.waiting (length b.waiting.items)
         (Rose n.input_faults (g.faults b.input.now)) (b.line + 1)
         (IsRefused b.line b.waiting.items (unread_in b) (g.tells_rest b.input.now)
         (g.rest b.input.now))

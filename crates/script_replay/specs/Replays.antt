@@ -9,7 +9,6 @@ use Rattle.script_board.specs.Hearing.{IsRefused}
 use Rattle.replay.specs.Histories.{Replayed, CutShort}
 use Rattle.replay.specs.Breaks.{OnRefused}
 use Rattle.replay.specs.declared.Stop.{Stop}
-use Rattle.replay.specs.declared.Break.TheVariants.{Stopped}
 use Rattle.script_replay.specs.Calls.{Takes}
 
 -- The lines of the script up to its end were taken, this text was printed of them, and the digest is
@@ -36,4 +35,4 @@ pub record ReplaysPart (budget : ℕ) (before : Words) (rest_before rest_now tex
   pub now : Words
   pub cut : CutShort budget before lines text stop (length waiting) now
   pub refused : OnRefused (λ line. (line ≡ length lines + 1)
-      × IsRefused (length lines) waiting unread (Unit {0}) rest_now) (Stopped stop)
+      × IsRefused (length lines) waiting unread (Unit {0}) rest_now) stop

@@ -1,5 +1,5 @@
 //! The board of a script during one call of a node.
-ghost use Rattle.std.specs.Prelude.{◌≡◌, ◌≢◌, ◌<◌, ◌≤◌, ℕ, Some, None, length, slice_index};
+ghost use Rattle.std.specs.Prelude.{◌≡◌, ◌≢◌, ◌<◌, ◌≤◌, ℕ, Some, None, length, take, slice_index};
 ghost use Rattle.flash_traits.specs.Counts.{raised};
 ghost use Rattle.flash_traits.specs.Causes.{Rose};
 ghost use Rattle.script_board.specs.declared.board.ScriptMark.TheVariants.{Output};
@@ -28,10 +28,11 @@ pub(crate) struct Held<'a, S: Source, K: Sink, N: Start> {
     ghost same_input: { board.input.ghost_name ≡ N.input },
     ghost same_out: { board.out.ghost_name ≡ N.out },
     ghost size: { board.geometry.sector_bytes ≡ N.sector_bytes },
+    ghost same_room: { room ≡ N.room },
     ghost on: { board.mark ≡ None → failed ≡ 0 },
     ghost unfailed: { board.mark ≡ None → slice_index board.faults 3 ≡ 0 },
-    ghost grows: { K.tells_written board.out.now
-        → length N.written ≤ length (K.written board.out.now) },
+    ghost kept: { K.tells_written board.out.now
+        → take (length N.written) (K.written board.out.now) ≡ N.written },
     ghost input_counts: { N.input_faults ≤ S.faults board.input.now },
     ghost output_counts: { N.output_faults ≤ K.faults board.out.now },
     ghost output: { board.mark ≡ Some Output → Rose N.output_faults (K.faults board.out.now) },

@@ -8,6 +8,7 @@ mod held;
 mod player;
 mod replaying;
 mod start;
+mod still;
 
 pub use replay::Stop;
 pub use replaying::replay_script;

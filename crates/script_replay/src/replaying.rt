@@ -1,5 +1,5 @@
 //! The whole replay, from an image and a script to the digest of the storage bytes.
-ghost use Rattle.std.specs.Prelude.{◌≡◌, ◌≢◌, ◌≤◌, ◌++◌, List, ℕ, length, IfOk, IfErr};
+ghost use Rattle.std.specs.Prelude.{◌≡◌, ◌≢◌, ◌≤◌, ◌++◌, [], List, ℕ, length, IfOk, IfErr, OnOk, IfSome, IsSome};
 ghost use Rattle.flash_traits.specs.Words.{IsSectorSize};
 ghost use Rattle.flash_traits.specs.Budget.{budget_of};
 ghost use Rattle.flash_traits.specs.Causes.{Rose};
@@ -9,13 +9,129 @@ ghost use Rattle.script_board.specs.Image.{words_of};
 ghost use Rattle.script_board.specs.declared.image.TheConstants.{IMAGE_BYTES};
 ghost use Rattle.replay.specs.Breaks.{OnForeign, OnWorn, OnInput, OnOutput};
 ghost use Rattle.replay.specs.declared.Stop.TheVariants as stops;
-ghost use Rattle.replay.specs.declared.Break.TheVariants.{Stopped};
+ghost use Rattle.sha2.specs.Sha256.{sha256};
+ghost use Rattle.sector_image.specs.FirstBad.{FirstBad};
+ghost use Rattle.script_replay.specs.Answers.{IsForeign};
 ghost use Rattle.script_replay.specs.Replays.{ReplaysWhole, ReplaysPart};
+ghost use Rattle.script_replay.specs.Places.{HoldsAt, words_at, input_faults_at, output_faults_at, TellsRest, TellsWritten};
+ghost use Rattle.script_replay.specs.Replaying.{Begins, ReplaysAt, StopsAt};
 
-use flash_traits::{Sink, Source};
-use replay::Stop;
-use sector_image::Images;
+use crate::player::ScriptPlayer;
+use crate::start::Beginning;
+use crate::still::StillBoard;
+use arrayvec::ArrayVec;
+use flash_traits::{Geometry, Sink, Source};
+use replay::{Stop, replay};
+use script_board::ScriptBoard;
+use sector_image::{Images, SurveyError, one_of_both, survey};
+use sha2::{Digest, Sha256};
 use std::alloc::Global;
+use std::marker::{Brand, PhantomData};
+
+/// A place with a board over this image, before the first line of its script.
+fn placed<'a, S: Source, K: Sink>(
+    sector_bytes: u32,
+    image: Vec<u8>,
+    input: &'a mut S,
+    out: &'a mut K,
+) -> Option<ScriptBoard<'a, S, K>>
+    requires size { IsSectorSize sector_bytes }
+    requires whole { length image.items ≡ IMAGE_BYTES }
+    ensures these { IfSome result (λ board. (board.input ≡ input.entry) × (board.out ≡ out.entry)) }
+    ensures image { IfSome result (λ board. (board.geometry.sector_bytes ≡ sector_bytes)
+        × (board.image.items ≡ image.items)) }
+    ensures anew { IfSome result (λ board. (board.line ≡ 0) × (board.ahead ≡ 0)
+        × (board.waiting.items ≡ [])) }
+    ensures some { IsSome result }
+{
+    Some(ScriptBoard {
+        geometry: Geometry { sector_bytes },
+        image,
+        input,
+        out,
+        buffer: ArrayVec::new(),
+        ahead: 0,
+        line: 0,
+        taken: 0,
+        given: 0,
+        waiting: ArrayVec::new(),
+        since: 0,
+        mark: None,
+        moment: [0; 4],
+        faults: [0; 5],
+    })
+}
+
+/// Ends the loan of what is handed in.
+fn end<T>(place: &mut T)
+    ensures { place.new ≡ place.old }
+{}
+
+/// The SHA-256 of the storage bytes that an image stands for.
+fn digest_of(images: &mut Images, sector_bytes: u32, image: Vec<u8>) -> Result<[u8; 32], Stop>
+    requires size { IsSectorSize sector_bytes }
+    requires whole { length image.items ≡ IMAGE_BYTES }
+    ensures digest { IfOk result (λ digest. (bytes : List ℕ)
+        × Stands (words_of sector_bytes image.items) bytes × (digest ≡ sha256 bytes)) }
+    ensures foreign { IfErr result (IsForeign (FirstBad (words_of sector_bytes image.items))) }
+{
+    let mut board = StillBoard {
+        geometry: Geometry { sector_bytes },
+        image,
+        still: true,
+    };
+    match survey(&mut board, images) {
+        Ok(_) => Ok(Sha256::digest(images.whole())),
+        Err(SurveyError::Foreign {
+            region,
+            offset,
+            word,
+        }) => Err(Stop::Foreign {
+            region,
+            offset,
+            word,
+        }),
+        Err(SurveyError::Fault(_)) => unreachable!(),
+    }
+}
+
+/// Replays the script of the board in the place.
+fn replay_on<'a, S: Source, K: Sink, M: Beginning>(
+    alloc: Global,
+    place: &mut Option<ScriptBoard<'a, S, K>>,
+) -> Result<(), Stop>
+    requires begins { Begins M.Beginning place.old }
+    ensures holds { HoldsAt M.Beginning place.new }
+    ensures replayed { OnOk result (ReplaysAt M.Beginning (words_at place.old) place.new) }
+    ensures cut_short { IfErr result
+        (λ stop. stop ≢ stops.Output → StopsAt M.Beginning (words_at place.old) place.new stop) }
+    ensures foreign { IfErr result (OnForeign (λ word.
+        TellsRest place.new → TellsWritten place.new
+        → (b : List ℕ) → Stands (words_at place.old) b → ⊥)) }
+    ensures worn { IfErr result
+        (OnWorn (λ count. count ≡ GUARD_HALFWORDS)) }
+    ensures input { IfErr result
+        (OnInput (Rose M.input_faults (input_faults_at place.new))) }
+    ensures output { IfErr result
+        (OnOutput (Rose M.output_faults (output_faults_at place.new))) }
+{
+    let mut player = ScriptPlayer {
+        place: place.take(),
+        printed: true,
+        start: PhantomData::<M>,
+    };
+    let done = replay(alloc, &mut player);
+    let ScriptPlayer {
+        place: after,
+        printed: _,
+        start: _,
+    } = player;
+    let Some(board) = after else {
+        unreachable!();
+    };
+    let _ = place.replace(board);
+    done
+}
 
 /// Runs a script over the words of an image, whose first bytes are those of an image file with
 /// sectors of this size, and prints a line for each frame and each loss. The result is the SHA-256
@@ -51,20 +167,47 @@ pub fn replay_script<S: Source, K: Sink>(
         → (text : List ℕ) × (K.written out.new ≡ K.written out.old ++ text) }
 
     // Why it stopped.
-    ensures foreign { IfErr result (λ stop. OnForeign (λ place.
+    ensures foreign { IfErr result (OnForeign (λ place.
         S.tells_rest input.new → K.tells_written out.new
-        → (b : List ℕ) → Stands (words_of sector_bytes image.items) b → ⊥) (Stopped stop)) }
+        → (b : List ℕ) → Stands (words_of sector_bytes image.items) b → ⊥)) }
     ensures worn { IfErr result
-        (λ stop. OnWorn (λ count. count ≡ GUARD_HALFWORDS) (Stopped stop)) }
+        (OnWorn (λ count. count ≡ GUARD_HALFWORDS)) }
     ensures input { IfErr result
-        (λ stop. OnInput (Rose (S.faults input.old) (S.faults input.new)) (Stopped stop)) }
+        (OnInput (Rose (S.faults input.old) (S.faults input.new))) }
     ensures output { IfErr result
-        (λ stop. OnOutput (Rose (K.faults out.old) (K.faults out.new)) (Stopped stop)) }
+        (OnOutput (Rose (K.faults out.old) (K.faults out.new))) }
 
     ensures input_counts { S.faults input.old ≤ S.faults input.new }
     ensures output_counts { K.faults out.old ≤ K.faults out.new }
     ensures told_rest { S.tells_rest input.new → S.tells_rest input.old }
     ensures told_written { K.tells_written out.new → K.tells_written out.old }
 {
-    unreachable!()
+    one_of_both();
+    let mut place = placed(sector_bytes, image, input, out);
+    let done = replay_on::<S, K, Brand>(alloc, &mut place);
+    let Some(board) = place else {
+        unreachable!();
+    };
+    let ScriptBoard {
+        geometry,
+        image,
+        input,
+        out,
+        buffer: _,
+        ahead: _,
+        line: _,
+        taken: _,
+        given: _,
+        waiting: _,
+        since: _,
+        mark: _,
+        moment: _,
+        faults: _,
+    } = board;
+    end(input);
+    end(out);
+    match done {
+        Ok(()) => digest_of(images, geometry.sector_bytes, image),
+        Err(stop) => Err(stop),
+    }
 }

@@ -1,5 +1,5 @@
 //! What stood before the calls of a node, as ghost values.
-ghost use Rattle.std.specs.Prelude.{[], List, ℕ};
+ghost use Rattle.std.specs.Prelude.{[], List, ℕ, Bool, false};
 ghost use Rattle.std.specs.Borrow.{GName};
 
 use std::marker::Brand;
@@ -12,6 +12,9 @@ pub trait Start {
     ghost out: { GName };
 
     ghost sector_bytes: { ℕ };
+
+    /// The call may receive an event.
+    ghost room: { Bool };
 
     /// The bytes that were read and not taken, and those that were left to read, where the source
     /// told them.
@@ -44,6 +47,8 @@ impl Start for Brand {
 
     ghost sector_bytes = { 0 };
 
+    ghost room = { false };
+
     ghost unread = { [] };
 
     ghost rest = { [] };
@@ -72,8 +77,20 @@ pub trait Beginning {
 
     ghost sector_bytes: { ℕ };
 
-    /// The bytes that were left to read.
+    /// The bytes that were left to read, where the source told them.
     ghost rest: { List ℕ };
+
+    ghost tells_rest: { Type 0 };
+
+    /// The bytes that were printed, where the sink told them.
+    ghost written: { List ℕ };
+
+    ghost tells_written: { Type 0 };
+
+    /// How often the source and the sink had failed.
+    ghost input_faults: { ℕ };
+
+    ghost output_faults: { ℕ };
 }
 
 impl Beginning for Brand {
@@ -84,4 +101,14 @@ impl Beginning for Brand {
     ghost sector_bytes = { 0 };
 
     ghost rest = { [] };
+
+    ghost tells_rest = { ⊥ };
+
+    ghost written = { [] };
+
+    ghost tells_written = { ⊥ };
+
+    ghost input_faults = { 0 };
+
+    ghost output_faults = { 0 };
 }

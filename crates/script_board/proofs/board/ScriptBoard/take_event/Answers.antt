@@ -20,8 +20,8 @@ lines-init g c = record {
   source = omega arith;
   failures = refl;
   others = only_none c.args.self.now;
-  into = refl;
   same_input = refl;
+  into = refl;
 }
 
 pub lines-preserved : goal.lines-preserved
@@ -46,8 +46,8 @@ lines-preserved g c =
       source = omega (arith, c.lines.invariant.source, c.in-Ok.ensures.source);
       failures = c.in-Ok.ensures.unfailed ∙ c.lines.invariant.failures;
       others = only_then c.args.self.now c.lines.self c.next_line.new.self c.lines.invariant.others c.in-Ok.ensures.others;
-      into = c.lines.invariant.into;
       same_input = c.in-Ok.ensures.same_input ∙ c.lines.invariant.same_input;
+      into = c.lines.invariant.into;
     }
 
 pub returns-in-LossNow-clause-took : goal.returns-in-LossNow-clause-took

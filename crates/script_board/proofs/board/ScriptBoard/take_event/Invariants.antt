@@ -19,8 +19,8 @@ invariant-lines g l = record {
   source : g.S.Source.faults l.fn.self.input.now ≤ g.S.Source.faults l.self.input.now;
   failures : slice_index l.self.faults 3 ≡ slice_index l.fn.self.faults 3;
   others : OnlyScript l.fn.self l.self;
-  into : length l.into ≡ length l.fn.into;
   same_input : l.self.input.ghost_name ≡ l.fn.self.input.ghost_name;
+  into : length l.into ≡ length l.fn.into;
 }
 
 abbrev pub decreases-lines : goal.decreases-lines

@@ -1,4 +1,4 @@
-use Rattle.std.proofs.Common.{◌≡◌, ◌≤◌, ℕ, List, [], ◌∷◌, length, length-append, rules, arith, refl, sym, ap, ◌∙◌, subst}
+use Rattle.std.proofs.Common.{◌≡◌, ◌≤◌, ℕ, List, [], ◌∷◌, length, take, length-append, rules, arith, refl, sym, ap, ◌∙◌, subst}
 use Rattle.flash_traits.specs.Losses.{received, Either, Unchanged, Receives}
 use Rattle.script_replay.proofs.Lists.{none_is, none_no_output, lists_same, stands_then}
 use Rattle.script_replay.proofs.Hearing.{not_on, unheard_mark, lists_heard, lists_unheard}
@@ -27,10 +27,11 @@ invariant_of-self-in-Err g c =
     record {
       same_input = now.same_input ∙ was.same_input;
       same_out = ap (λ o. o.ghost_name) now.others.out ∙ was.same_out;
+      same_room = was.same_room;
       size = ap (λ x. x.sector_bytes) now.others.geometry ∙ was.size;
       on = λ is. not_on c.take_event.new.self.mark _ off is;
       unfailed = λ is. not_on c.take_event.new.self.mark _ off is;
-      grows = λ told. subst (λ o. length g.N.Start.written ≤ length (g.K.Sink.written o.now)) (sym now.others.out) (was.grows (subst (λ o. g.K.Sink.tells_written o.now) now.others.out told));
+      kept = λ told. subst (λ o. take (length g.N.Start.written) (g.K.Sink.written o.now) ≡ g.N.Start.written) (sym now.others.out) (was.kept (subst (λ o. g.K.Sink.tells_written o.now) now.others.out told));
       input_counts = input_counts;
       output_counts = output_counts;
       output = λ is. absurd (unheard_mark _ _ _ _ _ _ _ on (was.unfailed on) now.took.6 is);
@@ -57,9 +58,10 @@ returns-in-Err-clause-lists g c e f =
     let now = c.in-Err.ensures in
     let was = c.args.self.now in
     let on = none_is was.board.mark _ c.is_some.ensures c.if-is_some.false in
+    let roomy = sym was.same_room ∙ c.if-not-self.false in
     let none = none_is was.heard _ c.is_some-else-not-self.ensures c.if-is_some-2.false in
     stands_then g.N.Start c.args.self.now.board _ _ _ _ _ _ _ _ _ _ _ (omega arith)
-    (lists_unheard g.N.Start c.args.self.now.board _ on now.others.out now.took.0 now.took.1 now.took.2 now.took.4 _ _ _ _ _ none (was.unfailed on) was.input_counts now.took.5 now.took.6)
+    (lists_unheard g.N.Start c.args.self.now.board _ on now.others.out now.took.0 now.took.1 now.took.2 now.took.4 _ _ _ _ _ roomy none (was.unfailed on) was.input_counts now.took.5 now.took.6)
 
 pub returns-in-Err-clause-time : goal.returns-in-Err-clause-time
 returns-in-Err-clause-time g c =

@@ -28,7 +28,7 @@ pub returns-in-Ok-clause-time : goal.returns-in-Ok-clause-time
 returns-in-Ok-clause-time g c =
     let now = c.in-Ok.ensures in
     let sent = left_sent g.N.Start c.args.self.now.board c.print_frame.new.self c.args.self.now.over c.args.self.now.heard c.args.self.now.buffer (sent_frame c.args.peer c.args.bytes.now) (omega arith)
-    (are_bytes c.args.bytes.now (λ k. let fits = c.type_inv.bytes k in omega (arith, fits))) now.told now.unmarked (same_words c.args.self.now.board c.print_frame.new.self now.others.geometry now.others.image) c.args.self.now.grows now.written in
+    (are_bytes c.args.bytes.now (λ k. let fits = c.type_inv.bytes k in omega (arith, fits))) now.told now.unmarked (same_words c.args.self.now.board c.print_frame.new.self now.others.geometry now.others.image) c.args.self.now.kept now.written in
     held_passes c.args.self.now _ _ _ (search rules) (λ o left. after_either _ Unchanged _ o (sent o left)) sent
 
 pub returns-in-Err-clause-lists : goal.returns-in-Err-clause-lists
