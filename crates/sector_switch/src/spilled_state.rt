@@ -240,7 +240,8 @@ fn put_spilled<B: Board>(
     ensures err { OnErr result (images.new ≡ images.old) }
     ensures changes { Changes B.Board board.old board.new (MayPut first bytes.now)
         (ByResult result (Puts first bytes.now) (MayPut first bytes.now)) }
-    ensures only_programs { OnlyPrograms B.Board (2 + length bytes.now / 2) board.old result board.new }
+    ensures only_programs { OnlyPrograms B.Board (2 + length bytes.now / 2)
+        board.old result board.new }
 {
     let Some(log) = kept.other else {
         unreachable!()
