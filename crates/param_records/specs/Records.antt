@@ -42,7 +42,8 @@ four_bytes n = n % 0x100 ∷ n / 0x100 % 0x100 ∷ n / 0x1_0000 % 0x100 ∷ n / 
 -- bits 0 to 7 are the key's low byte, bits 8 to 12 the type, bit 13 the key's bit 8, bits 14 to 31
 -- the element
 abbrev pub header_of : ℕ → ℕ → Kind → ℕ
-header_of key element kind = key % 256 + 256 * type_number kind + 8192 * (key / 256) + 16384 * element
+header_of key element kind = key % 0x100 + 0x100 * type_number kind + 0x2000 * (key / 0x100)
+    + 0x4000 * element
 
 -- the number that stands before the record's value
 abbrev pub header : Record → ℕ
@@ -87,7 +88,7 @@ pub record HasRecords (bytes : List ℕ) (records : List Record) (at : ℕ) : Ty
 -- the bytes read as a record of this kind
 abbrev pub read_as : Kind → List ℕ → Record
 read_as kind bytes = record {
-  key = slice_index bytes 0 + 256 * (slice_index bytes 1 / 32 % 2);
+  key = slice_index bytes 0 + 0x100 * (slice_index bytes 1 / 32 % 2);
   element = slice_index bytes 1 / 64 + 4 * slice_index bytes 2 + 1024 * slice_index bytes 3;
   kind = kind;
   value = take (size_of kind) (drop 4 bytes);

@@ -302,7 +302,8 @@ pub fn set_whole<const N: usize>(
     requires stand { SamePlaces table.now current.now (after current.now batch.old.items) }
     ensures ok { let before = after current.now batch.old.items in
         OnOk result (IfSome (slice_get table.now var) (λ row. batch.new.items ≡ batch.old.items
-        ++ writes_of before (set_pieces table.now (records_in_storage before) row (number_of_whole number)))) }
+        ++ writes_of before
+        (set_pieces table.now (records_in_storage before) row (number_of_whole number)))) }
     ensures err { OnErr result (batch.new ≡ batch.old) }
     ensures full { let before = after current.now batch.old.items in
         IfSome (slice_get table.now var) (λ row.

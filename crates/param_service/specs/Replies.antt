@@ -2,8 +2,7 @@
 use Rattle.std.specs.Prelude.{◌≡◌, ◌≢◌, ℕ, ◌^◌, List, IfSome, slice_get}
 use Rattle.std.specs.List.{AllZip}
 use Rattle.word_bits.specs.Pattern.{IsNearest}
-use Rattle.param_tree.specs.declared.Kind.{Kind}
-use Rattle.param_tree.specs.declared.Kind.TheVariants.{I8, I16, I32, F32, Vec3}
+use Rattle.param_tree.specs.MavTypes.{mav_type_of}
 use Rattle.param_tree.specs.Rows.{vehicle_rows}
 use Rattle.param_records.specs.declared.values.Value.{Value}
 use Rattle.param_records.specs.declared.values.Value.TheVariants.{Whole, Bits}
@@ -20,19 +19,11 @@ abbrev pub IsPatternOf : Value → ℕ → Type 0
 IsPatternOf (Whole z) bits = IsNearest bits z 1 × (bits ≢ 2 ^ 31)
 IsPatternOf (Bits pattern) bits = bits ≡ pattern
 
--- MAV_PARAM_TYPE: INT8, INT16, INT32, REAL32
-abbrev pub type_of : Kind → ℕ
-type_of I8 = 2
-type_of I16 = 4
-type_of I32 = 6
-type_of F32 = 9
-type_of Vec3 = 9
-
 -- the PARAM_VALUE of a row with this value
 abbrev pub ShowsValue : ℕ → Value → Message → Type 0
 ShowsValue index value message = IfSome (slice_get vehicle_rows index) (λ row.
     (bits : ℕ) × IsPatternOf value bits
-    × (message ≡ ParamValue bits parameters index row.name (type_of row.kind)))
+    × (message ≡ ParamValue bits parameters index row.name (mav_type_of row.kind)))
 
 -- a reply to the same with the row's PARAM_VALUE
 abbrev pub IsReplyOf : Shown → Reply → Type 0

@@ -6,13 +6,13 @@ ghost use Rattle.param_tree.specs.declared.Var.{Var};
 ghost use Rattle.param_records.specs.Values.{params_of};
 ghost use Rattle.param_index.specs.Places.{IsIndexOf};
 ghost use Rattle.param_service.specs.Requests.{parameters};
-ghost use Rattle.param_service.specs.Replies.{IsPatternOf, IsReplyOf, type_of};
+ghost use Rattle.param_service.specs.Replies.{IsPatternOf, IsReplyOf};
 
 use crate::requests::PARAMETERS;
 use mav_messages::{Message, Reply, To};
 use param_index::Index;
 use param_records::Value;
-use param_tree::{Kind, Table};
+use param_tree::{Table, mav_type_of};
 use word_bits::bits_of;
 
 /// The value of a row.
@@ -37,18 +37,6 @@ fn pattern_of(value: Value) -> u32
     }
 }
 
-/// MAV_PARAM_TYPE of MAVLink's common message set: INT8, INT16, INT32, REAL32.
-fn type_of(kind: Kind) -> u8
-    ensures { result ≡ type_of kind }
-{
-    match kind {
-        Kind::I8 => 2,
-        Kind::I16 => 4,
-        Kind::I32 => 6,
-        Kind::F32 | Kind::Vec3 => 9,
-    }
-}
-
 /// The reply that shows a row with this value: its PARAM_VALUE.
 pub fn reply(table: &Table<240>, to: To, index: u16, value: Value) -> Reply
     requires rows { table.now ≡ vehicle_rows }
@@ -64,7 +52,7 @@ pub fn reply(table: &Table<240>, to: To, index: u16, value: Value) -> Reply
             param_count: PARAMETERS,
             param_index: index,
             param_id,
-            param_type: type_of(row.kind),
+            param_type: mav_type_of(row.kind),
         },
     }
 }

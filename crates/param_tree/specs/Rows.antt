@@ -20,7 +20,14 @@ element_of (i ∷ j ∷ k ∷ _) = i + 64 * below j + 4096 * below k
 
 -- a row for one part of a value: name, key, path, kind, part and default
 abbrev pub part_row : List ℕ → ℕ → List ℕ → Kind → ℕ → ℕ → Var
-part_row n k path t p d = record { name = name16 n; key = k; element = element_of path; kind = t; part = p; default = d }
+part_row n k path t p d = record {
+  name = name16 n;
+  key = k;
+  element = element_of path;
+  kind = t;
+  part = p;
+  default = d;
+}
 
 -- a row for a whole value
 abbrev pub row : List ℕ → ℕ → List ℕ → Kind → ℕ → Var
@@ -130,7 +137,8 @@ rate_rows axis i =
 
 -- the attitude controller: its rate controllers of roll, pitch and yaw
 unfoldable pub attitude_rows : List Var
-attitude_rows = rate_rows (codes "RLL") 1 ++ (rate_rows (codes "PIT") 2 ++ rate_rows (codes "YAW") 3)
+attitude_rows =
+    rate_rows (codes "RLL") 1 ++ (rate_rows (codes "PIT") 2 ++ rate_rows (codes "YAW") 3)
 
 -- FLTMODEn, from the key 40 on
 unfoldable pub flight_mode_rows : ℕ → List Var
@@ -171,4 +179,5 @@ flight_rows = battery_rows ++ (attitude_rows ++ each_from flight_mode_rows 1 6)
 
 -- all 240 rows
 unfoldable pub vehicle_rows : List Var
-vehicle_rows = basic_rows ++ (sensor_rows ++ (flight_rows ++ (each_from servo_rows 1 16 ++ each_from rc_rows 1 16)))
+vehicle_rows = basic_rows
+    ++ (sensor_rows ++ (flight_rows ++ (each_from servo_rows 1 16 ++ each_from rc_rows 1 16)))

@@ -52,7 +52,8 @@ row_fits v = (nat_lt v.key 0x200 && nat_lt v.element 0x4_0000)
 
 -- w is the part p of the three floats that v is a part of
 abbrev pub is_part : Var → ℕ → Var → Bool
-is_part v p w = ((w.key == v.key) && (w.element == v.element)) && (is_three_floats w.kind && (w.part == p))
+is_part v p w = ((w.key == v.key) && (w.element == v.element))
+    && (is_three_floats w.kind && (w.part == p))
 
 -- the rows stand for the same part of the same stored value
 abbrev pub SamePlace : Var → Var → Type 0

@@ -4,6 +4,7 @@
 
 ghost use Rattle.std.specs.Prelude.{◌≡◌, ℕ, ◌<◌, ◌↔◌, All, IfSome, IfNone, IsNone, IsTrue, length, position, slice_get, ◌==◌, Some};
 ghost use Rattle.std.specs.List.{before_first};
+ghost use Rattle.param_tree.specs.MavTypes.{mav_type_of};
 ghost use Rattle.param_tree.specs.Rules.{IsTable, IsName, has_name, name16, row_fits};
 ghost use Rattle.param_tree.specs.Rows.{vehicle_rows};
 
@@ -24,6 +25,18 @@ pub enum Kind {
     F32,
     /// The patterns of three binary32, stored as one value; a row stands for one of them.
     Vec3,
+}
+
+/// MAV_PARAM_TYPE of MAVLink's common message set: INT8, INT16, INT32, REAL32.
+pub fn mav_type_of(kind: Kind) -> u8
+    ensures { result ≡ mav_type_of kind }
+{
+    match kind {
+        Kind::I8 => 2,
+        Kind::I16 => 4,
+        Kind::I32 => 6,
+        Kind::F32 | Kind::Vec3 => 9,
+    }
 }
 
 /// One row of a table.

@@ -1,6 +1,7 @@
 -- When what a state keeps fits a board and the bytes in memory.
 use Rattle.std.specs.Prelude.{◌≡◌, ℕ, ◌+◌, ◌-◌, ◌*◌, ◌/◌, ◌%◌, ◌≤◌, List, [], ◌++◌, length, Bool, true, false, Option, Some, None, IsSome, IfSome}
 use Rattle.std.specs.Option.{option_map, option_and_then, is_some}
+use Rattle.flash_traits.specs.declared.numbers.TheConstants.{GUARD_HALFWORDS}
 use Rattle.flash_traits.specs.Words.{Words, IsSectorSize}
 use Rattle.flash_traits.specs.declared.board.Board.{Ghosts}
 use Rattle.flash_traits.specs.declared.board.Mark.{Mark}
@@ -54,7 +55,7 @@ reading_of shape.Voided count home other = One count home
 pub record IsKept (name : Shape) (sector_bytes : ℕ) (kept : Kept) (images : Bytes) : Type 0 where
   pub attached : IsSectorSize sector_bytes
   pub size : kept.sector_bytes ≡ sector_bytes
-  pub count : kept.guard ≤ 8192
+  pub count : kept.guard ≤ GUARD_HALFWORDS
   pub parity : kept.guard % 2 ≡ parity_of name
   pub region : kept.home.region ≡ first_of kept.guard
   pub mark : kept.home.mark ≡ mark_of name

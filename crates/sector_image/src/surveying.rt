@@ -3,6 +3,7 @@
 ghost use Rattle.std.specs.Prelude.{◌≡◌, ◌%◌, ◌/◌, ◌≤◌, IsTrue, length, IfOk, OnOk, IfErr};
 ghost use Rattle.flash_traits.specs.declared.board.Fault.TheVariants.{Read};
 ghost use Rattle.flash_traits.specs.declared.board.Mark.TheVariants.{Available, InUse, Full};
+ghost use Rattle.flash_traits.specs.declared.numbers.TheConstants.{GUARD_HALFWORDS};
 ghost use Rattle.flash_traits.specs.Words.{IsSectorSize};
 ghost use Rattle.flash_traits.specs.Causes.{Rose};
 ghost use Rattle.guard_row.specs.Row.{IsGuardRow};
@@ -49,7 +50,7 @@ pub fn survey<B: Board>(board: &mut B, images: &mut Images) -> Result<Survey, Su
 /// The guard count.
 fn guard_count<B: Board>(board: &mut B) -> Result<u16, SurveyError>
     requires attached { IsSectorSize (B.sector_bytes board.old) }
-    ensures most { IfOk result (λ guard. guard ≤ 8192) }
+    ensures most { IfOk result (λ guard. guard ≤ GUARD_HALFWORDS) }
     ensures count { IfOk result (λ guard. B.tells board.new →
         IsGuardRow (B.words board.old).guard guard) }
     ensures foreign { IfErr result (λ e. OnForeign e
@@ -77,7 +78,7 @@ fn survey_sectors<B: Board>(
     upper: &mut [u8],
 ) -> Result<Survey, SurveyError>
     requires attached { IsSectorSize (B.sector_bytes board.old) }
-    requires most { guard ≤ 8192 }
+    requires most { guard ≤ GUARD_HALFWORDS }
     requires row { B.tells board.old → IsGuardRow (B.words board.old).guard guard }
     requires whole { length whole.old ≡ storage_bytes }
     requires upper { length upper.old ≡ storage_bytes }
@@ -109,7 +110,7 @@ fn survey_voided<B: Board>(
     upper: &mut [u8],
 ) -> Result<Survey, SurveyError>
     requires attached { IsSectorSize (B.sector_bytes board.old) }
-    requires most { guard ≤ 8192 }
+    requires most { guard ≤ GUARD_HALFWORDS }
     requires odd { guard % 2 ≡ 1 }
     requires row { B.tells board.old → IsGuardRow (B.words board.old).guard guard }
     requires whole { length whole.old ≡ storage_bytes }
@@ -251,7 +252,7 @@ fn survey_alone<B: Board>(
     upper: &mut [u8],
 ) -> Result<Survey, SurveyError>
     requires attached { IsSectorSize (B.sector_bytes board.old) }
-    requires most { guard ≤ 8192 }
+    requires most { guard ≤ GUARD_HALFWORDS }
     requires even { guard % 2 ≡ 0 }
     requires heads { B.tells board.old → AreHeads (B.words board.old) guard InUse Available }
     requires whole { length whole.old ≡ storage_bytes }
@@ -287,7 +288,7 @@ fn survey_marked<B: Board>(
     upper: &mut [u8],
 ) -> Result<Survey, SurveyError>
     requires attached { IsSectorSize (B.sector_bytes board.old) }
-    requires most { guard ≤ 8192 }
+    requires most { guard ≤ GUARD_HALFWORDS }
     requires even { guard % 2 ≡ 0 }
     requires heads { B.tells board.old → AreHeads (B.words board.old) guard Full Available }
     requires whole { length whole.old ≡ storage_bytes }
@@ -322,7 +323,7 @@ fn survey_spilled<B: Board>(
     upper: &mut [u8],
 ) -> Result<Survey, SurveyError>
     requires attached { IsSectorSize (B.sector_bytes board.old) }
-    requires most { guard ≤ 8192 }
+    requires most { guard ≤ GUARD_HALFWORDS }
     requires even { guard % 2 ≡ 0 }
     requires heads { B.tells board.old → AreHeads (B.words board.old) guard Full InUse }
     requires whole { length whole.old ≡ storage_bytes }

@@ -23,8 +23,8 @@ pub fn header_of(word: u16) -> Option<Header>
         → ⊥) }
 {
     let state = (word % 4) as u8;
-    let line = word / 4 % 2048;
-    let lines = (word / 8192) as u8 + 1;
+    let line = word / 4 % 0x800;
+    let lines = (word / 0x2000) as u8 + 1;
     if state > 1 || line + lines as u16 > LINES {
         return None;
     }
@@ -37,5 +37,5 @@ pub fn word_of(header: Header) -> u16
     requires { IsLawful header }
     ensures { result ≡ header_word header }
 {
-    header.state as u16 + 4 * header.line + 8192 * (header.lines as u16 - 1)
+    header.state as u16 + 4 * header.line + 0x2000 * (header.lines as u16 - 1)
 }

@@ -113,7 +113,8 @@ fn put_alone<B: Board>(
     ensures err { OnErr result (images.new ≡ images.old) }
     ensures changes { Changes B.Board board.old board.new (MayPut first bytes.now)
         (ByResult result (Puts first bytes.now) (MayPut first bytes.now)) }
-    ensures only_programs { OnlyPrograms B.Board (2 + length bytes.now / 2) board.old result board.new }
+    ensures only_programs { OnlyPrograms B.Board (2 + length bytes.now / 2)
+        board.old result board.new }
 {
     let home = append(board, kept.home, first, bytes)?;
     images.put_lines(first, bytes);

@@ -1,5 +1,6 @@
 //! The image in both sectors, with the other one whole: home is voided, erased and made available.
 ghost use Rattle.std.specs.Prelude.{◌≡◌, ◌+◌, ◌<◌, ◌≤◌, IfOk, IfErr, IfSome};
+ghost use Rattle.flash_traits.specs.declared.numbers.TheConstants.{GUARD_HALFWORDS};
 ghost use Rattle.flash_traits.specs.declared.board.Fault.{Fault};
 ghost use Rattle.flash_traits.specs.declared.board.Fault.TheVariants.{Flash};
 ghost use Rattle.flash_traits.specs.Calls.{Changes, ErasesNothing};
@@ -13,7 +14,7 @@ ghost use Rattle.sector_switch.specs.Refusals.{OnVoidWorn, OnVoidFault};
 ghost use Rattle.sector_switch.specs.Steps.Calls.{OnlyPrograms};
 
 use crate::{Alone, Kept, Voided};
-use flash_traits::{Board, Fault};
+use flash_traits::{Board, Fault, GUARD_HALFWORDS};
 use guard_row::step;
 use std::marker::Model;
 
@@ -49,8 +50,9 @@ impl Copied {
         ensures kept { IfOk result (λ voided. IfSome self.other
             (λ log. voided ≡ voided_from self log)) }
         ensures worn { IfErr result (λ e. OnVoidWorn e
-            (λ copied. (copied ≡ self) × (self.guard ≡ 8192) × (board.new ≡ board.old))) }
-        ensures used_up { self.guard ≡ 8192 → IfOk result (λ _. ⊥) }
+            (λ copied. (copied ≡ self) × (self.guard ≡ GUARD_HALFWORDS)
+            × (board.new ≡ board.old))) }
+        ensures used_up { self.guard ≡ GUARD_HALFWORDS → IfOk result (λ _. ⊥) }
         ensures changes { Changes B.Board board.old board.new (KeepsBytes 1) (KeepsBytes 1) }
         ensures erases { ErasesNothing B.Board board.old board.new }
         ensures programs { (B.moment board.new).programs ≤ raised_by 1
@@ -60,7 +62,7 @@ impl Copied {
         ensures counts { (k : Fault) → B.faults board.old k ≤ B.faults board.new k }
     {
         let kept = self.kept;
-        if kept.guard == 8192 {
+        if kept.guard as u32 == GUARD_HALFWORDS {
             return Err(VoidError::Worn(self));
         }
         match void_home(board, kept) {
@@ -78,9 +80,11 @@ impl Copied {
         ensures kept { IfOk result (λ alone. IfSome self.other
             (λ log. alone ≡ settled_from self log)) }
         ensures worn { IfErr result (λ e. OnVoidWorn e (λ copied. (copied ≡ self)
-            × (self.guard ≡ 8192) × (board.new ≡ board.old))) }
-        ensures used_up { self.guard ≡ 8192 → IfOk result (λ _. ⊥) }
+            × (self.guard ≡ GUARD_HALFWORDS) × (board.new ≡ board.old))) }
+        ensures used_up { self.guard ≡ GUARD_HALFWORDS → IfOk result (λ _. ⊥) }
         ensures changes { Changes B.Board board.old board.new (KeepsBytes 2) (KeepsBytes 2) }
+        ensures programs { (B.moment board.new).programs ≤ raised_by 4
+            (B.moment board.old).programs }
         ensures fault { IfErr result (λ e. OnVoidFault e (λ kind. (kind ≡ Flash)
             × Rose (B.faults board.old Flash) (B.faults board.new Flash))) }
         ensures counts { (k : Fault) → B.faults board.old k ≤ B.faults board.new k }
@@ -100,7 +104,7 @@ impl Copied {
 /// Programs the next guard halfword, after which home is void.
 fn void_home<B: Board>(board: &mut B, kept: Kept) -> Result<Kept, Fault>
     requires fits { (images : Bytes) × FitsCopied B.Board board.old kept images }
-    requires left { kept.guard < 8192 }
+    requires left { kept.guard < GUARD_HALFWORDS }
     ensures fits { IfOk result (λ new. (images : Bytes) → FitsCopied B.Board board.old kept images →
         FitsVoided B.Board board.new new images) }
     ensures kept { IfOk result (λ new. IfSome kept.other (λ log. new ≡ voided_from kept log)) }

@@ -1,5 +1,6 @@
 //! The way back to one sector alone, from each state in which a loss may leave the image.
 ghost use Rattle.std.specs.Prelude.{◌≡◌, ◌⊎◌, ◌≤◌, ◌+◌, ◌*◌, IsTrue, IfOk, OnOk, IfErr};
+ghost use Rattle.flash_traits.specs.declared.numbers.TheConstants.{GUARD_HALFWORDS};
 ghost use Rattle.flash_traits.specs.declared.board.Fault.{Fault};
 ghost use Rattle.flash_traits.specs.declared.board.Fault.TheVariants.{Read, Flash};
 ghost use Rattle.flash_traits.specs.Calls.{Changes};
@@ -79,14 +80,14 @@ pub fn recover<B: Board>(board: &mut B, images: &mut Images) -> Result<Alone, Re
     // the guard row is used up: exactly where home is full and the count is 8,192, once the copy is
     // whole
     ensures worn { IfErr result (λ e. OnWorn e
-        (λ count. (count ≡ 8192) × (B.tells board.new → (reading : Reading)
+        (λ count. (count ≡ GUARD_HALFWORDS) × (B.tells board.new → (reading : Reading)
         × Reads (B.words board.old) reading
-        × IsTrue (is_due reading) × (count_in reading ≡ 8192)))) }
+        × IsTrue (is_due reading) × (count_in reading ≡ GUARD_HALFWORDS)))) }
     ensures worn_copied { IfErr result
         (λ e. OnWorn e (λ count. (kept : Kept) × FitsCopied B.Board board.new kept images.new
-        × (kept.guard ≡ 8192))) }
+        × (kept.guard ≡ GUARD_HALFWORDS))) }
     ensures used_up { B.tells board.new → (reading : Reading) → Reads (B.words board.old) reading →
-        IsTrue (is_due reading) → count_in reading ≡ 8192 → IfOk result (λ _. ⊥) }
+        IsTrue (is_due reading) → count_in reading ≡ GUARD_HALFWORDS → IfOk result (λ _. ⊥) }
 
     ensures fault { IfErr result (λ e. OnRecoverFault e
         (λ kind. (kind ≡ Read ⊎ kind ≡ Flash)
@@ -131,11 +132,12 @@ fn settle<B: Board>(
     ensures idle { shape ≡ Shape.Alone → board.new ≡ board.old }
     ensures not_foreign { IfErr result (λ e. OnRecoverForeign e (λ place. ⊥)) }
     ensures worn { IfErr result (λ e. OnWorn e
-        (λ count. (count ≡ 8192) × (kept.guard ≡ 8192) × IsTrue (is_full shape))) }
+        (λ count. (count ≡ GUARD_HALFWORDS) × (kept.guard ≡ GUARD_HALFWORDS)
+        × IsTrue (is_full shape))) }
     ensures worn_copied { IfErr result
         (λ e. OnWorn e (λ count. (kept : Kept) × FitsCopied B.Board board.new kept images.new
-        × (kept.guard ≡ 8192))) }
-    ensures used_up { IsTrue (is_full shape) → kept.guard ≡ 8192 → IfOk result (λ _. ⊥) }
+        × (kept.guard ≡ GUARD_HALFWORDS))) }
+    ensures used_up { IsTrue (is_full shape) → kept.guard ≡ GUARD_HALFWORDS → IfOk result (λ _. ⊥) }
     ensures fault { IfErr result (λ e. OnRecoverFault e
         (λ kind. (kind ≡ Flash) × Rose (B.faults board.old Flash) (B.faults board.new Flash))) }
     ensures counts { (k : Fault) → B.faults board.old k ≤ B.faults board.new k }
@@ -164,11 +166,12 @@ fn finish_marked<B: Board>(
     ensures guard { IfOk result (λ alone. alone.guard ≡ marked.guard + 2) }
     ensures filled { IfOk result (λ alone. FilledFromZeros images.old.whole alone.home) }
     ensures not_foreign { IfErr result (λ e. OnRecoverForeign e (λ place. ⊥)) }
-    ensures worn { IfErr result (λ e. OnWorn e (λ count. (count ≡ 8192) × (marked.guard ≡ 8192))) }
+    ensures worn { IfErr result (λ e. OnWorn e
+        (λ count. (count ≡ GUARD_HALFWORDS) × (marked.guard ≡ GUARD_HALFWORDS))) }
     ensures worn_copied { IfErr result
         (λ e. OnWorn e (λ count. (kept : Kept) × FitsCopied B.Board board.new kept images.new
-        × (kept.guard ≡ 8192))) }
-    ensures used_up { marked.guard ≡ 8192 → IfOk result (λ _. ⊥) }
+        × (kept.guard ≡ GUARD_HALFWORDS))) }
+    ensures used_up { marked.guard ≡ GUARD_HALFWORDS → IfOk result (λ _. ⊥) }
     ensures fault { IfErr result (λ e. OnRecoverFault e
         (λ kind. (kind ≡ Flash) × Rose (B.faults board.old Flash) (B.faults board.new Flash))) }
     ensures counts { (k : Fault) → B.faults board.old k ≤ B.faults board.new k }
@@ -192,11 +195,12 @@ fn finish_spilled<B: Board>(
     ensures guard { IfOk result (λ alone. alone.guard ≡ spilled.guard + 2) }
     ensures filled { IfOk result (λ alone. 2 * alone.home.end ≤ taken_of spilled images.old) }
     ensures not_foreign { IfErr result (λ e. OnRecoverForeign e (λ place. ⊥)) }
-    ensures worn { IfErr result (λ e. OnWorn e (λ count. (count ≡ 8192) × (spilled.guard ≡ 8192))) }
+    ensures worn { IfErr result (λ e. OnWorn e
+        (λ count. (count ≡ GUARD_HALFWORDS) × (spilled.guard ≡ GUARD_HALFWORDS))) }
     ensures worn_copied { IfErr result
         (λ e. OnWorn e (λ count. (kept : Kept) × FitsCopied B.Board board.new kept images.new
-        × (kept.guard ≡ 8192))) }
-    ensures used_up { spilled.guard ≡ 8192 → IfOk result (λ _. ⊥) }
+        × (kept.guard ≡ GUARD_HALFWORDS))) }
+    ensures used_up { spilled.guard ≡ GUARD_HALFWORDS → IfOk result (λ _. ⊥) }
     ensures fault { IfErr result (λ e. OnRecoverFault e
         (λ kind. (kind ≡ Flash) × Rose (B.faults board.old Flash) (B.faults board.new Flash))) }
     ensures counts { (k : Fault) → B.faults board.old k ≤ B.faults board.new k }

@@ -1,5 +1,6 @@
 //! The image in both sectors: entries go to the other one, and the copy makes it whole.
 ghost use Rattle.std.specs.Prelude.{◌≡◌, ◌+◌, ◌-◌, ◌*◌, ◌/◌, ◌<◌, ◌≤◌, ◌↔◌, ℕ, List, true, false, length, IsTrue, IfOk, OnOk, OnErr, IfErr, IfSome, Some, None};
+ghost use Rattle.flash_traits.specs.declared.numbers.TheConstants.{GUARD_HALFWORDS};
 ghost use Rattle.flash_traits.specs.declared.board.Fault.TheVariants.{Flash};
 ghost use Rattle.flash_traits.specs.Losses.{ByResult};
 ghost use Rattle.flash_traits.specs.Calls.{Changes, ErasesNothing};
@@ -21,7 +22,7 @@ ghost use Rattle.sector_switch.specs.Refusals.{kept_in, is_whole, OnSwitchWorn, 
 ghost use Rattle.sector_switch.specs.Steps.Calls.{OnlyPrograms};
 
 use crate::{Alone, Copied, Images, Kept, VoidError};
-use flash_traits::{Board, Fault};
+use flash_traits::{Board, Fault, GUARD_HALFWORDS};
 use sector_image::torn_chunk;
 use sector_log::{append, finish_torn};
 use std::marker::Model;
@@ -123,7 +124,8 @@ impl Spilled {
         Ok(step_of(kept, images))
     }
 
-    /// Copies all that is left. A loss inside leaves the bytes of before.
+    /// Copies all that is left, a chunk by 34 programs at most. A loss inside leaves the bytes of
+    /// before.
     pub fn copy<B: Board>(self, board: &mut B, images: &mut Images) -> Result<Copied, Fault>
         requires fits { FitsSpilled B.Board board.old self images.old }
         ensures whole { images.new.whole ≡ images.old.whole }
@@ -135,6 +137,8 @@ impl Spilled {
         ensures size { IfOk result (λ copied. copied.sector_bytes ≡ self.sector_bytes) }
         ensures changes { Changes B.Board board.old board.new (KeepsBytes 0) (KeepsBytes 0) }
         ensures erases { ErasesNothing B.Board board.old board.new }
+        ensures programs { (B.moment board.new).programs
+            ≤ raised_by (34 * left_in self images.old) (B.moment board.old).programs }
         ensures cause { HasCause Flash (B.faults board.old) (B.faults board.new) result }
         ensures kind { IfErr result (λ kind. kind ≡ Flash) }
     {
@@ -158,14 +162,16 @@ impl Spilled {
         ensures free { IfOk result
             (λ alone. self.sector_bytes - taken_of self images.old ≤ free_of alone) }
         ensures changes { Changes B.Board board.old board.new (KeepsBytes 2) (KeepsBytes 2) }
+        ensures programs { (B.moment board.new).programs
+            ≤ raised_by (34 * left_in self images.old + 4) (B.moment board.old).programs }
 
         // the guard row is used up: the copy is whole, and home is as it was
         ensures worn { IfErr result (λ e. OnSwitchWorn e
-            (λ count. (count ≡ 8192) × (self.guard ≡ 8192))) }
+            (λ count. (count ≡ GUARD_HALFWORDS) × (self.guard ≡ GUARD_HALFWORDS))) }
         ensures worn_copied { IfErr result (λ e. OnSwitchWorn e (λ count. (kept : Kept)
-            × FitsCopied B.Board board.new kept images.new × (kept.guard ≡ 8192)
+            × FitsCopied B.Board board.new kept images.new × (kept.guard ≡ GUARD_HALFWORDS)
             × (kept.home ≡ self.home) × (kept.sector_bytes ≡ self.sector_bytes))) }
-        ensures used_up { self.guard ≡ 8192 → IfOk result (λ _. ⊥) }
+        ensures used_up { self.guard ≡ GUARD_HALFWORDS → IfOk result (λ _. ⊥) }
 
         ensures fault { IfErr result (λ e. OnSwitchFault e (λ kind. (kind ≡ Flash)
             × Rose (B.faults board.old Flash) (B.faults board.new Flash))) }
@@ -178,7 +184,9 @@ impl Spilled {
         match copied.settle(board) {
             Ok(alone) => Ok(alone),
             Err(VoidError::Fault(kind)) => Err(SwitchError::Fault(kind)),
-            Err(VoidError::Worn(_)) => Err(SwitchError::Worn { count: 8192 }),
+            Err(VoidError::Worn(_)) => Err(SwitchError::Worn {
+                count: GUARD_HALFWORDS as u16,
+            }),
         }
     }
 }
@@ -232,7 +240,8 @@ fn put_spilled<B: Board>(
     ensures err { OnErr result (images.new ≡ images.old) }
     ensures changes { Changes B.Board board.old board.new (MayPut first bytes.now)
         (ByResult result (Puts first bytes.now) (MayPut first bytes.now)) }
-    ensures only_programs { OnlyPrograms B.Board (2 + length bytes.now / 2) board.old result board.new }
+    ensures only_programs { OnlyPrograms B.Board (2 + length bytes.now / 2)
+        board.old result board.new }
 {
     let Some(log) = kept.other else {
         unreachable!()

@@ -1,9 +1,10 @@
 //! The image in one sector, with the other one void until it is erased.
-ghost use Rattle.std.specs.Prelude.{◌≡◌, IfOk, IfErr};
+ghost use Rattle.std.specs.Prelude.{◌≡◌, ◌≤◌, IfOk, IfErr};
 ghost use Rattle.flash_traits.specs.declared.board.Fault.TheVariants.{Flash};
 ghost use Rattle.flash_traits.specs.Losses.{after_erase};
 ghost use Rattle.flash_traits.specs.Calls.{Changes};
 ghost use Rattle.flash_traits.specs.Causes.{HasCause};
+ghost use Rattle.flash_traits.specs.Counts.{raised_by};
 ghost use Rattle.sector_image.specs.Images.{Bytes};
 ghost use Rattle.sector_image.specs.Losses.{KeepsBytes};
 ghost use Rattle.sector_image.specs.Fits.{FitsAlone, FitsVoided};
@@ -52,6 +53,8 @@ impl Voided {
             FitsVoided B.Board board.old self images → FitsAlone B.Board board.new alone images) }
         ensures kept { IfOk result (λ alone. alone ≡ alone_from self) }
         ensures changes { Changes B.Board board.old board.new (KeepsBytes 1) (KeepsBytes 1) }
+        ensures programs { (B.moment board.new).programs ≤ raised_by 3
+            (B.moment board.old).programs }
         ensures cause { HasCause Flash (B.faults board.old) (B.faults board.new) result }
         ensures kind { IfErr result (λ kind. kind ≡ Flash) }
     {

@@ -2,8 +2,7 @@
 use Rattle.std.specs.Prelude.{◌≡◌, ◌≢◌, ℕ, zero, suc, ◌+◌, ◌%◌, ◌^◌, ◌==◌, if◌then◌else◌, true, List, [], ◌∷◌, ◌++◌, length, map, take, slice_get, Some, MatchOption, pos}
 use Rattle.flash_traits.specs.Losses.{Received, Datagram, Idle, End}
 use Rattle.word_bits.specs.Pattern.{IsWhole}
-use Rattle.param_tree.specs.declared.Kind.{Kind}
-use Rattle.param_tree.specs.declared.Kind.TheVariants.{I8, I16, I32, F32, Vec3}
+use Rattle.param_tree.specs.MavTypes.{mav_type_of}
 use Rattle.param_tree.specs.declared.Var.{Var}
 use Rattle.param_tree.specs.Rows.{vehicle_rows}
 use Rattle.mav_messages.specs.declared.messages.Message.{Message}
@@ -58,14 +57,6 @@ turns_from first (suc rounds) = waits_after (messages_of first) ++ turns_from (f
 abbrev pub session : ℕ → List Turn
 session rounds = turns_from 0 rounds
 
--- MAV_PARAM_TYPE of MAVLink's common message set: INT8, INT16, INT32, REAL32
-abbrev pub param_type : Kind → ℕ
-param_type I8 = 2
-param_type I16 = 4
-param_type I32 = 6
-param_type F32 = 9
-param_type Vec3 = 9
-
 -- the pattern of a number, and not that of minus zero
 pub record IsBitsOf (number pattern : ℕ) : Type 0 where
   pub whole : IsWhole pattern (pos number)
@@ -77,7 +68,7 @@ pub record SaysSet (row number : ℕ) (message : Message) : Type 0 where
   pub pattern : ℕ
   pub row_is : slice_get vehicle_rows row ≡ Some var
   pub bits : IsBitsOf number pattern
-  pub message_is : message ≡ ParamSet pattern 1 1 var.name (param_type var.kind)
+  pub message_is : message ≡ ParamSet pattern 1 1 var.name (mav_type_of var.kind)
 
 -- MISSION_ITEM_INT of a waypoint in the frame 3, relative to home: a little further north in each
 -- round and further east in each item, 10 to 14 metres high

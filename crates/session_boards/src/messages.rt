@@ -1,10 +1,9 @@
 //! What the station sends in a round of the generated session.
 ghost use Rattle.std.specs.Prelude.{◌≡◌, ◌<◌, ◌≤◌, ◌^◌, length, pos, slice_get, Some, MatchOption};
-ghost use Rattle.param_tree.specs.declared.Kind.{Kind};
-ghost use Rattle.session_boards.specs.Session.{Sending, Sends, Waits, IsBitsOf, Says, messages_of, upload, flush_of, param_type, set_of, waits_after};
+ghost use Rattle.session_boards.specs.Session.{Sending, Sends, Waits, IsBitsOf, Says, messages_of, upload, flush_of, set_of, waits_after};
 
 use mav_messages::Message;
-use param_tree::{Kind, vehicle_table};
+use param_tree::{mav_type_of, vehicle_table};
 use word_bits::bits_of;
 
 /// The system of the session's station: a ground station.
@@ -35,18 +34,6 @@ fn pattern_of(number: u8) -> u32
     bits_of(i32::from(number))
 }
 
-/// MAV_PARAM_TYPE of MAVLink's common message set: INT8, INT16, INT32, REAL32.
-fn param_type(kind: Kind) -> u8
-    ensures { result ≡ param_type kind }
-{
-    match kind {
-        Kind::I8 => 2,
-        Kind::I16 => 4,
-        Kind::I32 => 6,
-        Kind::F32 | Kind::Vec3 => 9,
-    }
-}
-
 /// The PARAM_SET of a round.
 fn set_message(round: u16) -> Message
     ensures { Says (set_of round) result }
@@ -58,7 +45,7 @@ fn set_message(round: u16) -> Message
         target_system: 1,
         target_component: 1,
         param_id,
-        param_type: param_type(row.kind),
+        param_type: mav_type_of(row.kind),
     }
 }
 
