@@ -573,18 +573,53 @@ class AsAUser(unittest.TestCase):
                 self.assertEqual((beat["autopilot"], beat["system_status"]), (3, state))
             self.ended(vehicle)
 
-    def test_what_was_sent_before_an_accepted_flush_is_stored(self):
+    def test_what_was_sent_before_an_accepted_order_is_stored(self):
+        orders = ((signal.SIGKILL, "flush", 1600), (signal.SIGTERM, "arm", 1700), (signal.SIGINT, "disarm", 1800),
+                  (signal.SIGTERM, "flush", 1900), (signal.SIGINT, "flush", 2000))
+        for number, order, altitude in orders:
+            with self.subTest(f"{order}, then signal {number}"):
+                with self.served() as vehicle:
+                    self.told(vehicle, "mission", "clear")
+                    self.told(vehicle, "parameters", "set", "RTL_ALT", str(altitude))
+                    self.assertEqual(self.told(vehicle, "mission", "upload", ROUTE), "8 items uploaded\n")
+                    self.assertEqual(self.told(vehicle, order), f"{order} is accepted\n")
+                    vehicle.process.send_signal(number)
+                    printed, said = vehicle.process.communicate(timeout=30)
+                    self.assertEqual((vehicle.process.returncode, printed, said), (-number, b"", b""))
+                with self.served() as vehicle:
+                    vehicle.ready()
+                    self.assertEqual(self.told(vehicle, "parameters", "read", "RTL_ALT"),
+                                     f"RTL_ALT = {altitude} (int32), index 1 of 240\n")
+                    self.assertEqual(len(self.items_of(vehicle, MISSION)), 8)
+                    self.ended(vehicle)
+
+    def order_of(self, station, number, param1):
+        """The result that answers a COMMAND_LONG."""
+        answer = mavlink.read_frame(ask(station, mavlink.command(number, param1, version=2)))
+        self.assertEqual(answer["message"], mavlink.COMMAND_ACK)
+        fields = mavlink.fields_of(answer)
+        self.assertEqual(fields["command"], number)
+        return fields["result"]
+
+    def test_an_armed_vehicle_takes_as_many_lines_as_its_sectors_allow(self):
+        def altitude(value):
+            return self.values_of(station, mavlink.set_value("RTL_ALT", float(value)))["value"]
+
         with self.served() as vehicle:
-            self.told(vehicle, "parameters", "set", "RTL_ALT", "1700")
-            self.assertEqual(self.told(vehicle, "mission", "upload", ROUTE), "8 items uploaded\n")
-            self.assertEqual(self.told(vehicle, "flush"), "flush is accepted\n")
-            vehicle.process.kill()
-            vehicle.process.wait(timeout=30)
-        with self.served() as vehicle:
-            vehicle.ready()
-            self.assertEqual(self.told(vehicle, "parameters", "read", "RTL_ALT"),
-                             "RTL_ALT = 1700 (int32), index 1 of 240\n")
-            self.assertEqual(len(self.items_of(vehicle, MISSION)), 8)
+            station = vehicle.ready()
+            self.assertEqual(altitude(1600), 1600)
+            self.assertEqual(self.order_of(station, mavlink.COMPONENT_ARM_DISARM, 1.0), 0)
+            # with sectors of 16,384 bytes 47 lines, and each of these values is written in one
+            for change in range(47):
+                self.assertEqual(altitude(1601 + change), 1601 + change)
+            self.assertEqual(altitude(1700), 1647)
+            # to arm again, an order that isn't known and one with another parameter change nothing
+            for number, param1, result in ((mavlink.COMPONENT_ARM_DISARM, 1.0, 0), (246, 1.0, 3),
+                                           (mavlink.COMPONENT_ARM_DISARM, 2.0, 2), (mavlink.PREFLIGHT_STORAGE, 0.0, 2)):
+                self.assertEqual(self.order_of(station, number, param1), result)
+                self.assertEqual(altitude(1700), 1647)
+            self.assertEqual(self.order_of(station, mavlink.COMPONENT_ARM_DISARM, -0.0), 0)
+            self.assertEqual(altitude(1700), 1700)
             self.ended(vehicle)
 
     def test_the_number_of_items_is_left_to_the_vehicle(self):

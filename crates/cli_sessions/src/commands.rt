@@ -21,7 +21,8 @@ const VALUE: [u8; 33] = [
     0x99,
 ];
 
-fn fresh_image(alloc: Global) -> Result<Vec<u8>, AllocError>
+// A fresh image of 131,072-byte sectors.
+pub(crate) fn fresh_image(alloc: Global) -> Result<Vec<u8>, AllocError>
     ensures { IfOk result (λ image. length image.items ≡ 278528) }
 {
     let mut image = Vec::from_slice(alloc, &[0xFEu8, 0x5B, 0x68, 0x51])?;

@@ -45,13 +45,14 @@ fn fresh_image(alloc: Global) -> Result<Vec<u8>, Fail> {
 fn a_failing_output_cuts_the_text_and_loses_nothing(rt: HostRuntime) -> Result<(), Fail> {
     let alloc = rt.alloc();
     let image = fresh_image(alloc)?;
-    let cases: [(&[&str], u8); 6] = [
+    let cases: [(&[&str], u8); 7] = [
         (&["serve", "a"], 0),
         (&["serve", "a", "--turns", "2"], 8),
         (&["dump", "a"], 0),
         (&["report", "a"], 0),
         (&["format", "a", "--port", "7"], 1),
         (&["format", "a"], 0),
+        (&["gen", "1"], 0),
     ];
     for (words, status) in cases {
         let whole = command(alloc, words, &image, u32::MAX, u32::MAX)?;

@@ -13,4 +13,6 @@ mod images;
 #[cfg(test)]
 mod memory;
 #[cfg(test)]
+mod realistic;
+#[cfg(test)]
 mod texts;

@@ -69,3 +69,12 @@ fn report_with_memory(rt: HostRuntime) -> Result<(), Fail> {
 fn format_with_memory(rt: HostRuntime) -> Result<(), Fail> {
     ends_well(rt.alloc(), &["format", "--sector", "16384", "a"], b"")
 }
+
+#[test]
+fn gen_with_memory(rt: HostRuntime) -> Result<(), Fail> {
+    ends_well(
+        rt.alloc(),
+        &["gen", "1"],
+        b"gen 1 events 8 frames 8 lines 23 sha256 6a687514",
+    )
+}

@@ -11,6 +11,7 @@ use mav_crc::crc;
 struct Case {
     what: &'static str,
     v2: bool,
+    start_wrong_by: u8,
     incompat: u8,
     compat: u8,
     id: [u8; 3],
@@ -27,6 +28,7 @@ struct Case {
 const RIGHT: Case = Case {
     what: "a right frame",
     v2: true,
+    start_wrong_by: 0,
     incompat: 0,
     compat: 0,
     id: [23, 0, 0],
@@ -39,7 +41,7 @@ const RIGHT: Case = Case {
     is_taken: true,
 };
 
-const CASES: [Case; 26] = [
+const CASES: [Case; 30] = [
     RIGHT,
     Case {
         what: "version 1",
@@ -134,6 +136,33 @@ const CASES: [Case; 26] = [
         is_taken: false,
         ..RIGHT
     },
+    // FC, FF, and each version's byte before a heading of the other one
+    Case {
+        what: "a start byte of no version",
+        start_wrong_by: 1,
+        is_taken: false,
+        ..RIGHT
+    },
+    Case {
+        what: "a start byte of no version, version 1",
+        v2: false,
+        start_wrong_by: 1,
+        is_taken: false,
+        ..RIGHT
+    },
+    Case {
+        what: "the start byte of version 1",
+        start_wrong_by: 3,
+        is_taken: false,
+        ..RIGHT
+    },
+    Case {
+        what: "the start byte of version 2, version 1",
+        v2: false,
+        start_wrong_by: 3,
+        is_taken: false,
+        ..RIGHT
+    },
     Case {
         what: "another system",
         target: [2, 1],
@@ -210,11 +239,13 @@ fn payload(target: [u8; 2]) -> [u8; 23] {
 // The frame of a case.
 fn frame_of(alloc: Global, case: &Case) -> Result<Vec<u8>, Fail> {
     let mut frame = Vec::new(alloc);
+    let version = if case.v2 { 0xFD } else { 0xFE };
+    frame.push(version ^ case.start_wrong_by)?;
     if case.v2 {
-        frame.extend_from_slice(&[0xFD, case.says, case.incompat, case.compat, 0, 255, 190])?;
+        frame.extend_from_slice(&[case.says, case.incompat, case.compat, 0, 255, 190])?;
         frame.extend_from_slice(&case.id)?;
     } else {
-        frame.extend_from_slice(&[0xFE, case.says, 0, 255, 190, case.id[0]])?;
+        frame.extend_from_slice(&[case.says, 0, 255, 190, case.id[0]])?;
     }
     let written = payload(case.target);
     for place in 0..case.payload {

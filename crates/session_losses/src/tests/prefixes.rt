@@ -49,6 +49,21 @@ const SESSION: [Ask; 15] = [
     Ask::Download(Kind::Fence, 3),
 ];
 
+// A session that is armed while home has room for one line more.
+const ARMED_SESSION: [Ask; 11] = [
+    Ask::Set(GYRO_FILTER, 0x41F0_0000, 4),
+    ARM,
+    Ask::Set(RADIUS, 0x42C8_0000, 9),
+    Ask::Set(GYRO_FILTER, 0x41F8_0000, 4),
+    Ask::Upload(Kind::Fence, 3),
+    FLUSH,
+    Ask::Set(RADIUS, 0x3F9D_70A4, 9),
+    DISARM,
+    Ask::Set(GYRO_FILTER, 0x41F0_0000, 4),
+    Ask::Nothing,
+    Ask::Download(Kind::Fence, 3),
+];
+
 // The events of a session.
 #[derive(Drop)]
 struct Events {
@@ -422,15 +437,16 @@ fn filled_image(alloc: Global, entries: usize) -> Result<Vec<u8>, Fail> {
     Ok(image)
 }
 
-// Every hundredth call fails while the opening reads, and then each call in turn, until a session
-// ends.
+// From the first one on every hundredth call fails while the opening reads, and then each call in
+// turn, until a session ends.
 fn each_cut_is_allowed(
     alloc: Global,
     image: &[u8],
     whole: &Whole,
     events: &Events,
+    first: u32,
 ) -> Result<(), Fail> {
-    let mut failing = 0;
+    let mut failing = first;
     for _ in 0..10_000 {
         let cut = session_with(alloc, image, events, failing)?;
         whole.allows(alloc, &cut)?;
@@ -452,7 +468,7 @@ fn each_failing_call_leaves_flushed_lines_and_first_answers(rt: HostRuntime) -> 
     let image = formatted_image(alloc)?;
     let events = events_of(alloc, &SESSION)?;
     let whole = whole_session(alloc, &image, &events)?;
-    each_cut_is_allowed(alloc, &image, &whole, &events)
+    each_cut_is_allowed(alloc, &image, &whole, &events, 0)
 }
 
 #[test]
@@ -466,5 +482,23 @@ fn each_failing_call_of_a_session_with_a_switch_does_so(rt: HostRuntime) -> Resu
         return Err(Fail::from("image"));
     };
     assert_eq!(rt; guard, [0, 0, 0, 0, 0xFF, 0xFF].as_slice());
-    each_cut_is_allowed(alloc, &image, &whole, &events)
+    each_cut_is_allowed(alloc, &image, &whole, &events, 0)
+}
+
+#[test]
+fn each_failing_call_of_an_armed_session_with_a_full_home_does_so(
+    rt: HostRuntime,
+) -> Result<(), Fail> {
+    let alloc = rt.alloc();
+    // 60 bytes: two lines of boot, three of the first set, and one more
+    let image = filled_image(alloc, 1_632)?;
+    let events = events_of(alloc, &ARMED_SESSION)?;
+    let whole = whole_session(alloc, &image, &events)?;
+    let left = whole.session.board.image(alloc)?;
+    // disarming has made the other sector home
+    assert_eq!(rt;
+        left.get(32_768..32_774),
+        Some([0, 0, 0, 0, 0xFF, 0xFF].as_slice())
+    );
+    each_cut_is_allowed(alloc, &image, &whole, &events, FIRST_PROGRAM)
 }
