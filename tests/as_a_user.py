@@ -674,7 +674,7 @@ class AsAUser(unittest.TestCase):
     def test_the_documents_show_what_the_program_prints(self):
         shown = []
         for document in ("README.md", os.path.join("docs", "USING.md")):
-            shown += re.findall(r"^    \$ ((?:tools/station\.py|\./zuddrin) .*)\n((?:    (?!\$ ).*\n)*)",
+            shown += re.findall(r"^    \$ ((?:tools/station\.py|\./zuddrin(?! replay)) .*)\n((?:    (?!\$ ).*\n)*)",
                                 content_of(os.path.join(TOP, document)), re.M)
         for program in ("tools/station.py", "./zuddrin"):
             self.assertTrue(any(command.startswith(program) for command, _ in shown))

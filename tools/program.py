@@ -229,8 +229,9 @@ def run_sources(words):
     words, place = list(words), image_place(words)
     if place is not None and words[place]:
         words[place] = os.path.abspath(words[place])
-    with open(os.devnull, "rb") as nothing:
-        os.dup2(nothing.fileno(), 0)
+    if words[:1] != ["replay"]:
+        with open(os.devnull, "rb") as nothing:
+            os.dup2(nothing.fileno(), 0)
     return run(["rt", "try", "--seconds", NO_LIMIT, "--", *words], cwd=FOLDER)
 
 

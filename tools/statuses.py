@@ -7,8 +7,8 @@ import socket
 import image
 import program
 
-COMMANDS = ("serve IMAGE [--port P] [--turns N], format IMAGE [--sector S], dump IMAGE, "
-            "report IMAGE or gen N")
+COMMANDS = ("serve IMAGE [--port P] [--turns N], replay IMAGE, format IMAGE [--sector S], "
+            "dump IMAGE, report IMAGE or gen N")
 LENGTHS = ", ".join(f"{image.image_bytes(size):,}" for size in image.SECTOR_SIZES)
 
 
@@ -112,7 +112,9 @@ def meaning(words, status):
         5: full,
         6: f"the socket failed, or {full} before a frame was sent",
         7: f"the guard row of {name or 'the image in memory'} is used up: it takes no more switches",
+        9: "standard input, which has the script, couldn't be read",
         10: "standard output took nothing more",
+        11: "a line of the script isn't of its grammar, or its end e is missing, or a seventeenth loss would wait",
         13: "no image was named",
         128 + 2: "ended by an interrupt; what was flushed is kept",
         128 + 15: "ended from outside; what was flushed is kept",
