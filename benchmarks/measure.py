@@ -63,7 +63,7 @@ def wait(port):
             try:
                 station.send(mavlink.request_read(0))
                 return station.recv(2048)
-            except (TimeoutError, ConnectionRefusedError):
+            except (socket.timeout, ConnectionRefusedError):
                 time.sleep(PAUSE)
     raise SystemExit("measure: no answer")
 
@@ -185,7 +185,7 @@ class Bench:
                     beat = now
                 try:
                     shown = mavlink.read_value(station.recv(2048))
-                except TimeoutError:
+                except socket.timeout:
                     continue
                 if shown is not None:
                     seen.add(shown["index"])
@@ -242,7 +242,7 @@ class Bench:
         with subprocess.Popen(words, stdout=subprocess.PIPE, text=True) as process:
             printed = process.stdout.read()
             _, status, usage = os.wait4(process.pid, 0)
-            process.returncode = os.waitstatus_to_exitcode(status)
+            process.returncode = os.WEXITSTATUS(status) if os.WIFEXITED(status) else -os.WTERMSIG(status)
         if process.returncode != 0:
             raise SystemExit(f"measure: {words} ends with {process.returncode}")
         return 1000 * (usage.ru_utime + usage.ru_stime), printed

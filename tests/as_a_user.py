@@ -247,12 +247,12 @@ class AsAUser(unittest.TestCase):
                 ninth.send(mavlink.request_read(0))
                 try:
                     heard += bool(stations[0].recv(2048))
-                except TimeoutError:
+                except socket.timeout:
                     pass
             # some hundred datagrams came from the ninth, and a second has one idle turn or two
             self.assertLess(heard, 10)
             ninth.settimeout(0.2)
-            with self.assertRaises(TimeoutError):
+            with self.assertRaises(socket.timeout):
                 ninth.recv(2048)
             self.assertEqual(self.values_of(stations[7], mavlink.request_read(1))["name"], "RTL_ALT")
             # the end comes from any address
