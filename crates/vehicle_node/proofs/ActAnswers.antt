@@ -267,7 +267,10 @@ module _ {B : Type 0} (g : Ghosts B) where
           losses = weaker A A d.losses (λ s o was x. any_losses s o x) (λ s o was x. any_losses s o x);
           lists = d.lists;
           done = on_ok r (AnsweredAs g need armed writes ds (record node { index = before }) a mid c) (AnsweredAs g need armed writes ds node a (record mid { index = after_index }) c) any_answered d.done;
-          stopped = d.stopped;
+          stopped = IfErr-weaker r (WornAlone g armed (ceiling node + 2 * length writes) (record node { index = before }) mid c) (WornAlone g armed (ceiling node + 2 * length writes) node (record mid { index = after_index }) c)
+              (λ e worn. worn_more e (IsWornAlone g armed (ceiling node + 2 * length writes) (record node { index = before }) mid c)
+              (IsWornAlone g armed (ceiling node + 2 * length writes) node (record mid { index = after_index }) c)
+              (λ w. record { unarmed = w.unarmed; next = w.next; reached = w.reached }) worn) d.stopped;
         }
 
   -- the same of what a node has inside

@@ -122,7 +122,7 @@ returns-in_err-answer_event-clause-worn_next g c =
     let got = received c.in-Ok.event c.recv.new.into in
     let last = c.answer_event.new.board in
     let e = c.in_err-answer_event.field-0.0 in
-    let next = IsAloneUnlessArmed old → IsWornForNext b last c.answer_event.new.self.lines ⊎ WasArmed b old c.args.board.now last in
+    let next : Type 0 = IsAloneUnlessArmed old → IsWornForNext b last c.answer_event.new.self.lines ⊎ WasArmed b old c.args.board.now last in
     error_at c.from_residual.result e (λ e. OnWorn e (λ n. next)) c.from_residual.ensures.1
     (worn_more e (IsWornWhere b old (ArmedTaking got old) (WearingTaking got old) c.answer_event.new.self last) next
     (λ w unless. elim (w.next unless) [
@@ -149,8 +149,8 @@ returns-in_err-flush-clause-worn_next g c =
     let in_range = received_in_range c.in-Ok.event c.recv.new.into c.in-Ok.ensures.bounds in
     let last = c.flush.new.board in
     let e = c.in_err-flush.field-0.0 in
-    let P = WasArmed b old c.args.board.now last in
-    let next = IsAloneUnlessArmed old → IsWornForNext b last c.flush.new.self.lines ⊎ P in
+    let P : Type 0 = WasArmed b old c.args.board.now last in
+    let next : Type 0 = IsAloneUnlessArmed old → IsWornForNext b last c.flush.new.self.lines ⊎ P in
     error_at c.from_residual-in_err-flush.result e (λ e. OnWorn e (λ n. next)) c.from_residual-in_err-flush.ensures.1
     (worn_more e (IsWornWhere b old P (WearingTaking got old) c.flush.new.self last) next (λ w. w.next)
     (flushed_worn b g.met.B.Board.reads old c.args.board.now c.requires.fits.store c.frames_are_read.ensures got in_range c.recv.new.self c.in-Ok.ensures.time
@@ -165,7 +165,7 @@ returns-in_err-flush-clause-worn_lines g c =
     let in_range = received_in_range c.in-Ok.event c.recv.new.into c.in-Ok.ensures.bounds in
     let last = c.flush.new.board in
     let e = c.in_err-flush.field-0.0 in
-    let P = WasArmed b old c.args.board.now last in
+    let P : Type 0 = WasArmed b old c.args.board.now last in
     error_at c.from_residual-in_err-flush.result e (λ e. OnWorn e (λ n. WearsIn b old c.args.board.now last)) c.from_residual-in_err-flush.ensures.1
     (worn_more e (IsWornWhere b old P (WearingTaking got old) c.flush.new.self last) (WearsIn b old c.args.board.now last)
     (λ w. wears_in b old got c.args.board.now c.recv.new.self last c.in-Ok.ensures.lists
