@@ -10,9 +10,11 @@ use Rattle.vehicle_node.specs.Safe.{Safe, SafeSince, Adds}
 use Rattle.vehicle_core.specs.Acts.{Act}
 use Rattle.vehicle_node.specs.Arming.{is_armed_after_all, IsArmedOnce}
 use Rattle.vehicle_node.specs.Reading.{IsEvent, Reads}
-use Rattle.vehicle_node.specs.Standing.{Node, StandsForRun, Finished, WasArmed, armed_in}
+use Rattle.vehicle_node.specs.Standing.{Node, StandsForRun, StaysWithin, Finished, WasArmed, armed_in}
+use Rattle.vehicle_node.specs.Guard.{MayWear, WearsIn}
 use Rattle.session_boards.specs.Session.{HasNoEnd}
 use Rattle.storage_cli.specs.Serving.{is_armed_after_events}
+use Rattle.storage_cli.specs.Steps.Guard.{WearsSince}
 use Rattle.storage_cli.specs.Steps.Progress.{IsSafe, Progress, Finishes, WasArmedSince}
 
 adds_none : (s : Outcome) → Adds [] [] s s
@@ -82,6 +84,8 @@ module _ {B : Type 0} (g : Ghosts B) (budget : ℕ) where
     lists = λ e f stood. subst (λ (l : List Received). g.has_lists board l (f ++ [])) (sym (append-nil e)) (subst (λ (l : List SentFrame). g.has_lists board e l) (sym (append-nil f)) stood);
     stands = λ b e f m run. subst (λ (n : ℕ). StandsForRun node b (e ++ []) (f ++ []) n) (omega arith)
         (subst (λ (l : List Received). StandsForRun node b l (f ++ []) m) (sym (append-nil e)) (subst (λ (l : List SentFrame). StandsForRun node b e l m) (sym (append-nil f)) run));
+    within = λ count b e f m run. subst (λ (n : ℕ). StaysWithin count node b (e ++ []) (f ++ []) n) (omega arith)
+        (subst (λ (l : List Received). StaysWithin count node b l (f ++ []) m) (sym (append-nil e)) (subst (λ (l : List SentFrame). StaysWithin count node b e l m) (sym (append-nil f)) run));
     losses = λ b e f m runs. started board (IsSafe budget b e f) (Adds [] []) adds_none;
     acts = [];
     reads = (refl, refl);
@@ -102,6 +106,11 @@ module _ {B : Type 0} (g : Ghosts B) (budget : ℕ) where
           subst (λ (n : ℕ). StandsForRun new b (e ++ (es ++ f.event ∷ [])) (sent ++ (fs ++ f.frames)) n) (omega (arith, length-append es (f.event ∷ [])))
           (subst (λ (l : List Received). StandsForRun new b l (sent ++ (fs ++ f.frames)) (m + length es + 1)) (append_assoc e es (f.event ∷ []))
           (subst (λ (l : List SentFrame). StandsForRun new b ((e ++ es) ++ f.event ∷ []) l (m + length es + 1)) (append_assoc sent fs f.frames) (f.stands b (e ++ es) (sent ++ fs) (m + length es) (p.stands b e sent m run))));
+      within = λ count b e sent m run.
+          subst (λ (n : ℕ). StaysWithin count new b (e ++ (es ++ f.event ∷ [])) (sent ++ (fs ++ f.frames)) n) (omega (arith, length-append es (f.event ∷ [])))
+          (subst (λ (l : List Received). StaysWithin count new b l (sent ++ (fs ++ f.frames)) (m + length es + 1)) (append_assoc e es (f.event ∷ []))
+          (subst (λ (l : List SentFrame). StaysWithin count new b ((e ++ es) ++ f.event ∷ []) l (m + length es + 1)) (append_assoc sent fs f.frames)
+          (f.within count b (e ++ es) (sent ++ fs) (m + length es) (p.within count b e sent m run))));
       losses = λ b e sent m runs.
           let call = losses b (e ++ es) (sent ++ fs) (m + length es) (λ t. p.stands b e sent m (runs (p.told t))) in
           chained (IsSafe budget b e sent) (Adds (es ++ f.event ∷ []) (fs ++ f.frames)) (p.losses b e sent m runs) (ending (Adds (f.event ∷ []) f.frames) call f.here)
@@ -128,6 +137,21 @@ module _ {B : Type 0} (g : Ghosts B) (budget : ℕ) where
       rests = w.rests;
       reads = reads_push node.rests mid.rests w.rests es w.event p.acts w.acts p.reads w.reads;
       armed = subst (λ (a : Bool). IsArmedOnce a w.acts) p.armed w.armed;
+    }
+
+    -- an event with which lines enough were issued
+    pub wears_later : mid.budget ≡ node.budget → WearsIn g mid mid_board new_board → WearsSince g node board new_board
+    wears_later same w = record {
+      events = es ++ w.event ∷ [];
+      lists = λ e sent stood.
+          let more = w.lists (e ++ es) (sent ++ fs) (p.lists e sent stood) in (
+            fs ++ more.0,
+            subst (λ (l : List Received). g.has_lists new_board l (sent ++ (fs ++ more.0))) (append_assoc e es (w.event ∷ []))
+                (subst (λ (l : List SentFrame). g.has_lists new_board ((e ++ es) ++ w.event ∷ []) l) (append_assoc sent fs more.0) more.1),
+          );
+      lines = λ t count b e sent m run.
+          subst (λ (l : List Received). MayWear node.budget count b l) (append_assoc e es (w.event ∷ []))
+          (subst (λ (n : ℕ). MayWear n count b ((e ++ es) ++ w.event ∷ [])) same (w.lines t count b (e ++ es) (sent ++ fs) (m + length es) (p.within count b e sent m run)));
     }
 
     -- a call that failed

@@ -47,6 +47,9 @@ zeros_value size is = record {
   each = λ k lt. get_or-replicate size k 0 0 (omega (arith, is, lt));
 }
 
+pub fresh_guard : IsGuardRow fresh.guard 0
+fresh_guard = no_count
+
 pub fresh_stands : Stands fresh fresh_bytes
 fresh_stands = (
   Both 0 InUse Available [] [],

@@ -6,6 +6,7 @@ use Rattle.flash_traits.specs.Words.{Words}
 use Rattle.flash_traits.specs.Losses.{Received, SentFrame, Moment, Outcome, After}
 use Rattle.flash_traits.specs.Calls.{Passes}
 use Rattle.flash_traits.proofs.Moments.{up_to_self, chained, weaker}
+use Rattle.guard_row.specs.Row.{IsGuardRow}
 use Rattle.sector_image.specs.Stands.{Stands, IsUsedUp}
 use Rattle.dirty_lines.specs.Lines.{Lines}
 use Rattle.dirty_lines.specs.Losses.{IsWornForNext}
@@ -15,11 +16,13 @@ use Rattle.vehicle_node.specs.Safe.{Safe, SafeSince, Adds}
 use Rattle.flash_traits.specs.Counts.{counts}
 use Rattle.vehicle_node.specs.Arming.{IsArmedOnce}
 use Rattle.vehicle_node.specs.Reading.{Reads, no_rests}
-use Rattle.vehicle_node.specs.Standing.{Node, StandsAt, StandsForRun, armed_in}
+use Rattle.vehicle_node.specs.Guard.{MayWear}
+use Rattle.vehicle_node.specs.Standing.{Node, StandsAt, StandsForRun, StaysWithin, armed_in}
 use Rattle.storage_cli.specs.declared.stop.Served.{Served}
 use Rattle.storage_cli.specs.declared.stop.Stop.{Stop}
 use Rattle.storage_cli.specs.declared.stop.Stop.TheVariants as stop
 use Rattle.storage_cli.specs.Serving.{IsWhole, HasToVoid, is_armed_after_events}
+use Rattle.storage_cli.specs.Steps.Guard.{WearsSince, WearsFrom}
 use Rattle.storage_cli.specs.Steps.Progress.{IsSafe, IsSafeRun, Finishes, Completes, EndsSo, WasArmedSince}
 use Rattle.storage_cli.proofs.FewerEvents.{one_fewer, safe_none}
 use Rattle.storage_cli.proofs.Calls.{ending, some_safe, safe_later, safe_after}
@@ -165,3 +168,37 @@ void_served g words node m c told image starts empty unarmed (inr armed) = inr (
       reads = subst (λ (r : List (List ℕ)). Reads r armed.events (armed.acts ++ armed.last ∷ []) armed.rests) rests armed.reads;
       armed = subst (λ (a : Bool). IsArmedOnce (is_armed_after_events a armed.acts) armed.last) unarmed armed.armed;
     }))
+
+-- how the guard row comes to be used up from the attach on: at the opening, in an event, and at the close
+pub wears_opened : {B : Type 0} (g : Ghosts B) (budget : ℕ) (words : Words) (a c : B) → ((e : List Received) (f : List SentFrame) → g.has_lists a e f → g.has_lists c e f)
+    → (g.tells c → (count : ℕ) (b : List ℕ) → IsGuardRow words.guard count → Stands words b → MayWear budget count b []) → WearsFrom g budget words (g.has_lists a [] []) c
+wears_opened g budget words a c kept wears = record { events = []; lists = λ begun. ([], kept [] [] begun); lines = wears }
+
+module _ {B : Type 0} (g : Ghosts B) (budget : ℕ) (words : Words) (a m : B) (node : Node) (opened : (e : List Received) (f : List SentFrame) → g.has_lists a e f → g.has_lists m e f)
+    (within : g.tells m → (count : ℕ) (b : List ℕ) → IsGuardRow words.guard count → Stands words b → StaysWithin count node b [] [] 0) where
+  pub wears_served : node.budget ≡ budget → (c : B) → (g.tells c → g.tells m) → WearsSince g node m c → WearsFrom g budget words (g.has_lists a [] []) c
+  wears_served same c told wears = record {
+    events = wears.events;
+    lists = λ begun. wears.lists [] [] (opened [] [] begun);
+    lines = λ t count b row stands. subst (λ (n : ℕ). MayWear n count b wears.events) same (wears.lines t count b [] [] 0 (within (told t) count b row stands));
+  }
+
+  pub wears_closed : (c d : B) (new : Node) (turns : ℕ) (end : Option ℕ) → (p : Finishes g budget node m new c turns end) → new.budget ≡ budget → (g.tells d → g.tells c) → ((e : List Received) (f : List SentFrame) → g.has_lists c e f → g.has_lists d e f)
+      → (g.tells d → (count : ℕ) (b : List ℕ) (e : List Received) (f : List SentFrame) (k : ℕ) → StaysWithin count new b e f k → MayWear new.budget count b e) → WearsFrom g budget words (g.has_lists a [] []) d
+  wears_closed c d new turns end p same told closed wears = record {
+    events = p.events;
+    lists = λ begun. (p.frames, closed p.events p.frames (p.progress.lists [] [] (opened [] [] begun)));
+    lines = λ t count b row stands.
+        subst (λ (n : ℕ). MayWear n count b p.events) same
+        (wears t count b p.events p.frames (0 + length p.events) (p.progress.within count b [] [] 0 (within (p.progress.told (told t)) count b row stands)));
+  }
+
+-- the attach keeps the words, and its lists are empty
+pub wears_attached : {B : Type 0} (g : Ghosts B) (n budget : ℕ) (words before : Words) (a d : B) → n ≡ budget → (g.tells d → words ≡ before) → g.has_lists a [] [] → WearsFrom g n words (g.has_lists a [] []) d → WearsFrom g budget before ⊤ d
+wears_attached g n budget words before a d same kept empty w = record {
+  events = w.events;
+  lists = λ _. w.lists empty;
+  lines = λ t count b row stands.
+      subst (λ (k : ℕ). MayWear k count b w.events) same
+      (w.lines t count b (subst (λ (v : Words). IsGuardRow v.guard count) (sym (kept t)) row) (subst (λ (v : Words). Stands v b) (sym (kept t)) stands));
+}

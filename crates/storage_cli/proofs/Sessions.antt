@@ -1,5 +1,5 @@
 -- A generated session that was run in memory.
-use Rattle.std.proofs.Common.{inl, inr, ◌⊎◌, ◌≡◌, ◌≢◌, ◌≤◌, ◌*◌, ◌-◌, ◌^◌, ℕ, List, [], length, sym, ◌∙◌, ap, subst, arith, Result, Ok, Err}
+use Rattle.std.proofs.Common.{inl, inr, ◌⊎◌, ◌≡◌, ◌≢◌, ◌≤◌, ◌+◌, ◌*◌, ◌-◌, ◌^◌, ℕ, List, [], length, sym, ◌∙◌, ap, subst, arith, Result, Ok, Err}
 use Rattle.std.specs.Prelude.{⊤}
 use Rattle.std.proofs.lemmas.Slice.Zip.{AllZip-long}
 use Rattle.flash_traits.specs.Causes.{Rose}
@@ -7,8 +7,11 @@ use Rattle.flash_traits.specs.declared.board.Fault.{Fault}
 use Rattle.flash_traits.specs.declared.board.Fault.TheVariants.{Attach, Read, Flash, Recv, Send}
 use Rattle.flash_traits.specs.Budget.{budget_of}
 use Rattle.flash_traits.specs.Counts.{counts}
-use Rattle.flash_traits.specs.Words.{Words}
+use Rattle.flash_traits.specs.declared.numbers.TheConstants.{GUARD_HALFWORDS}
+use Rattle.flash_traits.specs.Words.{Words, IsSectorSize, HasShape}
 use Rattle.flash_traits.specs.Losses.{Received, SentFrame}
+use Rattle.guard_row.specs.Row.{IsGuardRow}
+use Rattle.session_boards.specs.Device.{fresh}
 use Rattle.sha2.specs.Sha256.{sha256}
 use Rattle.storage_lines.specs.Lines.{after}
 use Rattle.flash_traits.specs.declared.board.Board.{Ghosts}
@@ -22,15 +25,18 @@ use Rattle.session_boards.specs.Laws.{SessionEnds}
 use Rattle.session_boards.specs.declared.device.TheConstants.{SECTOR_BYTES}
 use Rattle.session_boards.specs.Session.{AreFirst, EndsOnce, HasNoEnd}
 use Rattle.vehicle_node.specs.Frames.{IsFrameOf}
+use Rattle.vehicle_node.specs.Runs.{run_of}
 use Rattle.storage_cli.specs.declared.stop.Served.{Served}
 use Rattle.storage_cli.specs.declared.stop.Stop.{Stop}
 use Rattle.storage_cli.specs.declared.stop.Stop.TheVariants as stop
 use Rattle.storage_cli.specs.declared.stop.Summary.{Summary}
-use Rattle.storage_cli.specs.Sessions.{fresh_bytes, fresh_run, digest_after, line_of_session}
+use Rattle.storage_cli.specs.Sessions.{fresh_bytes, fresh_run, digest_after, line_of_session, WearsOut}
 use Rattle.storage_cli.specs.Texts.{session_line}
 use Rattle.storage_cli.specs.Steps.Sessions.{IsSessionStop, IsSummary}
+use Rattle.storage_cli.specs.Steps.Guard.{WearsFrom}
 use Rattle.storage_cli.specs.Steps.Progress.{Completes, IsCounted}
-use Rattle.storage_cli.specs.Steps.Stops.{IsDone, IsServeStop, IsCausedBy, IsFirst}
+use Rattle.storage_cli.specs.Steps.Stops.{IsAttached, IsDone, IsServeStop, IsCausedBy, IsFirst, OnWorn}
+use Rattle.storage_cli.proofs.FreshImage.{fresh_guard, fresh_stands, fresh_size}
 
 -- a count that is 0 hasn't risen
 never_rose : (before now : ℕ) → now ≡ 0 → Rose before now → ⊥
@@ -94,3 +100,27 @@ summary_line rounds summary is =
     ∙ ap (λ (n : ℕ). session_line rounds (length is.session.events - 1) n summary.lines summary.digest) is.frames_are
     ∙ ap (λ (n : ℕ). session_line rounds (length is.session.events - 1) (counts (length run.answers)) n summary.digest) is.lines_are
     ∙ ap (λ (d : List ℕ). session_line rounds (length is.session.events - 1) (counts (length run.answers)) (counts (length run.issued)) d) is.digest_is
+
+-- where its guard row is used up, lines enough were issued
+pub wears_out : {B : Type 0} (g : Ghosts B) (rounds n : ℕ) (before : Words) (board : B) (why : Stop) → (let r : Result Served Stop = Err why in IsAttached r → IsSectorSize n) → (let r : Result Served Stop = Err why in IsAttached r → HasShape n before)
+    → before ≡ fresh → ((e : List Received) (f : List SentFrame) → g.has_lists board e f → AreFirst rounds e) → g.tells board → OnWorn why (WearsFrom g (budget_of n) before ⊤ board) → OnWorn why (WearsOut rounds)
+wears_out g rounds n before board stop.Words size shape is session told w = tt
+wears_out g rounds n before board stop.Memory size shape is session told w = tt
+wears_out g rounds n before board (stop.Foreign found) size shape is session told w = tt
+wears_out g rounds n before board stop.Read size shape is session told w = tt
+wears_out g rounds n before board stop.Flash size shape is session told w = tt
+wears_out g rounds n before board stop.Link size shape is session told w = tt
+wears_out g rounds n before board stop.Worn size shape is session told w =
+    let lists = w.lists tt in
+    let m = w.lines told 0 fresh_bytes (subst (λ (v : Words). IsGuardRow v.guard 0) (sym is) fresh_guard) (subst (λ (v : Words). Stands v fresh_bytes) (sym is) fresh_stands) in
+    let same : n ≡ SECTOR_BYTES = fresh_size n before is (size tt) (shape tt) in
+    record {
+      events = w.events;
+      first = session w.events lists.0 lists.1;
+      acts = m.acts;
+      rests = m.rests;
+      reads = m.reads;
+      enough = subst (λ (k : ℕ). GUARD_HALFWORDS ≤ 2 + 2 * length (run_of (budget_of k) fresh_bytes m.acts).issued) same (omega (arith, m.enough));
+    }
+wears_out g rounds n before board (stop.Turns k) size shape is session told w = tt
+wears_out g rounds n before board stop.Attach size shape is session told w = tt

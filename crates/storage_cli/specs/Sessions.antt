@@ -1,12 +1,13 @@
 -- What a `gen` has done: a generated session, run in memory.
-use Rattle.std.specs.Prelude.{◌≡◌, ℕ, ◌-◌, List, length, replicate}
+use Rattle.std.specs.Prelude.{◌≡◌, ◌≤◌, ℕ, ◌+◌, ◌*◌, ◌-◌, List, length, replicate}
 use Rattle.flash_traits.specs.Budget.{budget_of}
 use Rattle.flash_traits.specs.Counts.{counts}
 use Rattle.flash_traits.specs.Losses.{Received}
+use Rattle.flash_traits.specs.declared.numbers.TheConstants.{GUARD_HALFWORDS}
 use Rattle.sha2.specs.Sha256.{sha256}
 use Rattle.storage_lines.specs.Lines.{after}
 use Rattle.sector_log.specs.Storage.{storage_bytes}
-use Rattle.session_boards.specs.Session.{IsGenerated}
+use Rattle.session_boards.specs.Session.{AreFirst, IsGenerated}
 use Rattle.session_boards.specs.declared.device.TheConstants.{SECTOR_BYTES}
 use Rattle.vehicle_core.specs.Acts.{Act}
 use Rattle.vehicle_node.specs.Reading.{Reads, no_rests}
@@ -34,6 +35,17 @@ pub record Session (rounds : ℕ) : Type 0 where
 -- arming budget.
 abbrev pub fresh_run : List (List Act) → Run
 fresh_run acts = run_of (budget_of SECTOR_BYTES) fresh_bytes acts
+
+-- The first events of the generated session of so many rounds whose run issues so many lines that
+-- the guard row can be used up: its count, which is 0 in a fresh image, rises by two at the opening
+-- and by two for each line at most, and it ends at 8,192.
+pub record WearsOut (rounds : ℕ) : Type 0 where
+  pub events : List Received
+  pub first : AreFirst rounds events
+  pub acts : List (List Act)
+  pub rests : List (List ℕ)
+  pub reads : Reads no_rests events acts rests
+  pub enough : GUARD_HALFWORDS ≤ 2 + 2 * length (fresh_run acts).issued
 
 -- the digest of the storage bytes with all lines of a run that began with a fresh image
 unfoldable pub digest_after : Run → List ℕ

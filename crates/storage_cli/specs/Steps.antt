@@ -1,5 +1,6 @@
 -- What the private steps of a command say.
 pub mod Endings
+pub mod Guard
 pub mod Printing
 pub mod Progress
 pub mod Sessions

@@ -19,7 +19,7 @@ ghost use Rattle.storage_cli.specs.Statuses.{texts, IsStatusOf, IsServeStatus, I
 ghost use Rattle.storage_cli.specs.Steps.Endings.{Ends};
 ghost use Rattle.storage_cli.specs.Steps.Stops.{status_of_stop, line_of_stop};
 ghost use Rattle.storage_cli.specs.Steps.Printing.{IsTextOf, IsTextStatus};
-ghost use Rattle.storage_cli.specs.Sessions.{PrintsSession};
+ghost use Rattle.storage_cli.specs.Sessions.{PrintsSession, WearsOut};
 ghost use Rattle.storage_cli.specs.Serving.{Serves, NamesForeign, HasToVoid, IsLeftAlone, LeavesLink};
 
 use crate::format::format;
@@ -195,6 +195,7 @@ fn run_gen<K: Sink>(alloc: Global, out: &mut K, rounds: u16) -> Status
     ensures cut_short { result.0 ≡ OUTPUT_FAILED → K.tells_written out.new
         → IsCutShort Line (K.written out.old) (K.written out.new) }
     ensures generated { result.0 ≡ DONE → PrintsSession rounds (Prints K.Sink out.old out.new) }
+    ensures worn { result.0 ≡ WORN → WearsOut rounds }
 {
     match generate(alloc, rounds) {
         Ok(summary) => {
@@ -344,6 +345,11 @@ pub fn run<'a, B: Board, S: Source, K: Sink>(
     // session.
     ensures generated { OnGen (texts words.entry.now) (result.0 ≡ DONE) (λ rounds.
         PrintsSession rounds (Prints K.Sink out.old out.new)) }
+
+    // A gen has worn its guard row only after lines enough: the events that its run received, which
+    // are the first of its session, issue at least 4,095 lines with those of boot.
+    ensures gen_worn { OnGen (texts words.entry.now) (result.0 ≡ WORN) (λ rounds.
+        WearsOut rounds) }
 
     // Where no call failed, the words are told and the image stands, a command does all of its
     // work, unless memory is wanting; a serve may also use up its turns or the guard row.

@@ -1,6 +1,8 @@
 //! A `gen`: a generated session is run in memory.
 ghost use Rattle.std.specs.Prelude.{◌≡◌, ◌≤◌, IfOk, IfErr};
+ghost use Rattle.storage_cli.specs.Sessions.{WearsOut};
 ghost use Rattle.storage_cli.specs.Steps.Sessions.{IsSessionStop, IsSummary};
+ghost use Rattle.storage_cli.specs.Steps.Stops.{OnWorn};
 
 use crate::serving::serve;
 use crate::stop::{Stop, Summary};
@@ -19,6 +21,7 @@ fn generate_on<N: Session>(alloc: Global, rounds: u16) -> Result<Summary, Stop>
     requires session { rounds ≡ N.rounds }
     ensures summary { IfOk result (IsSummary rounds) }
     ensures stops { IfErr result IsSessionStop }
+    ensures worn { IfErr result (λ stop. OnWorn stop (WearsOut rounds)) }
 {
     session_ends();
     one_of_both();
@@ -44,6 +47,7 @@ pub(crate) fn generate(alloc: Global, rounds: u16) -> Result<Summary, Stop>
     requires { (1 ≤ rounds) × (rounds ≤ 1000) }
     ensures summary { IfOk result (IsSummary rounds) }
     ensures stops { IfErr result IsSessionStop }
+    ensures worn { IfErr result (λ stop. OnWorn stop (WearsOut rounds)) }
 {
     generate_on::<Brand>(alloc, rounds)
 }

@@ -12,6 +12,7 @@ ghost use Rattle.dirty_lines.specs.Losses.{IsWornForNext};
 ghost use Rattle.vehicle_node.specs.Standing.{Fits, IsAloneUnlessArmed, StandsForRun};
 ghost use Rattle.storage_cli.specs.Serving.{HasToVoid, IsLeftAlone};
 ghost use Rattle.storage_cli.specs.Steps.Stops.{IsAttached, IsDone, IsServeStop, IsEventStop, IsFirst, OnForeign, OnMemory, OnWorn, StopsEarly, StopsWorn, StopsByCause};
+ghost use Rattle.storage_cli.specs.Steps.Guard.{WearsSince, WearsFrom};
 ghost use Rattle.storage_cli.specs.Steps.Progress.{IsSafe, Finishes, Completes, IsSafeRun, WasArmedSince};
 
 use crate::stop::{Served, Stop};
@@ -37,6 +38,8 @@ fn serve_events<B: Board>(node: &mut Node, board: &mut B, turns: u32) -> Result<
     ensures worn_next { IsAloneUnlessArmed node.old → IfErr result (λ stop.
         OnWorn stop (((lines : Lines) × IsWornForNext B.Board board.new lines)
         ⊎ WasArmedSince B.Board node.old board.old board.new)) }
+    ensures worn_lines { IfErr result (λ stop.
+        OnWorn stop (WearsSince B.Board node.old board.old board.new)) }
     ensures budget { OnOk result (node.new.budget ≡ node.old.budget) }
     ensures geometry { B.sector_bytes board.new ≡ B.sector_bytes board.old }
     ensures stops { IfErr result IsEventStop }
@@ -72,6 +75,9 @@ fn serve_image<B: Board>(alloc: Global, board: &mut B, turns: u32) -> Result<Ser
     ensures worn_only { IfErr result (λ stop.
         OnWorn stop (B.has_lists board.old [] []
         → HasToVoid B.Board (B.words board.old) board.new)) }
+    ensures worn_lines { IfErr result (λ stop.
+        OnWorn stop (WearsFrom B.Board (budget_of (B.sector_bytes board.old)) (B.words board.old)
+        (B.has_lists board.old [] []) board.new)) }
     ensures foreign_idle { IfErr result (λ stop.
         OnForeign stop (B.moment board.new ≡ B.moment board.old)) }
     ensures left_alone { B.tells board.new → (place : Place) → FirstBad (B.words board.old) place
@@ -119,6 +125,9 @@ pub(crate) fn serve<B: Board>(
         OnWorn stop ((bytes : _) × IsWorn B.Board board.new bytes)) }
     ensures worn_only { IfErr result (λ stop.
         OnWorn stop (HasToVoid B.Board (B.words board.old) board.new)) }
+    ensures worn_lines { IfErr result (λ stop.
+        OnWorn stop (WearsFrom B.Board (budget_of (B.sector_bytes board.new)) (B.words board.old) ⊤
+        board.new)) }
     ensures foreign_idle { IfErr result (λ stop.
         OnForeign stop (B.moment board.new ≡ B.moment board.old)) }
     ensures left_alone { IsAttached result → B.tells board.new

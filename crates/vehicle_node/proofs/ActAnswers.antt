@@ -27,7 +27,7 @@ use Rattle.vehicle_node.specs.Guard.{CountsUpTo}
 use Rattle.vehicle_node.specs.Refusals.{OnWorn}
 use Rattle.vehicle_node.specs.Safe.{Adds}
 use Rattle.vehicle_node.specs.Standing.{Node, Fits, IsAlone, armed_in, ceiling, raised_by}
-use Rattle.vehicle_node.specs.Steps.Calls.{HasSent, WornAlone}
+use Rattle.vehicle_node.specs.Steps.Calls.{HasSent, IsWornAlone, WornAlone}
 use Rattle.vehicle_node.specs.Steps.Inside.{view_of}
 use Rattle.vehicle_node.specs.Steps.Answering.{did_at, armed_over, Answering, AnsweredAs, AnswerDone, ActDone, Flushing, SettledAll, SettleDone, IssuedAll, IssueDone}
 use Rattle.vehicle_node.specs.Steps.Sending.{SendsPrefix, SentAll, SendDone, answers_to}
@@ -70,7 +70,9 @@ module _ {B : Type 0} (g : Ghosts B) where
   pub issue_short : (need : Need) (armed : Bool) (writes : List LineWrite) (ds : List Delivery) (old : Node) (a : B) (e : NodeError) (r : Result ⊤ NodeError) (new : Node) (b : B)
       → IssueDone g armed writes old a (Err e) new b → IsErrAnd r (λ d. d ≡ e) → AnswerDone g need armed writes ds old a r new b
   issue_short need armed writes ds old a e r new b i err =
-      cut_call g (WornAlone g armed old new b) (AnsweredAs g need armed writes ds old a new b) a b e r i err (λ u o now step. room_made need old writes ds u o step) (λ worn. worn)
+      cut_call g (WornAlone g armed (ceiling old + 2 * length writes) old new b) (AnsweredAs g need armed writes ds old a new b) a b e r i err (λ u o now step. room_made need old writes ds u o step)
+      (λ worn. worn_more e (IsWornAlone g armed (ceiling old) old new b) (IsWornAlone g armed (ceiling old + 2 * length writes) old new b)
+      (λ w. record { unarmed = w.unarmed; next = w.next; reached = λ told. omega (arith, w.reached told) }) worn)
 
   module _ (reads : (b : B) (o : Outcome) → g.now b o → g.tells b × (o.words ≡ g.words b))
       (need : Need) (armed : Bool) (writes : List LineWrite) (ds : List Delivery) (old : Node) (a : B) (mid counted : Node) (b : B) (i : IssueDone g armed writes old a (Ok tt) mid b)
@@ -103,10 +105,14 @@ module _ {B : Type 0} (g : Ghosts B) where
         going_on g A [] [] (weaker A A i.losses (λ s o now f. room_made need old writes ds s o f) (λ s o now f. room_made need old writes ds s o f)) all.sent.here second
         (λ s m o was now adds f. settling s m o adds f)
 
-    stops_later : (new : Node) (c : B) (e : NodeError) → WornAlone g armed counted new c e → WornAlone g armed old new c e
+    stops_later : (new : Node) (c : B) (e : NodeError) → WornAlone g armed (ceiling counted) counted new c e → WornAlone g armed (ceiling old + 2 * length writes) old new c e
     stops_later new c e worn =
-        worn_more e ((armed ≡ false) × (IsAlone counted → IsWornForNext g c new.lines)) ((armed ≡ false) × (IsAlone old → IsWornForNext g c new.lines))
-        (λ w. (w.0, λ alone. w.1 (subst (λ (l : Lines). IsTrue (is_alone l.store)) (sym lines) (all.issued.alone w.0 alone)))) worn
+        worn_more e (IsWornAlone g armed (ceiling counted) counted new c) (IsWornAlone g armed (ceiling old + 2 * length writes) old new c)
+        (λ w. record {
+          unarmed = w.unarmed;
+          next = λ alone. w.next (subst (λ (l : Lines). IsTrue (is_alone l.store)) (sym lines) (all.issued.alone w.unarmed alone));
+          reached = λ told. omega (arith, w.reached told, ceilings counted.lines mid.lines lines, all.issued.ahead);
+        }) worn
 
     -- the putting of all lines was cut short
     pub settle_short : (e : NodeError) (r : Result ⊤ NodeError) (new : Node) (c : B) → SettleDone g need armed counted b (Err e) new c → IsErrAnd r (λ d. d ≡ e) → AnswerDone g need armed writes ds old a r new c
@@ -168,7 +174,7 @@ module _ {B : Type 0} (g : Ghosts B) where
         losses = going_on g (Answering need writes ds old) [] [] (settle_losses c s.losses) sent_so_far.here t.losses (λ s m o was now added some. sends s m o now added some);
         lists = lists_then g a c d (lists_then g a b c i.lists s.lists) t.lists;
         done = on_ok r (SentAll g ds last c new d) (AnsweredAs g need armed writes ds old a new d) (λ x. told x) t.done;
-        stopped = IfErr-weaker r (λ e. OnWorn e (λ count. ⊥)) (WornAlone g armed old new d) (λ e none. no_wear e _ none) never;
+        stopped = IfErr-weaker r (λ e. OnWorn e (λ count. ⊥)) (WornAlone g armed (ceiling old + 2 * length writes) old new d) (λ e none. no_wear e _ none) never;
       }
         where
           told : SentAll g ds last c new d → AnsweredAs g need armed writes ds old a new d
@@ -261,7 +267,10 @@ module _ {B : Type 0} (g : Ghosts B) where
           losses = weaker A A d.losses (λ s o was x. any_losses s o x) (λ s o was x. any_losses s o x);
           lists = d.lists;
           done = on_ok r (AnsweredAs g need armed writes ds (record node { index = before }) a mid c) (AnsweredAs g need armed writes ds node a (record mid { index = after_index }) c) any_answered d.done;
-          stopped = d.stopped;
+          stopped = IfErr-weaker r (WornAlone g armed (ceiling node + 2 * length writes) (record node { index = before }) mid c) (WornAlone g armed (ceiling node + 2 * length writes) node (record mid { index = after_index }) c)
+              (λ e worn. worn_more e (IsWornAlone g armed (ceiling node + 2 * length writes) (record node { index = before }) mid c)
+              (IsWornAlone g armed (ceiling node + 2 * length writes) node (record mid { index = after_index }) c)
+              (λ w. record { unarmed = w.unarmed; next = w.next; reached = w.reached }) worn) d.stopped;
         }
 
   -- the same of what a node has inside

@@ -7,6 +7,7 @@ use Rattle.std.proofs.lemmas.List.{take_more}
 use Rattle.std.proofs.lemmas.List.FromFn.{get_or-map-range_with_len}
 use Rattle.std.proofs.lemmas.Result.{IfErr-weaker}
 use Rattle.flash_traits.specs.declared.board.Board.{Ghosts}
+use Rattle.flash_traits.specs.declared.numbers.TheConstants.{GUARD_HALFWORDS}
 use Rattle.flash_traits.specs.Losses.{SentFrame, Outcome}
 use Rattle.flash_traits.proofs.Moments.{weaker}
 use Rattle.storage_lines.specs.declared.lines.LineWrite.{LineWrite}
@@ -29,9 +30,9 @@ use Rattle.vehicle_node.specs.Guard.{CountsUpTo}
 use Rattle.vehicle_node.specs.Runs.{Run, act_done, all_acts, did_in}
 use Rattle.vehicle_node.specs.Safe.{SafeAt, Adds}
 use Rattle.vehicle_node.specs.Standing.{Node, IsAlone, IsAloneUnlessArmed, StandsAt, armed_in, ceiling, raised_by}
-use Rattle.vehicle_node.specs.Steps.Calls.{WornAlone, WornWhere}
+use Rattle.vehicle_node.specs.Steps.Calls.{IsWornAlone, WornAlone, IsWornWhere, WornWhere}
 use Rattle.vehicle_node.specs.Steps.Answering.{did_at, deliveries_at, node_after, armed_over, Answering, AnsweredAs, ActDone}
-use Rattle.vehicle_node.specs.Steps.Hearing.{StandsBelow, SafeInside, SafeIn, AnsweredAll, ActsAnswered, ActsDone}
+use Rattle.vehicle_node.specs.Steps.Hearing.{StandsBelow, SafeInside, SafeIn, AnsweredAll, ActsAnswered, ActsDone, MayWearIn}
 use Rattle.vehicle_node.proofs.RunLaws.{all_acts_floor, all_acts-append, Extends, extends_more, safe_extends}
 use Rattle.vehicle_node.proofs.Orders.{did_arms, did_needs, armed-append, once_before, once_after, throughout_before, throughout_after, none_before, none_after}
 use Rattle.vehicle_node.proofs.At.{did_is, safe_still, safe_answering, stands_answered}
@@ -82,6 +83,12 @@ inside_later limit b r s floor sent frames from mid o same adds a = record {
   guard = a.guard;
 }
 
+-- more acts issue no fewer lines
+pub wears_more : (node : Node) (ps qs : List Act) → MayWearIn node ps → MayWearIn node (ps ++ qs)
+wears_more node ps qs wears limit b r sent s =
+    let x = extends_more node.budget b r ps qs in
+    omega (arith, wears limit b r sent s, ap length x.issued.whole, length-append (all_acts node.budget b r ps).issued x.issued.rest)
+
 empty_front : (xs ys : List LineWrite) → xs ≡ [] → xs ++ ys ≡ ys
 empty_front xs ys none = ap (λ (l : List LineWrite). l ++ ys) none
 
@@ -109,11 +116,15 @@ act_needs : (armed : Bool) (act : Act) → armed ≡ true → is_armed_after arm
 act_needs armed act is not = disarm_needs (order_heard act) (sym (ap (λ (b : Bool). is_armed_after b act) is) ∙ not)
 
 module _ {B : Type 0} (g : Ghosts B) where
-  -- where the vehicle was armed, of later acts
-  pub worn_later : (old mid : Node) (P Q : Type 0) (new : Node) (last : B) (e : NodeError) → (IsAloneUnlessArmed old → IsAloneUnlessArmed mid) → (P → Q) → WornWhere g mid P new last e → WornWhere g old Q new last e
-  worn_later old mid P Q new last e alone more worn =
-      worn_more e (IsAloneUnlessArmed mid → IsWornForNext g last new.lines ⊎ P) (IsAloneUnlessArmed old → IsWornForNext g last new.lines ⊎ Q)
-      (λ w unless. elim (w (alone unless)) [ inl next ↦ inl next | inr p ↦ inr (more p) ]) worn
+  -- where the vehicle was armed or lines enough were issued, of later acts
+  pub worn_later : (old mid : Node) (P Q : Type 0) {L M : Type 0} (new : Node) (last : B) (e : NodeError) → (IsAloneUnlessArmed old → IsAloneUnlessArmed mid) → (P → Q) → (L → M)
+      → WornWhere g mid P L new last e → WornWhere g old Q M new last e
+  worn_later old mid P Q {L} {M} new last e alone more lines worn =
+      worn_more e (IsWornWhere g mid P L new last) (IsWornWhere g old Q M new last)
+      (λ w. record {
+        next = λ unless. elim (w.next (alone unless)) [ inl next ↦ inl next | inr p ↦ inr (more p) ];
+        lines = λ told. lines (w.lines told);
+      }) worn
 
   pub answered_none : (node : Node) (board : B) → AnsweredAll g node board [] node board
   answered_none node board = record {
@@ -171,11 +182,18 @@ module _ {B : Type 0} (g : Ghosts B) where
             ∙ ap (λ (v : Vehicle). is_armed v) (counted-vehicle (node_after old act).machine (deliveries_at old act)) ∙ arms
 
     -- where the act finds the guard row used up, the vehicle was armed before it unless home lacks room
-    pub worn_one : (new : Node) (last : B) (e : NodeError) → WornAlone g (armed_over old act) (node_after old act) new last e → WornWhere g old (IsArmedOnce (armed_in old) (act ∷ [])) new last e
+    pub worn_one : (new : Node) (last : B) (e : NodeError) → WornAlone g (armed_over old act) (ceiling old + 2 * length (did_at old act).writes) (node_after old act) new last e
+        → WornWhere g old (IsArmedOnce (armed_in old) (act ∷ [])) (MayWearIn old (act ∷ [])) new last e
     worn_one new last e worn =
-        worn_more e ((armed_over old act ≡ false) × (IsAlone (node_after old act) → IsWornForNext g last new.lines))
-        (IsAloneUnlessArmed old → IsWornForNext g last new.lines ⊎ IsArmedOnce (armed_in old) (act ∷ []))
-        (λ w unless. elim (cases_Bool (armed_in old)) [ inl is ↦ inr (inl is) | inr off ↦ inl (w.1 (unless off)) ]) worn
+        worn_more e (IsWornAlone g (armed_over old act) (ceiling old + 2 * length (did_at old act).writes) (node_after old act) new last)
+        (IsWornWhere g old (IsArmedOnce (armed_in old) (act ∷ [])) (MayWearIn old (act ∷ [])) new last)
+        (λ w. record {
+          next = λ unless. elim (cases_Bool (armed_in old)) [ inl is ↦ inr (inl is) | inr off ↦ inl (w.next (unless off)) ];
+          lines = λ told limit b r sent s.
+              let enough : GUARD_HALFWORDS ≤ limit + 2 * length (r.issued ++ (did_in old.budget b r act).writes) =
+                  omega (arith, w.reached told, s.ahead, length-append r.issued (did_in old.budget b r act).writes, ap (λ (d : Did). length d.writes) (did_is old b r sent s.at act)) in
+              enough;
+        }) worn
 
   -- acts of which nothing comes were answered
   pub answered_then : (old : Node) (board : B) (ps : List Act) (mid : Node) (mid_board : B) (qs : List Act) (new : Node) (last : B)
@@ -236,6 +254,12 @@ module _ {B : Type 0} (g : Ghosts B) where
       (subst (λ (t : Run). SafeInside limit b t (all_acts old.budget b r ps).floor (sent ++ a.frames) m o)
       (ap (λ (n : ℕ). all_acts n b (all_acts old.budget b r ps) qs) a.budget ∙ sym (all_acts-append old.budget b r ps qs)) x)
 
+  -- acts that wear the guard row of a node after others
+  pub wears_after : (old : Node) (board : B) (ps : List Act) (mid : Node) (mid_board : B) (qs : List Act) → AnsweredAll g old board ps mid mid_board → MayWearIn mid qs → MayWearIn old (ps ++ qs)
+  wears_after old board ps mid mid_board qs a wears limit b r sent s =
+      subst (λ (t : Run). GUARD_HALFWORDS ≤ limit + 2 * length t.issued) (ap (λ (n : ℕ). all_acts n b (all_acts old.budget b r ps) qs) a.budget ∙ sym (all_acts-append old.budget b r ps qs))
+      (wears limit b (all_acts old.budget b r ps) (sent ++ a.frames) (below_then limit old board ps mid mid_board b r sent a s))
+
   pub acts_none : (reads : (b : B) (o : Outcome) → g.now b o → g.tells b × (o.words ≡ g.words b)) (node : Node) (board : B) → store.Fits g board node.lines.store → ActsDone g node board [] (Ok tt) node board
   acts_none reads node board fits = record {
     losses = begun g board (SafeIn node [])
@@ -255,7 +279,8 @@ module _ {B : Type 0} (g : Ghosts B) where
     lists = a.lists;
     done = on_ok result (AnsweredAs g (did_at old act).need (armed_over old act) (did_at old act).writes (deliveries_at old act) (node_after old act) board new last) (ActsAnswered g old board (act ∷ []) new last)
         (λ done. record { rests = done.answered.rests; answered = answered_one old board act new last done }) a.done;
-    stopped = IfErr-weaker result (WornAlone g (armed_over old act) (node_after old act) new last) (WornWhere g old (IsArmedOnce (armed_in old) (act ∷ [])) new last)
+    stopped = IfErr-weaker result (WornAlone g (armed_over old act) (ceiling old + 2 * length (did_at old act).writes) (node_after old act) new last)
+        (WornWhere g old (IsArmedOnce (armed_in old) (act ∷ [])) (MayWearIn old (act ∷ [])) new last)
         (λ e worn. worn_one old board act new last e worn) a.stopped;
   }
 
@@ -276,20 +301,21 @@ module _ {B : Type 0} (g : Ghosts B) where
         lists = lists_then g board mid_board last first.lists second.lists;
         done = on_ok result (ActsAnswered g mid mid_board qs new last) (ActsAnswered g old board (ps ++ qs) new last)
             (λ more. record { rests = more.rests ∙ all.rests; answered = answered_then old board ps mid mid_board qs new last a more.answered }) second.done;
-        stopped = IfErr-weaker result (WornWhere g mid (IsArmedOnce (armed_in mid) qs) new last) (WornWhere g old (IsArmedOnce (armed_in old) (ps ++ qs)) new last)
+        stopped = IfErr-weaker result (WornWhere g mid (IsArmedOnce (armed_in mid) qs) (MayWearIn mid qs) new last) (WornWhere g old (IsArmedOnce (armed_in old) (ps ++ qs)) (MayWearIn old (ps ++ qs)) new last)
             (λ e worn. worn_later old mid (IsArmedOnce (armed_in mid) qs) (IsArmedOnce (armed_in old) (ps ++ qs)) new last e a.alone
-            (λ once. once_after (armed_in old) ps qs (subst (λ (b : Bool). IsArmedOnce b qs) a.armed once)) worn) second.stopped;
+            (λ once. once_after (armed_in old) ps qs (subst (λ (b : Bool). IsArmedOnce b qs) a.armed once)) (wears_after old board ps mid mid_board qs a) worn) second.stopped;
       }
 
   -- a prefix of the acts
   pub acts_prefix : (old : Node) (board : B) (ps qs all : List Act) (e : NodeError) (result : Result ⊤ NodeError) (new : Node) (last : B) → ps ++ qs ≡ all → IsErrAnd result (λ d. d ≡ e)
       → ActsDone g old board ps (Err e) new last → ActsDone g old board all result new last
   acts_prefix old board ps qs all e result new last is err d =
-      cut_call g (WornWhere g old (IsArmedOnce (armed_in old) all) new last) (ActsAnswered g old board all new last) board last e result d err
+      cut_call g (WornWhere g old (IsArmedOnce (armed_in old) all) (MayWearIn old all) new last) (ActsAnswered g old board all new last) board last e result d err
       (λ s o now x limit b r sent below. inside_more limit b (all_acts old.budget b r ps) (all_acts old.budget b r all) r.floor sent s o
       (subst (λ (l : List Act). Extends (all_acts old.budget b r ps) (all_acts old.budget b r l)) is (extends_more old.budget b r ps qs)) (x limit b r sent below))
       (worn_later old old (IsArmedOnce (armed_in old) ps) (IsArmedOnce (armed_in old) all) new last e (λ unless. unless)
-      (λ once. subst (IsArmedOnce (armed_in old)) is (once_before (armed_in old) ps qs once)))
+      (λ once. subst (IsArmedOnce (armed_in old)) is (once_before (armed_in old) ps qs once))
+      (λ wears. subst (MayWearIn old) is (wears_more old ps qs wears)))
 
   -- each station in its turn
   module _ (turn : ℕ → Act) (old : Node) (board : B) (at : ℕ) (lt : at < 8) (mid : Node) (mid_board : B) (result : Result ⊤ NodeError) (new : Node) (last : B) where

@@ -9,7 +9,8 @@ use Rattle.flash_traits.specs.Budget.{budget_of}
 use Rattle.flash_traits.specs.declared.board.Board.{Ghosts}
 use Rattle.flash_traits.specs.declared.board.Fault.{Fault}
 use Rattle.flash_traits.specs.Calls.{Passes, Changes}
-use Rattle.flash_traits.specs.Losses.{SentFrame, Outcome, After, OnWords}
+use Rattle.flash_traits.specs.declared.numbers.TheConstants.{GUARD_HALFWORDS}
+use Rattle.flash_traits.specs.Losses.{Received, SentFrame, Outcome, After, OnWords}
 use Rattle.flash_traits.proofs.Moments.{weaker, elapses_of}
 use Rattle.guard_row.specs.Row.{IsGuardRow}
 use Rattle.guard_row.proofs.RowLaws.{one_count}
@@ -28,7 +29,7 @@ use Rattle.param_convert.specs.declared.rules.Rule.{Rule}
 use Rattle.param_convert.specs.Rules.{to_servo1_trim, vehicle_rules}
 use Rattle.param_convert.proofs.ConvertSteps.{from_step}
 use Rattle.sector_log.specs.Bytes.{value_of}
-use Rattle.sector_image.specs.Stands.{Stands, Reading, Reads, entries_in}
+use Rattle.sector_image.specs.Stands.{Stands, Reading, Both, One, Reads, entries_in, count_in}
 use Rattle.sector_image.proofs.Values.{is_value}
 use Rattle.sector_image.specs.Losses.{KeepsBytes}
 use Rattle.sector_image.proofs.ImageLaws.{one_value}
@@ -47,10 +48,10 @@ use Rattle.vehicle_node.specs.Refusals.{OnFault, OnForeign, OnWorn}
 use Rattle.vehicle_node.specs.Frames.{Machine}
 use Rattle.vehicle_node.specs.Reading.{no_rests}
 use Rattle.vehicle_node.specs.Runs.{Run, BootStep, format_step, convert_step, boot_steps, boot, run_of}
-use Rattle.vehicle_node.specs.Guard.{CountsUpTo, RisesWithin}
+use Rattle.vehicle_node.specs.Guard.{CountsUpTo, RisesWithin, MayWear}
 use Rattle.vehicle_node.specs.Safe.{Safe, SafeSince, Adds}
 use Rattle.vehicle_node.specs.Standing.{Node, Fits, HasRoomSince, IsAlone, IsAloneUnlessArmed, StandsAt, StandsForRun, StaysWithin, armed_in, counts, ceiling, raised_in}
-use Rattle.vehicle_node.specs.Steps.Calls.{WornAlone}
+use Rattle.vehicle_node.specs.Steps.Calls.{IsWornAlone, WornAlone}
 use Rattle.vehicle_node.specs.Steps.Answering.{OnlyPuts, Flushing, FlushedAll, FlushDone}
 use Rattle.vehicle_node.specs.Steps.Opening.{error_of, IsBooted}
 use Rattle.vehicle_node.proofs.RunLaws.{run_of_none, safe_by}
@@ -287,6 +288,15 @@ module _ {B : Type 0} (g : Ghosts B) (reads : (b : B) (o : Outcome) → g.now b 
         going_on g (RisesWithin budget count b []) [] [] open_rises (nothing_sent g changes).here f.losses
         (λ s m o was is adds x. rises_boot budget count b s o (ceiling node) (boot_ceiling (reads mid m is).0) (x.events ∙ adds.events_are ∙ append-nil s.events) x.guard)
 
+    -- where the flush of the lines of boot finds the guard row used up
+    pub boot_wears : g.tells mid → GUARD_HALFWORDS ≤ ceiling node → MayWear budget count b []
+    boot_wears tells reached = record {
+      acts = [];
+      rests = no_rests;
+      reads = (refl, refl);
+      enough = subst (λ (r : Run). GUARD_HALFWORDS ≤ raised_in count r) (sym (run_of_none budget b)) (omega (arith, reached, boot_ceiling tells));
+    }
+
     pub boot_within : (last : Node) → OnlyPuts false node last → last.lines.pending ≡ [] → g.tells mid → StaysWithin count last b [] [] 0
     boot_within last w none tells =
         let same : durable_of lines.store ≡ b = one_value (g.words old) (durable_of lines.store) b (stands tells) (told (changes.told tells)).1 in
@@ -312,12 +322,26 @@ closed_at g armed (Ok v) node board last new f none fits =
 closed_at g armed (Err e) node board last new f none fits = tt
 
 -- where the flush of a closing finds the guard row used up, the vehicle isn't armed
-pub closed_worn : {B : Type 0} (g : Ghosts B) (armed : Bool) (node last : Node) (new : B) (r : Result ⊤ NodeError) → armed ≡ armed_in node → IfErr r (WornAlone g armed node last new)
+pub closed_worn : {B : Type 0} (g : Ghosts B) (armed : Bool) (node last : Node) (new : B) (r : Result ⊤ NodeError) → armed ≡ armed_in node → IfErr r (WornAlone g armed (ceiling node) node last new)
     → IfErr r (λ e. OnWorn e (λ count. IsAloneUnlessArmed node → (lines : Lines) × IsWornForNext g new lines))
 closed_worn g armed node last new r is worn =
-    IfErr-weaker r (WornAlone g armed node last new) (λ e. OnWorn e (λ count. IsAloneUnlessArmed node → (lines : Lines) × IsWornForNext g new lines))
-    (λ e worn. worn_more e ((armed ≡ false) × (IsAlone node → IsWornForNext g new last.lines)) (IsAloneUnlessArmed node → (lines : Lines) × IsWornForNext g new lines)
-    (λ w unless. (last.lines, w.1 (unless (sym is ∙ w.0)))) worn) worn
+    IfErr-weaker r (WornAlone g armed (ceiling node) node last new) (λ e. OnWorn e (λ count. IsAloneUnlessArmed node → (lines : Lines) × IsWornForNext g new lines))
+    (λ e worn. worn_more e (IsWornAlone g armed (ceiling node) node last new) (IsAloneUnlessArmed node → (lines : Lines) × IsWornForNext g new lines)
+    (λ w unless. (last.lines, w.next (unless (sym is ∙ w.unarmed)))) worn) worn
+
+-- and lines enough were issued
+pub closed_wears : {B : Type 0} (g : Ghosts B) (armed : Bool) (node last : Node) (new : B) (r : Result ⊤ NodeError) → IfErr r (WornAlone g armed (ceiling node) node last new)
+    → IfErr r (λ e. OnWorn e (λ n. g.tells new → (count : ℕ) (b : List ℕ) (events : List Received) (frames : List SentFrame) (m : ℕ) → StaysWithin count node b events frames m → MayWear node.budget count b events))
+closed_wears g armed node last new r worn =
+    let Wears : Type 0 = g.tells new → (count : ℕ) (b : List ℕ) (events : List Received) (frames : List SentFrame) (m : ℕ) → StaysWithin count node b events frames m → MayWear node.budget count b events in
+    IfErr-weaker r (WornAlone g armed (ceiling node) node last new) (λ e. OnWorn e (λ n. Wears))
+    (λ e worn. worn_more e (IsWornAlone g armed (ceiling node) node last new) Wears
+    (λ w told count b events frames m within. record {
+      acts = within.run.acts;
+      rests = node.rests;
+      reads = within.run.reads;
+      enough = omega (arith, w.reached told, within.ahead);
+    }) worn) worn
 
 -- what a loss leaves while lines are put
 pub flushing_leaves : (node : Node) (s o : Outcome) → Flushing node s o → Leaves node s o
@@ -329,6 +353,19 @@ flushing_leaves node s o a = record {
 -- words that are an image stand for bytes
 pub read_stands : (w : Words) (reading : Reading) → Reads w reading → (b : List ℕ) × Stands w b
 read_stands w reading reads = (value_of (entries_in reading), (reading, reads, is_value (entries_in reading)))
+
+reads_guard : (w : Words) (reading : Reading) → Reads w reading → IsGuardRow w.guard (count_in reading)
+reads_guard w (Both count m n home other) reads = reads.guard
+reads_guard w (One count entries) reads = reads.guard
+
+-- the guard row of an image that was read with its count at the end of the row
+pub read_wears : (w : Words) (reading : Reading) → Reads w reading → count_in reading ≡ GUARD_HALFWORDS → (budget count : ℕ) (b : List ℕ) → IsGuardRow w.guard count → MayWear budget count b []
+read_wears w reading reads full budget count b row = record {
+  acts = [];
+  rests = no_rests;
+  reads = (refl, refl);
+  enough = omega (arith, one_count w.guard count (count_in reading) row (reads_guard w reading reads), full);
+}
 
 pub worn_at : (error : OpenError) (result : NodeError) (P Q : ℕ → Type 0) → result ≡ error_of error → ((count : ℕ) → P count → Q count) → OnOpenWorn error P → OnWorn result Q
 worn_at error result P Q is weaker given = subst (λ (e : NodeError). OnWorn e Q) (sym is) (worn_of error P Q weaker given)

@@ -19,7 +19,7 @@ use Rattle.vehicle_node.specs.Safe.{SafeAt, Safe, SafeSince, Adds}
 use Rattle.vehicle_node.specs.Standing.{Node, StandsAt, StandsForRun, armed_in, ceiling, raised_in}
 use Rattle.vehicle_node.specs.Steps.Calls.{WornWhere}
 use Rattle.vehicle_node.specs.Steps.Answering.{Flushed, Flushing}
-use Rattle.vehicle_node.specs.Steps.Hearing.{StandsBelow, ActsAnswered, IsHeard, SafeHearing, ArmedHearing, HeardAll, HearDone, ActsDone, SafeTaking, SafeTaken, ArmedTaking, TakenAll, TakeDone}
+use Rattle.vehicle_node.specs.Steps.Hearing.{StandsBelow, ActsAnswered, IsHeard, SafeHearing, ArmedHearing, WearingHearing, MayWearIn, HeardAll, HearDone, ActsDone, SafeTaking, SafeTaken, ArmedTaking, WearingTaking, TakenAll, TakeDone}
 use Rattle.vehicle_node.specs.Laws.{FramesAreRead, IsInRange}
 use Rattle.vehicle_node.proofs.RunLaws.{run_of_push, all_acts_floor, extends_same, extends_then, extends_more, extends_all}
 use Rattle.vehicle_node.proofs.Orders.{once_before, once_after}
@@ -28,7 +28,7 @@ use Rattle.vehicle_node.proofs.Readings.{heard_more, heard_datagram, can_hear_mo
 use Rattle.vehicle_node.proofs.Putting.{now_stands, now_within}
 use Rattle.vehicle_node.proofs.ActAnswers.{counts_more}
 use Rattle.vehicle_node.proofs.Passing.{on_ok, cut_call, begun, going_on, lists_kept, lists_then}
-use Rattle.vehicle_node.proofs.ActsDone.{worn_later, inside_more, inside_still, inside_after, answered_none, answered_then, below_then}
+use Rattle.vehicle_node.proofs.ActsDone.{worn_later, wears_after, wears_more, inside_more, inside_still, inside_after, answered_none, answered_then, below_then}
 
 -- where a prefix of a datagram was heard, the whole can be read
 pub hearing_takes : FramesAreRead → (station : ℕ) (bytes : List ℕ) (node : Node) (limit : ℕ) (b : List ℕ) (r : Run) (sent : List SentFrame) (s o : Outcome) → SafeHearing station bytes node limit b r sent s o
@@ -59,14 +59,28 @@ armed_takes read station bytes node x =
       armed = once_before (armed_in node) (x.said ++ more.said) streams (once_before (armed_in node) x.said more.said x.armed);
     }
 
+-- and the whole issues no fewer lines
+wearing_takes : FramesAreRead → (station : ℕ) (bytes : List ℕ) (node : Node) → WearingHearing station bytes node → WearingTaking (Datagram station bytes) node
+wearing_takes read station bytes node x =
+    let rests = node.rests in
+    let more = can_hear_more read station x.first x.more rests x.mid x.said x.heard in
+    let all : IsHeard station bytes rests (x.said ++ more.said) more.new = subst (λ (l : List ℕ). IsHeard station l rests (x.said ++ more.said) more.new) x.split (heard_more station x.first x.more rests x.mid more.new x.said more.said x.heard more.heard) in
+    record {
+      acts = (x.said ++ more.said) ++ streams;
+      new_rests = more.new;
+      reads = heard_datagram station bytes rests more.new (x.said ++ more.said) all;
+      enough = wears_more node (x.said ++ more.said) streams (wears_more node x.said more.said x.enough);
+    }
+
 module _ {B : Type 0} (g : Ghosts B) where
   -- a datagram that was heard in part
   pub take_hearing : FramesAreRead → (station : ℕ) (bytes : List ℕ) (old : Node) (board : B) (e : NodeError) (result : Result ⊤ NodeError) (new : Node) (last : B) → IsErrAnd result (λ d. d ≡ e)
       → HearDone g old board station bytes (Err e) new last → TakeDone g (Datagram station bytes) old board result new last
   take_hearing read station bytes old board e result new last err d =
-      cut_call g (WornWhere g old (ArmedTaking (Datagram station bytes) old) new last) (TakenAll g (Datagram station bytes) old board new last) board last e result d err
+      cut_call g (WornWhere g old (ArmedTaking (Datagram station bytes) old) (WearingTaking (Datagram station bytes) old) new last) (TakenAll g (Datagram station bytes) old board new last) board last e result d err
       (λ s o is x limit b r sent below. hearing_takes read station bytes old limit b r sent s o (x limit b r sent below))
-      (worn_later g old old (ArmedHearing station bytes old) (ArmedTaking (Datagram station bytes) old) new last e (λ unless. unless) (λ x. armed_takes read station bytes old x))
+      (worn_later g old old (ArmedHearing station bytes old) (ArmedTaking (Datagram station bytes) old) new last e (λ unless. unless) (λ x. armed_takes read station bytes old x)
+      (λ x. wearing_takes read station bytes old x))
 
   -- then the lists go on
   pub take_heard : FramesAreRead → (station : ℕ) (bytes : List ℕ) (old : Node) (board : B) (mid : Node) (mid_board : B) (result : Result ⊤ NodeError) (new : Node) (last : B)
@@ -96,13 +110,20 @@ module _ {B : Type 0} (g : Ghosts B) where
               answered = answered_then g old board all.said mid mid_board streams new last answered done.answered;
             })
             second.done;
-        stopped = IfErr-weaker result (WornWhere g mid (IsArmedOnce (armed_in mid) streams) new last) (WornWhere g old (ArmedTaking (Datagram station bytes) old) new last)
+        stopped = IfErr-weaker result (WornWhere g mid (IsArmedOnce (armed_in mid) streams) (MayWearIn mid streams) new last)
+            (WornWhere g old (ArmedTaking (Datagram station bytes) old) (WearingTaking (Datagram station bytes) old) new last)
             (λ e worn. worn_later g old mid (IsArmedOnce (armed_in mid) streams) (ArmedTaking (Datagram station bytes) old) new last e answered.alone
             (λ once. record {
               acts = all.said ++ streams;
               new_rests = mid.rests;
               reads = heard_datagram station bytes old.rests mid.rests all.said all.heard;
               armed = once_after (armed_in old) all.said streams (subst (λ (b : Bool). IsArmedOnce b streams) answered.armed once);
+            })
+            (λ wears. record {
+              acts = all.said ++ streams;
+              new_rests = mid.rests;
+              reads = heard_datagram station bytes old.rests mid.rests all.said all.heard;
+              enough = wears_after g old board all.said mid mid_board streams answered wears;
             }) worn) second.stopped;
       }
 
@@ -117,9 +138,10 @@ module _ {B : Type 0} (g : Ghosts B) where
         lists = d.lists;
         done = on_ok result (ActsAnswered g old board (beats ++ streams) new last) (TakenAll g Idle old board new last)
             (λ done. record { acts = beats ++ streams; reads = (refl, done.rests); answered = done.answered }) d.done;
-        stopped = IfErr-weaker result (WornWhere g old (IsArmedOnce (armed_in old) (beats ++ streams)) new last) (WornWhere g old (ArmedTaking Idle old) new last)
+        stopped = IfErr-weaker result (WornWhere g old (IsArmedOnce (armed_in old) (beats ++ streams)) (MayWearIn old (beats ++ streams)) new last) (WornWhere g old (ArmedTaking Idle old) (WearingTaking Idle old) new last)
             (λ e worn. worn_later g old old (IsArmedOnce (armed_in old) (beats ++ streams)) (ArmedTaking Idle old) new last e (λ unless. unless)
-            (λ once. record { acts = beats ++ streams; new_rests = old.rests; reads = (refl, refl); armed = once }) worn) d.stopped;
+            (λ once. record { acts = beats ++ streams; new_rests = old.rests; reads = (refl, refl); armed = once })
+            (λ wears. record { acts = beats ++ streams; new_rests = old.rests; reads = (refl, refl); enough = wears }) worn) d.stopped;
       }
 
   -- the end

@@ -2,6 +2,7 @@
 use Rattle.std.proofs.Common.{◌≡◌, ◌⊎◌, inl, inr, Bool, true, false, ℕ, ◌+◌, ◌*◌, ◌≤◌, List, [], ◌∷◌, ◌++◌, length, refl, sym, ◌∙◌, ap, subst, arith, append_assoc, append-nil, length-append, Result, Ok, Err, Option, Some, None}
 use Rattle.std.specs.Prelude.{◌↔◌, ⊤, IsErr, option_to_list}
 use Rattle.flash_traits.specs.declared.board.Board.{Ghosts}
+use Rattle.flash_traits.specs.declared.numbers.TheConstants.{GUARD_HALFWORDS}
 use Rattle.flash_traits.specs.declared.board.Event.{Event}
 use Rattle.flash_traits.specs.declared.board.Event.TheVariants as event
 use Rattle.flash_traits.specs.Calls.{Passes}
@@ -15,16 +16,17 @@ use Rattle.vehicle_node.specs.declared.NodeError.{NodeError}
 use Rattle.vehicle_node.specs.declared.Turn.{Turn}
 use Rattle.vehicle_node.specs.declared.Turn.TheVariants as turn
 use Rattle.vehicle_node.specs.Frames.{Machine}
-use Rattle.vehicle_node.specs.Guard.{RisesWithin}
-use Rattle.vehicle_node.specs.Reading.{IsEvent}
+use Rattle.vehicle_node.specs.Guard.{RisesWithin, MayWear, WearsIn}
+use Rattle.vehicle_node.specs.Reading.{IsEvent, no_rests}
 use Rattle.vehicle_node.specs.Runs.{Run, all_acts, run_of}
 use Rattle.vehicle_node.specs.Safe.{SafeSince, Adds}
 use Rattle.vehicle_node.specs.Standing.{Node, IsAlone, IsAloneUnlessArmed, StandsForRun, StaysWithin, Finished, WasArmed, armed_in, ceiling, raised_in}
-use Rattle.vehicle_node.specs.Steps.Calls.{MaySend, WornAlone, WornWhere}
+use Rattle.vehicle_node.specs.Steps.Calls.{MaySend, IsWornAlone, WornAlone, IsWornWhere, WornWhere}
 use Rattle.vehicle_node.specs.Steps.Answering.{Flushing, FlushedAll, FlushDone}
-use Rattle.vehicle_node.specs.Steps.Hearing.{StandsBelow, SafeTaken, ArmedTaking, TakenAll, TakeDone}
+use Rattle.vehicle_node.specs.Steps.Hearing.{StandsBelow, SafeTaken, ArmedTaking, WearingTaking, TakenAll, TakeDone}
 use Rattle.vehicle_node.specs.Laws.{FramesAreRead, IsInRange}
 use Rattle.vehicle_node.proofs.RunLaws.{run_of_push}
+use Rattle.vehicle_node.proofs.Readings.{reads_push}
 use Rattle.vehicle_node.proofs.Orders.{throughout_last}
 use Rattle.vehicle_node.proofs.Putting.{now_stands, now_within}
 use Rattle.vehicle_node.proofs.ActAnswers.{counts_more}
@@ -139,10 +141,18 @@ module _ {B : Type 0} (g : Ghosts B) (reads : (b : B) (o : Outcome) → g.now b 
           going_on g (Leaves old) (got ∷ []) all.answered.frames (taken_leaves (Ok tt) mid between d) taken_here f.losses (λ s m o was is adds a. flushing s m o adds a)
 
       -- where the flush at the end finds the guard row used up
-      pub flushed_worn : (P : Type 0) (armed : Bool) → armed ≡ armed_in mid → (new : Node) (last : B) (e : NodeError) → WornAlone g armed mid new last e → WornWhere g old P new last e
+      pub flushed_worn : (P : Type 0) (armed : Bool) → armed ≡ armed_in mid → (new : Node) (last : B) (e : NodeError) → WornAlone g armed (ceiling mid) mid new last e → WornWhere g old P (WearingTaking got old) new last e
       flushed_worn P armed is new last e worn =
-          worn_more e ((armed ≡ false) × (IsAlone mid → IsWornForNext g last new.lines)) (IsAloneUnlessArmed old → IsWornForNext g last new.lines ⊎ P)
-          (λ w unless. inl (w.1 (all.answered.alone unless (sym is ∙ w.0)))) worn
+          worn_more e (IsWornAlone g armed (ceiling mid) mid new last) (IsWornWhere g old P (WearingTaking got old) new last)
+          (λ w. record {
+            next = λ unless. inl (w.next (all.answered.alone unless (sym is ∙ w.unarmed)));
+            lines = λ told. record {
+              acts = all.acts;
+              new_rests = mid.rests;
+              reads = all.reads;
+              enough = λ limit b r sent below. omega (arith, w.reached told, (below_then g limit old next all.acts mid between b r sent all.answered below).ahead);
+            };
+          }) worn
 
       pub alone_at_end : (n : ℕ) (armed : Bool) → armed ≡ armed_in mid → (new : Node) (last : B) → FlushDone g n armed mid between (Ok tt) new last → IsAloneUnlessArmed old → IsAloneUnlessArmed new
       alone_at_end n armed is new last f unless not =
@@ -253,4 +263,21 @@ was_armed g old got a b c lists more x = record {
   rests = x.new_rests;
   reads = x.reads;
   armed = x.armed;
+}
+
+-- the event with which lines enough were issued, of those that the board received
+pub wears_in : {B : Type 0} (g : Ghosts B) (old : Node) (got : Received) (a b c : B) → ((e : List Received) (f : List SentFrame) → g.has_lists a e f → g.has_lists b (e ++ got ∷ []) f) → MaySend g b c
+    → (g.tells c → WearingTaking got old) → WearsIn g old a c
+wears_in g old got a b c lists more wearing = record {
+  event = got;
+  lists = λ e f stood. more (e ++ got ∷ []) f (lists e f stood);
+  lines = λ told count bytes events sent m within.
+      let x = wearing told in
+      record {
+        acts = within.run.acts ++ x.acts ∷ [];
+        rests = x.new_rests;
+        reads = reads_push events got no_rests old.rests x.new_rests within.run.acts x.acts within.run.reads x.reads;
+        enough = subst (λ (r : Run). GUARD_HALFWORDS ≤ raised_in count r) (sym (run_of_push old.budget bytes within.run.acts x.acts))
+            (x.enough (count + 2) bytes (run_of old.budget bytes within.run.acts) sent (below_start count old bytes events sent m within));
+      };
 }

@@ -17,13 +17,13 @@ use Rattle.vehicle_node.specs.Runs.{Run, all_acts}
 use Rattle.vehicle_node.specs.Standing.{Node, Fits, armed_in}
 use Rattle.vehicle_node.specs.Steps.Calls.{WornWhere}
 use Rattle.vehicle_node.specs.Steps.Answering.{FrameDone, ActDone}
-use Rattle.vehicle_node.specs.Steps.Hearing.{Pushed, KeepsButRests, HasRest, IsFront, StandsBelow, SafeIn, AnsweredAll, ActsAnswered, ActsDone, IsHeard, SafeHearing, SafeHeard, ArmedHearing, HeardAll, HearDone}
+use Rattle.vehicle_node.specs.Steps.Hearing.{Pushed, KeepsButRests, HasRest, IsFront, StandsBelow, SafeIn, AnsweredAll, ActsAnswered, ActsDone, IsHeard, SafeHearing, SafeHeard, ArmedHearing, WearingHearing, MayWearIn, HeardAll, HearDone}
 use Rattle.vehicle_node.proofs.Orders.{once_after}
 use Rattle.vehicle_node.proofs.At.{stands_same}
 use Rattle.vehicle_node.proofs.Readings.{rest_kept, heard_nothing, heard_more}
 use Rattle.vehicle_node.proofs.Putting.{now_stands, now_within}
 use Rattle.vehicle_node.proofs.Passing.{on_ok, cut_call, begun, going_on, lists_kept, lists_then}
-use Rattle.vehicle_node.proofs.ActsDone.{worn_later, inside_still, inside_after, answered_none, answered_then, acts_none, acts_one, below_then}
+use Rattle.vehicle_node.proofs.ActsDone.{worn_later, wears_after, inside_still, inside_after, answered_none, answered_then, acts_none, acts_one, below_then}
 
 heard_push : (station byte : ℕ) (frame : Option (List ℕ)) (old new : List (List ℕ)) (said : List Act) → Pushed station byte frame old new → AreSaid station (option_to_list frame) said → IsHeard station (byte ∷ []) old said new
 heard_push station byte frame old new said p are = record {
@@ -119,9 +119,18 @@ module _ {B : Type 0} (g : Ghosts B) (reads : (b : B) (o : Outcome) → g.now b 
               answered = answered_from g old rests board said new last all.answered;
             })
             d.done;
-        stopped = IfErr-weaker result (WornWhere g mid (IsArmedOnce (armed_in mid) said) new last) (WornWhere g old (ArmedHearing station bytes old) new last)
+        stopped = IfErr-weaker result (WornWhere g mid (IsArmedOnce (armed_in mid) said) (MayWearIn mid said) new last) (WornWhere g old (ArmedHearing station bytes old) (WearingHearing station bytes old) new last)
             (λ e worn. worn_later g old mid (IsArmedOnce (armed_in mid) said) (ArmedHearing station bytes old) new last e (λ unless. unless)
-            (λ once. record { first = bytes; more = []; split = append-nil bytes; said = said; mid = rests; heard = heard; armed = once }) worn) d.stopped;
+            (λ once. record { first = bytes; more = []; split = append-nil bytes; said = said; mid = rests; heard = heard; armed = once })
+            (λ wears. record {
+              first = bytes;
+              more = [];
+              split = append-nil bytes;
+              said = said;
+              mid = rests;
+              heard = heard;
+              enough = λ limit b r sent below. wears limit b r sent (below_same limit old rests b r sent below);
+            }) worn) d.stopped;
       }
 
   -- a whole frame, where the station has no rest before it
@@ -196,6 +205,17 @@ armed_sooner station xs ys node x = record {
   armed = x.armed;
 }
 
+wearing_sooner : (station : ℕ) (xs ys : List ℕ) (node : Node) → WearingHearing station xs node → WearingHearing station (xs ++ ys) node
+wearing_sooner station xs ys node x = record {
+  first = x.first;
+  more = x.more ++ ys;
+  split = sym (append_assoc x.first x.more ys) ∙ ap (λ (l : List ℕ). l ++ ys) x.split;
+  said = x.said;
+  mid = x.mid;
+  heard = x.heard;
+  enough = x.enough;
+}
+
 -- so many bytes, and so many after them
 take_add : (at count : ℕ) (bytes : List ℕ) → take (at + count) bytes ≡ take at bytes ++ take count (drop at bytes)
 take_add at count bytes =
@@ -236,7 +256,8 @@ module _ {B : Type 0} (g : Ghosts B) where
               answered = answered_then g old board all.said mid mid_board more.said new last answered more.answered;
             })
             second.done;
-        stopped = IfErr-weaker result (WornWhere g mid (ArmedHearing station ys mid) new last) (WornWhere g old (ArmedHearing station (xs ++ ys) old) new last)
+        stopped = IfErr-weaker result (WornWhere g mid (ArmedHearing station ys mid) (WearingHearing station ys mid) new last)
+            (WornWhere g old (ArmedHearing station (xs ++ ys) old) (WearingHearing station (xs ++ ys) old) new last)
             (λ e worn. worn_later g old mid (ArmedHearing station ys mid) (ArmedHearing station (xs ++ ys) old) new last e answered.alone
             (λ x. record {
               first = xs ++ x.first;
@@ -246,6 +267,15 @@ module _ {B : Type 0} (g : Ghosts B) where
               mid = x.mid;
               heard = heard_more station xs x.first old.rests mid.rests x.mid all.said x.said all.heard x.heard;
               armed = once_after (armed_in old) all.said x.said (subst (λ (b : Bool). IsArmedOnce b x.said) answered.armed x.armed);
+            })
+            (λ x. record {
+              first = xs ++ x.first;
+              more = x.more;
+              split = append_assoc xs x.first x.more ∙ ap (λ (l : List ℕ). xs ++ l) x.split;
+              said = all.said ++ x.said;
+              mid = x.mid;
+              heard = heard_more station xs x.first old.rests mid.rests x.mid all.said x.said all.heard x.heard;
+              enough = wears_after g old board all.said mid mid_board x.said answered x.enough;
             }) worn) second.stopped;
       }
 
@@ -260,11 +290,12 @@ module _ {B : Type 0} (g : Ghosts B) where
       → HearDone g old board station (take at bytes) (Ok tt) mid mid_board → HearDone g mid mid_board station (get_or bytes at 0 ∷ []) (Err e) new last → HearDone g old board station bytes result new last
   hear_cut old board station bytes at lt mid mid_board e result new last err first second =
       let some = hear_next old board station bytes at lt mid mid_board (Err e) new last first second in
-      cut_call g (WornWhere g old (ArmedHearing station bytes old) new last) (HeardAll g old board station bytes new last) board last e result some err
+      cut_call g (WornWhere g old (ArmedHearing station bytes old) (WearingHearing station bytes old) new last) (HeardAll g old board station bytes new last) board last e result some err
       (λ s o is x limit b r sent below. subst (λ (l : List ℕ). SafeHearing station l old limit b r sent s o) (take-append-drop (at + 1) bytes)
       (hearing_sooner station (take (at + 1) bytes) (drop (at + 1) bytes) old limit b r sent s o (x limit b r sent below)))
       (worn_later g old old (ArmedHearing station (take (at + 1) bytes) old) (ArmedHearing station bytes old) new last e (λ unless. unless)
-      (λ x. subst (λ (l : List ℕ). ArmedHearing station l old) (take-append-drop (at + 1) bytes) (armed_sooner station (take (at + 1) bytes) (drop (at + 1) bytes) old x)))
+      (λ x. subst (λ (l : List ℕ). ArmedHearing station l old) (take-append-drop (at + 1) bytes) (armed_sooner station (take (at + 1) bytes) (drop (at + 1) bytes) old x))
+      (λ x. subst (λ (l : List ℕ). WearingHearing station l old) (take-append-drop (at + 1) bytes) (wearing_sooner station (take (at + 1) bytes) (drop (at + 1) bytes) old x)))
 
   -- more bytes of a datagram
   pub hear_more : (old : Node) (board : B) (station : ℕ) (bytes : List ℕ) (at count : ℕ) (mid : Node) (mid_board : B) (result : Result ⊤ NodeError) (new : Node) (last : B)
@@ -277,11 +308,12 @@ module _ {B : Type 0} (g : Ghosts B) where
       → HearDone g old board station (take at bytes) (Ok tt) mid mid_board → HearDone g mid mid_board station (take count (drop at bytes)) (Err e) new last → HearDone g old board station bytes result new last
   hear_more_cut old board station bytes at count mid mid_board e result new last err first second =
       let some = hear_more old board station bytes at count mid mid_board (Err e) new last first second in
-      cut_call g (WornWhere g old (ArmedHearing station bytes old) new last) (HeardAll g old board station bytes new last) board last e result some err
+      cut_call g (WornWhere g old (ArmedHearing station bytes old) (WearingHearing station bytes old) new last) (HeardAll g old board station bytes new last) board last e result some err
       (λ s o is x limit b r sent below. subst (λ (l : List ℕ). SafeHearing station l old limit b r sent s o) (take-append-drop (at + count) bytes)
       (hearing_sooner station (take (at + count) bytes) (drop (at + count) bytes) old limit b r sent s o (x limit b r sent below)))
       (worn_later g old old (ArmedHearing station (take (at + count) bytes) old) (ArmedHearing station bytes old) new last e (λ unless. unless)
-      (λ x. subst (λ (l : List ℕ). ArmedHearing station l old) (take-append-drop (at + count) bytes) (armed_sooner station (take (at + count) bytes) (drop (at + count) bytes) old x)))
+      (λ x. subst (λ (l : List ℕ). ArmedHearing station l old) (take-append-drop (at + count) bytes) (armed_sooner station (take (at + count) bytes) (drop (at + count) bytes) old x))
+      (λ x. subst (λ (l : List ℕ). WearingHearing station l old) (take-append-drop (at + count) bytes) (wearing_sooner station (take (at + count) bytes) (drop (at + count) bytes) old x)))
 
 -- what the cutter makes of a byte, in the list of all rests
 pub pushed_by : (result : Option Read) (station byte : ℕ) (old new : List (List ℕ)) (rest new_rest : List ℕ) → slice_get old station ≡ Some rest → new ≡ slice_set old station new_rest

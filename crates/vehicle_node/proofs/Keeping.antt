@@ -1,5 +1,5 @@
 -- What every call keeps, over calls one after another.
-use Rattle.std.proofs.Common.{◌≡◌, ◌≤◌, ◌⊎◌, inl, inr, Bool, false, ℕ, refl, sym, ◌∙◌, subst, arith, Result, Ok, Err}
+use Rattle.std.proofs.Common.{◌≡◌, ◌≤◌, ◌⊎◌, inl, inr, Bool, false, ℕ, List, refl, sym, ◌∙◌, subst, arith, Result, Ok, Err}
 use Rattle.std.specs.Prelude.{⊤, IsTrue}
 use Rattle.flash_traits.specs.declared.numbers.TheConstants.{GUARD_HALFWORDS}
 use Rattle.flash_traits.specs.declared.board.Board.{Ghosts}
@@ -7,18 +7,22 @@ use Rattle.flash_traits.specs.declared.board.Fault.{Fault}
 use Rattle.flash_traits.specs.declared.board.Fault.TheVariants.{Read, Flash, Send}
 use Rattle.flash_traits.specs.Causes.{Rose}
 use Rattle.flash_traits.specs.Losses.{KeepsWords}
+use Rattle.guard_row.specs.Row.{IsGuardRow}
+use Rattle.guard_row.proofs.RowLaws.{one_count}
 use Rattle.sector_image.specs.Images.{Bytes}
 use Rattle.block_store.specs.Store.{State, Alone, Spilled, Spent, in_one_sector, in_both_sectors, guard_of, is_spilled}
 use Rattle.block_store.specs.Refusals as put
 use Rattle.block_store.specs.declared.PutError.{PutError}
 use Rattle.block_store.specs.declared.PutError.TheVariants as put_error
 use Rattle.dirty_lines.specs.Losses.{IsWornForNext}
-use Rattle.vehicle_node.specs.Standing.{Node}
+use Rattle.vehicle_node.specs.Guard.{CountsUpTo}
+use Rattle.vehicle_node.specs.Standing.{Node, ceiling}
 use Rattle.vehicle_node.specs.Refusals.{OnFault, OnWorn}
 use Rattle.vehicle_node.specs.Steps.Answering.{IsErrorOf}
 use Rattle.vehicle_node.specs.Steps.Calls.{Keeps, KeepsLines, WornAlone, OfFlash, OfAnswer}
 use Rattle.vehicle_node.specs.declared.NodeError.{NodeError}
 use Rattle.vehicle_node.specs.declared.NodeError.TheVariants as node_error
+use Rattle.vehicle_node.proofs.Putting.{guard_le}
 
 -- a fault of these kinds that rose the count, from an earlier count on and of more kinds
 fault_later : (e : NodeError) (P Q : Fault → Type 0) (first before now : Fault → ℕ) → ((k : Fault) → P k → Q k) → ((k : Fault) → first k ≤ before k)
@@ -33,6 +37,10 @@ no_wear node_error.Memory P none = tt
 no_wear (node_error.Fault kind) P none = tt
 no_wear (node_error.Foreign region offset word) P none = tt
 no_wear (node_error.Worn count) P none = absurd none
+
+-- a row of a count that is at most so much
+reached_by : (row : List ℕ) (most : ℕ) → IsGuardRow row GUARD_HALFWORDS → CountsUpTo most row → GUARD_HALFWORDS ≤ most
+reached_by row most is counts = omega (arith, one_count row GUARD_HALFWORDS counts.0 is counts.1, counts.2)
 
 not_both : (state : State) → IsTrue (in_one_sector state) → IsTrue (in_both_sectors state) → ⊥
 not_both (Alone kept) one both = cc
@@ -183,24 +191,35 @@ module _ {B : Type 0} (g : Ghosts B) where
         counts = counts;
       })
 
+  -- the guard row that is used up has as many halfwords as it counts
+  worn_row : {b : B} (bytes : Bytes) → put.IsWorn g b bytes → g.tells b → IsGuardRow (g.words b).guard GUARD_HALFWORDS
+  worn_row {b} bytes worn told = subst (IsGuardRow (g.words b).guard) worn.2 (worn.1.0.2 told).reads.guard
+
   -- a flush found the guard row used up: home lacks room for the next entry, where the store stood alone
   pub flush_worn : (armed : Bool) (old new : Node) (b : B) (e : PutError) (error : NodeError) → IsErrorOf e error
       → put.OnWorn e (λ count. (count ≡ GUARD_HALFWORDS) × (armed ≡ false) × put.IsWorn g b new.lines.store.bytes)
       → put.OnWorn e (λ count. IsWornForNext g b new.lines ⊎ (IsTrue (is_spilled old.lines.store) × (new.lines.pending ≡ old.lines.pending)))
-      → WornAlone g armed old new b error
-  flush_worn armed old new b (put_error.Fault kind) error is worn next = subst (λ (n : NodeError). WornAlone g armed old new b n) (sym is) tt
-  flush_worn armed old new b (put_error.NoRoom room) error is worn next = absurd is
-  flush_worn armed old new b (put_error.Worn count) error is worn next =
-      subst (λ (n : NodeError). WornAlone g armed old new b n) (sym is)
-      (worn.1, λ alone. elim next [ inl room ↦ room | inr spilled ↦ absurd (not_both old.lines.store.state alone spilled.0) ])
+      → (g.tells b → CountsUpTo (ceiling old) (g.words b).guard) → WornAlone g armed (ceiling old) old new b error
+  flush_worn armed old new b (put_error.Fault kind) error is worn next within = subst (λ (n : NodeError). WornAlone g armed (ceiling old) old new b n) (sym is) tt
+  flush_worn armed old new b (put_error.NoRoom room) error is worn next within = absurd is
+  flush_worn armed old new b (put_error.Worn count) error is worn next within =
+      subst (λ (n : NodeError). WornAlone g armed (ceiling old) old new b n) (sym is) (record {
+        unarmed = worn.1;
+        next = λ alone. elim next [ inl room ↦ room | inr spilled ↦ absurd (not_both old.lines.store.state alone spilled.0) ];
+        reached = λ told. reached_by (g.words b).guard (ceiling old) (worn_row new.lines.store.bytes worn.2 told) (within told);
+      })
 
   -- a compaction can't, where the store stood alone
   pub compact_worn : (old new : Node) (b : B) (e : PutError) (error : NodeError) → IsErrorOf e error
-      → put.OnWorn e (λ count. (count ≡ GUARD_HALFWORDS) × (guard_of old.lines.store ≡ GUARD_HALFWORDS) × IsTrue (is_spilled old.lines.store)) → WornAlone g false old new b error
-  compact_worn old new b (put_error.Fault kind) error is worn = subst (λ (n : NodeError). WornAlone g false old new b n) (sym is) tt
+      → put.OnWorn e (λ count. (count ≡ GUARD_HALFWORDS) × (guard_of old.lines.store ≡ GUARD_HALFWORDS) × IsTrue (is_spilled old.lines.store)) → WornAlone g false (ceiling old) old new b error
+  compact_worn old new b (put_error.Fault kind) error is worn = subst (λ (n : NodeError). WornAlone g false (ceiling old) old new b n) (sym is) tt
   compact_worn old new b (put_error.NoRoom room) error is worn = absurd is
   compact_worn old new b (put_error.Worn count) error is worn =
-      subst (λ (n : NodeError). WornAlone g false old new b n) (sym is) (refl, λ alone. absurd (not_both old.lines.store.state alone worn.2))
+      subst (λ (n : NodeError). WornAlone g false (ceiling old) old new b n) (sym is) (record {
+        unarmed = refl;
+        next = λ alone. absurd (not_both old.lines.store.state alone worn.2);
+        reached = λ told. omega (arith, worn.1, guard_le old.lines.store.state);
+      })
 
   flush_bytes : (armed : Bool) (b : B) (bytes : Bytes) (e : PutError) → put.OnWorn e (λ count. (count ≡ GUARD_HALFWORDS) × (armed ≡ false) × put.IsWorn g b bytes)
       → put.OnWorn e (λ count. (count ≡ GUARD_HALFWORDS) × (bytes : Bytes) × put.IsWorn g b bytes)

@@ -23,20 +23,20 @@ use Rattle.block_store.specs.declared.PutError.TheVariants as put_error
 use Rattle.block_store.proofs.StoreLaws.{fits_stands, fits_guard, fits_whole, spare_room}
 use Rattle.dirty_lines.specs.Lines.{Lines, lines_of}
 use Rattle.dirty_lines.specs.Entries.{joined, Wrote, IsFewest}
-use Rattle.dirty_lines.specs.Losses.{PutsFirst, MayPutFirst, MayPutNext, NextExceeds, IsWornForNext}
+use Rattle.dirty_lines.specs.Losses.{PutsFirst, MayPutFirst, MayPutNext, NextExceeds}
 use Rattle.dirty_lines.proofs.Cuts.{joined_rest, few_joined, entries_few}
 use Rattle.dirty_lines.proofs.Puts.{answer_first}
 use Rattle.vehicle_core.specs.declared.orders.Need.TheVariants.{Nothing, FlushAll}
 use Rattle.vehicle_node.specs.Guard.{CountsUpTo}
 use Rattle.vehicle_node.specs.Safe.{Adds}
 use Rattle.vehicle_node.specs.Standing.{Node, IsAlone, ceiling}
-use Rattle.vehicle_node.specs.Steps.Calls.{HasSent, WornAlone}
+use Rattle.vehicle_node.specs.Steps.Calls.{HasSent, IsWornAlone, WornAlone}
 use Rattle.vehicle_node.specs.Steps.Answering.{OnlyPuts, Flushing, Flushed, FlushedAll, FlushDone, Compacted, CompactedAll, CompactDone, SettledAll, SettleDone, Issued, IssueDone}
 use Rattle.vehicle_node.specs.declared.NodeError.{NodeError}
 use Rattle.vehicle_node.specs.declared.TheConstants.{ROOM_FROM}
 use Rattle.vehicle_node.proofs.Passing.{on_ok, worn_more, cut_call, begun, going_on, lists_kept, lists_then, sent_nothing, sent_both}
 
-guard_le : (state : State) → guard_in state ≤ guard_in state + (if in_both_sectors state then 2 else 0)
+pub guard_le : (state : State) → guard_in state ≤ guard_in state + (if in_both_sectors state then 2 else 0)
 guard_le (Alone kept) = omega arith
 guard_le (Spilled kept) = omega arith
 guard_le Spent = omega arith
@@ -76,6 +76,12 @@ module _ {B : Type 0} (g : Ghosts B) where
           → Changes g a b (MayPutFirst node.lines.pending) (ByResult r (PutsFirst 0 node.lines.pending rest) (MayPutNext node.lines.pending rest)) → Passes g a b (Flushing node) (Flushing node)
       flush_losses r rest left changes = weaker (Flushing node) (Flushing node) (elapses_of g changes) (λ s o now step. put_some s o now step)
           (λ s o now step. put_some s o now (record { words = answer_first r node.lines.pending rest s.words o.words left step.words; events = step.events; frames = step.frames }))
+
+  -- the same of the words that are told after it
+  pub flush_within : (a b : B) (node : Node) → store.Fits g a node.lines.store → {T E : Type 0} (r : Result T E) (rest : List LineWrite) → OnErr r (0 < length rest)
+      → Changes g a b (MayPutFirst node.lines.pending) (ByResult r (PutsFirst 0 node.lines.pending rest) (MayPutNext node.lines.pending rest)) → g.tells b → CountsUpTo (ceiling node) (g.words b).guard
+  flush_within a b node fits r rest left changes told =
+      within_ceiling node (g.words a).guard (g.words b).guard (fits_guard g a node.lines.store fits (changes.told told)) (answer_first r node.lines.pending rest (g.words a) (g.words b) left (changes.content told)).within
 
   -- nothing was received or sent
   pub nothing_sent : {a b : B} {lost done : Words → Words → Type 0} → Changes g a b lost done → HasSent g [] (Adds [] []) a b
@@ -311,7 +317,7 @@ module _ {B : Type 0} (g : Ghosts B) (reads : (b : B) (o : Outcome) → g.now b 
 -- the putting of all lines was cut short
 pub settle_short : {B : Type 0} (g : Ghosts B) (n : ℕ) (armed : Bool) (old : Node) (a : B) (e : NodeError) (r : Result ⊤ NodeError) (new : Node) (b : B) → FlushDone g n armed old a (Err e) new b → IsErrAnd r (λ d. d ≡ e)
     → SettleDone g FlushAll armed old a r new b
-settle_short g n armed old a e r new b f err = cut_call g (WornAlone g armed old new b) (SettledAll g FlushAll armed old a new b) a b e r f err (λ s o now x. x) (λ worn. worn)
+settle_short g n armed old a e r new b f err = cut_call g (WornAlone g armed (ceiling old) old new b) (SettledAll g FlushAll armed old a new b) a b e r f err (λ s o now x. x) (λ worn. worn)
 
 -- all lines are put while armed
 pub settle_armed : {B : Type 0} (g : Ghosts B) (n : ℕ) (armed : Bool) (old : Node) (a : B) (new : Node) (b : B) → armed ≡ true → FlushDone g n armed old a (Ok tt) new b → new.lines.pending ≡ []
@@ -349,9 +355,9 @@ module _ {B : Type 0} (g : Ghosts B) (reads : (b : B) (o : Outcome) → g.now b 
       sent = sent_both g [] [] a b c all_put.sent k.sent;
       still = λ is. absurd (both_ways armed not is);
     }) d.done;
-    stopped = IfErr-weaker r (WornAlone g false mid new c) (WornAlone g armed old new c)
-        (λ e worn. worn_more e ((false ≡ false) × (IsAlone mid → IsWornForNext g c new.lines)) ((armed ≡ false) × (IsAlone old → IsWornForNext g c new.lines))
-        (λ w. (not, λ alone. w.1 (all_put.flushed.puts.alone not alone))) worn) d.stopped;
+    stopped = IfErr-weaker r (WornAlone g false (ceiling mid) mid new c) (WornAlone g armed (ceiling old) old new c)
+        (λ e worn. worn_more e (IsWornAlone g false (ceiling mid) mid new c) (IsWornAlone g armed (ceiling old) old new c)
+        (λ w. record { unarmed = not; next = λ alone. w.next (all_put.flushed.puts.alone not alone); reached = λ told. omega (arith, w.reached told, all_put.flushed.puts.ahead) }) worn) d.stopped;
   }
 
 pub no_items : (writes : List LineWrite) → length writes ≡ 0 → writes ≡ []

@@ -1,12 +1,14 @@
 -- How far the guard count may rise over the life of a node: by two at its opening, and by two for
 -- each line issued.
-use Rattle.std.specs.Prelude.{◌≡◌, ◌≤◌, ℕ, List, ◌++◌}
-use Rattle.flash_traits.specs.Losses.{Received, Outcome}
+use Rattle.std.specs.Prelude.{◌≡◌, ◌≤◌, ℕ, List, [], ◌∷◌, ◌++◌}
+use Rattle.flash_traits.specs.declared.board.Board.{Ghosts}
+use Rattle.flash_traits.specs.declared.numbers.TheConstants.{GUARD_HALFWORDS}
+use Rattle.flash_traits.specs.Losses.{Received, SentFrame, Outcome}
 use Rattle.guard_row.specs.Row.{IsGuardRow}
 use Rattle.vehicle_core.specs.Acts.{Act}
 use Rattle.vehicle_node.specs.Reading.{Reads, no_rests}
 use Rattle.vehicle_node.specs.Runs.{run_of}
-use Rattle.vehicle_node.specs.Standing.{raised_in}
+use Rattle.vehicle_node.specs.Standing.{Node, StaysWithin, raised_in}
 
 -- the guard row has a count of at most so much
 abbrev pub CountsUpTo : ℕ → List ℕ → Type 0
@@ -22,3 +24,22 @@ pub record RisesWithin (budget count : ℕ) (b : List ℕ) (events : List Receiv
   pub rests : List (List ℕ)
   pub reads : Reads no_rests (events ++ added_events) acts rests
   pub guard : CountsUpTo (raised_in count (run_of budget b acts)) o.words.guard
+
+-- The run over these events issues lines enough that a guard count of so much at its start can have
+-- come to the end of the row.
+pub record MayWear (budget count : ℕ) (b : List ℕ) (events : List Received) : Type 0 where
+  pub acts : List (List Act)
+  pub rests : List (List ℕ)
+  pub reads : Reads no_rests events acts rests
+  pub enough : GUARD_HALFWORDS ≤ raised_in count (run_of budget b acts)
+
+-- An event was received, and where the words are told, the run that the node stood for issues lines
+-- enough with it to wear the guard row.
+pub record WearsIn {B : Type 0} (g : Ghosts B) (old : Node) (board after_board : B) : Type 0 where
+  pub event : Received
+  pub lists : (e : List Received) (f : List SentFrame) → g.has_lists board e f
+      → (sent : List SentFrame) × g.has_lists after_board (e ++ event ∷ []) (f ++ sent)
+  pub lines : g.tells after_board
+      → (count : ℕ) (b : List ℕ) (events : List Received) (sent : List SentFrame) (m : ℕ)
+      → StaysWithin count old b events sent m
+      → MayWear old.budget count b (events ++ event ∷ [])

@@ -25,7 +25,7 @@ ghost use Rattle.dirty_lines.specs.Losses.{IsWornForNext};
 ghost use Rattle.vehicle_node.specs.Runs.{Run};
 ghost use Rattle.vehicle_node.specs.Safe.{SafeSince, Adds};
 ghost use Rattle.vehicle_node.specs.Standing.{Fits, IsAloneUnlessArmed, StandsAt, StandsForRun, StaysWithin, Finished, WasArmed, Node, armed_in};
-ghost use Rattle.vehicle_node.specs.Guard.{RisesWithin};
+ghost use Rattle.vehicle_node.specs.Guard.{RisesWithin, MayWear, WearsIn};
 ghost use Rattle.vehicle_node.specs.Refusals.{OnMemory, OnFault, OnForeign, OnWorn, LeavesAlone};
 
 mod answering;
@@ -155,6 +155,10 @@ impl Node {
         ensures worn_where { IfErr result (λ e. OnWorn e (λ count.
             (B.tells board.new → IsUsedUp (B.words board.old))
             ⊎ ((lines : Lines) × IsWornForNext B.Board board.new lines))) }
+        ensures worn_lines { IfErr result (λ e. OnWorn e (λ n. B.tells board.new →
+            (count : ℕ) (b : List ℕ) → IsGuardRow (B.words board.old).guard count →
+            Stands (B.words board.old) b →
+            MayWear (budget_of (B.sector_bytes board.old)) count b [])) }
         ensures worn_image { IfErr result (λ e. OnWorn e (λ count. B.tells board.new →
             (b : List ℕ) × Stands (B.words board.old) b)) }
         ensures used_up { B.tells board.new → (reading : _) → Reads (B.words board.old) reading →
@@ -213,6 +217,8 @@ impl Node {
         ensures worn_next { IfErr result (λ e. OnWorn e (λ count. IsAloneUnlessArmed self.old →
             IsWornForNext B.Board board.new self.new.lines
             ⊎ WasArmed B.Board self.old board.old board.new)) }
+        ensures worn_lines { IfErr result (λ e. OnWorn e (λ n.
+            WearsIn B.Board self.old board.old board.new)) }
         ensures fault { IfErr result (λ e. OnFault e (λ kind. (kind ≡ Read ⊎ (kind ≡ Flash ⊎
             (kind ≡ Recv ⊎ kind ≡ Send))) ×
             Rose (B.faults board.old kind) (B.faults board.new kind))) }
@@ -261,6 +267,9 @@ impl Node {
             (bytes : _) × IsWorn B.Board board.new bytes)) }
         ensures worn_next { IfErr result (λ e. OnWorn e (λ count. IsAloneUnlessArmed self →
             (lines : Lines) × IsWornForNext B.Board board.new lines)) }
+        ensures worn_lines { IfErr result (λ e. OnWorn e (λ n. B.tells board.new →
+            (count : ℕ) (b : List ℕ) (events : List Received) (frames : List SentFrame) (m : ℕ) →
+            StaysWithin count self b events frames m → MayWear self.budget count b events)) }
         ensures fault { IfErr result (λ e. OnFault e (λ kind. (kind ≡ Read ⊎ kind ≡ Flash) ×
             Rose (B.faults board.old kind) (B.faults board.new kind))) }
         ensures counts { (k : Fault) → B.faults board.old k ≤ B.faults board.new k }

@@ -10,7 +10,7 @@ use Rattle.flash_traits.specs.Counts.{counts}
 use Rattle.vehicle_core.specs.Acts.{Act}
 use Rattle.vehicle_node.specs.Arming.{IsArmedOnce}
 use Rattle.vehicle_node.specs.Reading.{Reads}
-use Rattle.vehicle_node.specs.Standing.{Node, StandsForRun, armed_in}
+use Rattle.vehicle_node.specs.Standing.{Node, StandsForRun, StaysWithin, armed_in}
 use Rattle.storage_cli.specs.declared.stop.Served.{Served}
 use Rattle.storage_cli.specs.declared.stop.Stop.{Stop}
 use Rattle.storage_cli.specs.declared.stop.Stop.TheVariants as stop
@@ -25,8 +25,8 @@ pub record IsSafe (budget : ℕ) (b : List ℕ) (events : List Received) (frames
   pub since : SafeSince budget b events frames finished from o
 
 -- Events were received and finished, and frames were sent: whatever run the node stood for, it
--- stands for the run with these, each loss inside is safe, and the acts say whether the vehicle is
--- armed.
+-- stands for the run with these and stays within what that may raise the guard count to, each loss
+-- inside is safe, and the acts say whether the vehicle is armed.
 pub record Progress {B : Type 0} (g : Ghosts B) (budget : ℕ) (old : Node) (board : B) (new : Node)
     (after_board : B) (events : List Received) (frames : List SentFrame) : Type 0 where
   pub told : g.tells after_board → g.tells board
@@ -35,6 +35,9 @@ pub record Progress {B : Type 0} (g : Ghosts B) (budget : ℕ) (old : Node) (boa
   pub stands : (b : List ℕ) (e : List Received) (f : List SentFrame) (m : ℕ)
       → StandsForRun old b e f m
       → StandsForRun new b (e ++ events) (f ++ frames) (m + length events)
+  pub within : (count : ℕ) (b : List ℕ) (e : List Received) (f : List SentFrame) (m : ℕ)
+      → StaysWithin count old b e f m
+      → StaysWithin count new b (e ++ events) (f ++ frames) (m + length events)
   pub losses : (b : List ℕ) (e : List Received) (f : List SentFrame) (m : ℕ)
       → (g.tells board → StandsForRun old b e f m)
       → Passes g board after_board (IsSafe budget b e f) (Adds events frames)

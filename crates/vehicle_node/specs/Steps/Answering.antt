@@ -83,7 +83,7 @@ pub record FlushedAll {B : Type 0} (g : Ghosts B) (n : ℕ) (armed : Bool) (old 
 abbrev pub FlushDone : {B : Type 0} → Ghosts B → ℕ → Bool → Node → B → Result ⊤ NodeError → Node
     → B → Type 0
 FlushDone g n armed old board result new after_board =
-    Call g (Flushing old) (WornAlone g armed old new after_board)
+    Call g (Flushing old) (WornAlone g armed (ceiling old) old new after_board)
     (FlushedAll g n armed old board new after_board) board result after_board
 
 -- The store was made to stand alone, and nothing else has changed.
@@ -102,7 +102,7 @@ pub record CompactedAll {B : Type 0} (g : Ghosts B) (old : Node) (board : B) (ne
 -- where the store stands alone already there is nothing that could wear it
 abbrev pub CompactDone : {B : Type 0} → Ghosts B → Node → B → Result ⊤ NodeError → Node → B → Type 0
 CompactDone g old board result new after_board =
-    Call g (Flushing old) (WornAlone g false old new after_board)
+    Call g (Flushing old) (WornAlone g false (ceiling old) old new after_board)
     (CompactedAll g old board new after_board) board result after_board
 
 -- Where all is needed, nothing is pending, and unless the vehicle stays armed one sector has all
@@ -122,7 +122,7 @@ pub record SettledAll {B : Type 0} (g : Ghosts B) (need : Need) (armed : Bool) (
 abbrev pub SettleDone : {B : Type 0} → Ghosts B → Need → Bool → Node → B → Result ⊤ NodeError
     → Node → B → Type 0
 SettleDone g need armed old board result new after_board =
-    Call g (Flushing old) (WornAlone g armed old new after_board)
+    Call g (Flushing old) (WornAlone g armed (ceiling old) old new after_board)
     (SettledAll g need armed old board new after_board) board result after_board
 
 -- These lines are issued after those that were pending, of which a prefix was put. They aren't
@@ -153,7 +153,7 @@ pub record IssuedAll {B : Type 0} (g : Ghosts B) (armed : Bool) (writes : List L
 abbrev pub IssueDone : {B : Type 0} → Ghosts B → Bool → List LineWrite → Node → B
     → Result ⊤ NodeError → Node → B → Type 0
 IssueDone g armed writes old board result new after_board =
-    Call g (Flushing old) (WornAlone g armed old new after_board)
+    Call g (Flushing old) (WornAlone g armed (ceiling old) old new after_board)
     (IssuedAll g armed writes old board new after_board) board result after_board
 
 -- These lines are issued after those that were pending, of which a prefix was put: all, where all
@@ -202,7 +202,7 @@ pub record AnsweredAs {B : Type 0} (g : Ghosts B) (need : Need) (armed : Bool)
 abbrev pub AnswerDone : {B : Type 0} → Ghosts B → Need → Bool → List LineWrite → List Delivery
     → Node → B → Result ⊤ NodeError → Node → B → Type 0
 AnswerDone g need armed writes ds old board result new after_board =
-    Call g (Answering need writes ds old) (WornAlone g armed old new after_board)
+    Call g (Answering need writes ds old) (WornAlone g armed (ceiling old + 2 * length writes) old new after_board)
     (AnsweredAs g need armed writes ds old board new after_board) board result after_board
 
 -- what the vehicle does at a node

@@ -1,5 +1,5 @@
 -- What every private call of a node says.
-use Rattle.std.specs.Prelude.{◌≡◌, ◌⊎◌, ◌≤◌, List, ◌++◌, Bool, false, Result, ⊤, OnOk, IfErr}
+use Rattle.std.specs.Prelude.{◌≡◌, ◌⊎◌, ◌≤◌, ℕ, List, ◌++◌, Bool, false, Result, ⊤, OnOk, IfErr}
 use Rattle.flash_traits.specs.declared.numbers.TheConstants.{GUARD_HALFWORDS}
 use Rattle.flash_traits.specs.declared.board.Board.{Ghosts}
 use Rattle.flash_traits.specs.declared.board.Fault.{Fault}
@@ -37,16 +37,31 @@ pub record Call {B : Type 0} (g : Ghosts B) (lost : Outcome → Outcome → Type
   pub done : OnOk result Done
   pub stopped : IfErr result Stopped
 
--- The guard row is found to be used up only where the call isn't armed, and then, where the store
--- stood alone, home lacks room for the next entry.
-abbrev pub WornAlone : {B : Type 0} → Ghosts B → Bool → Node → Node → B → NodeError → Type 0
-WornAlone g armed old new after_board error = OnWorn error (λ count. (armed ≡ false)
-    × (IsAlone old → IsWornForNext g after_board new.lines))
+-- A call that isn't armed has found the guard row to be used up: where the store stood alone, home
+-- lacks room for the next entry, and where the words are told the row ends at no more than the most
+-- that the count can have come to.
+pub record IsWornAlone {B : Type 0} (g : Ghosts B) (armed : Bool) (most : ℕ) (old new : Node)
+    (after_board : B) : Type 0 where
+  pub unarmed : armed ≡ false
+  pub next : IsAlone old → IsWornForNext g after_board new.lines
+  pub reached : g.tells after_board → GUARD_HALFWORDS ≤ most
 
--- The same where the store stood alone unless the vehicle was armed: or the vehicle was armed.
-abbrev pub WornWhere : {B : Type 0} → Ghosts B → Node → Type 0 → Node → B → NodeError → Type 0
-WornWhere g old Armed new after_board error = OnWorn error (λ count. IsAloneUnlessArmed old
-    → IsWornForNext g after_board new.lines ⊎ Armed)
+abbrev pub WornAlone : {B : Type 0} → Ghosts B → Bool → ℕ → Node → Node → B → NodeError → Type 0
+WornAlone g armed most old new after_board error =
+    OnWorn error (λ count. IsWornAlone g armed most old new after_board)
+
+-- The guard row is used up: where the store stood alone unless the vehicle was armed, home lacks
+-- room for the next entry, or the vehicle was armed; and where the words are told, lines enough
+-- were issued.
+pub record IsWornWhere {B : Type 0} (g : Ghosts B) (old : Node) (Armed Enough : Type 0) (new : Node)
+    (after_board : B) : Type 0 where
+  pub next : IsAloneUnlessArmed old → IsWornForNext g after_board new.lines ⊎ Armed
+  pub lines : g.tells after_board → Enough
+
+abbrev pub WornWhere : {B : Type 0} → Ghosts B → Node → Type 0 → Type 0 → Node → B → NodeError
+    → Type 0
+WornWhere g old Armed Enough new after_board error =
+    OnWorn error (λ count. IsWornWhere g old Armed Enough new after_board)
 
 -- the faults that putting lines may meet
 abbrev pub OfFlash : Fault → Type 0

@@ -1,6 +1,7 @@
 -- Several acts of an event, one after another: what was answered, and what a loss inside leaves.
 use Rattle.std.specs.Prelude.{◌≡◌, ◌≤◌, ℕ, ◌+◌, ◌*◌, List, [], ◌∷◌, ◌++◌, length, Option, Some, Result, ⊤, slice_get, slice_set}
 use Rattle.flash_traits.specs.declared.board.Board.{Ghosts}
+use Rattle.flash_traits.specs.declared.numbers.TheConstants.{GUARD_HALFWORDS}
 use Rattle.flash_traits.specs.Calls.{ErasesNothing}
 use Rattle.flash_traits.specs.Losses.{Received, SentFrame, Outcome}
 use Rattle.storage_lines.specs.declared.lines.LineWrite.{LineWrite}
@@ -66,11 +67,19 @@ pub record ActsAnswered {B : Type 0} (g : Ghosts B) (old : Node) (board : B) (ac
   pub rests : new.rests ≡ old.rests
   pub answered : AnsweredAll g old board acts new after_board
 
+-- Wherever the node was in a run, the run with these acts issues lines enough that the guard count
+-- can have come to the end of the row.
+abbrev pub MayWearIn : Node → List Act → Type 0
+MayWearIn node acts = (limit : ℕ) (b : List ℕ) (r : Run) (sent : List SentFrame)
+    → StandsBelow limit node b r sent
+    → GUARD_HALFWORDS ≤ limit + 2 * length (all_acts node.budget b r acts).issued
+
 -- acts that are known were answered, or a prefix of them
 abbrev pub ActsDone : {B : Type 0} → Ghosts B → Node → B → List Act → Result ⊤ NodeError → Node → B
     → Type 0
 ActsDone g old board acts result new after_board =
-    Call g (SafeIn old acts) (WornWhere g old (IsArmedOnce (armed_in old) acts) new after_board)
+    Call g (SafeIn old acts)
+    (WornWhere g old (IsArmedOnce (armed_in old) acts) (MayWearIn old acts) new after_board)
     (ActsAnswered g old board acts new after_board) board result after_board
 
 -- These bytes of a station were cut into frames after its rest, and the frames say this.
@@ -136,6 +145,16 @@ pub record ArmedHearing (station : ℕ) (bytes : List ℕ) (node : Node) : Type 
   pub heard : IsHeard station first node.rests said mid
   pub armed : IsArmedOnce (armed_in node) said
 
+-- What a prefix of a station's bytes says issues lines enough to wear the guard row.
+pub record WearingHearing (station : ℕ) (bytes : List ℕ) (node : Node) : Type 0 where
+  pub first : List ℕ
+  pub more : List ℕ
+  pub split : first ++ more ≡ bytes
+  pub said : List Act
+  pub mid : List (List ℕ)
+  pub heard : IsHeard station first node.rests said mid
+  pub enough : MayWearIn node said
+
 -- what a station's bytes say was answered
 pub record HeardAll {B : Type 0} (g : Ghosts B) (old : Node) (board : B) (station : ℕ)
     (bytes : List ℕ)
@@ -149,7 +168,8 @@ abbrev pub HearDone : {B : Type 0} → Ghosts B → Node → B → ℕ → List 
     → B → Type 0
 HearDone g old board station bytes result new after_board =
     Call g (SafeHeard station bytes old)
-    (WornWhere g old (ArmedHearing station bytes old) new after_board)
+    (WornWhere g old (ArmedHearing station bytes old) (WearingHearing station bytes old) new
+    after_board)
     (HeardAll g old board station bytes new after_board) board result after_board
 
 -- The event can be read so that what was sent and put is safe in the run with its acts.
@@ -172,6 +192,13 @@ pub record ArmedTaking (event : Received) (node : Node) : Type 0 where
   pub reads : IsEvent node.rests event acts new_rests
   pub armed : IsArmedOnce (armed_in node) acts
 
+-- The event can be read into acts that issue lines enough to wear the guard row.
+pub record WearingTaking (event : Received) (node : Node) : Type 0 where
+  pub acts : List Act
+  pub new_rests : List (List ℕ)
+  pub reads : IsEvent node.rests event acts new_rests
+  pub enough : MayWearIn node acts
+
 -- all acts of an event were answered
 pub record TakenAll {B : Type 0} (g : Ghosts B) (event : Received) (old : Node) (board : B)
     (new : Node)
@@ -183,5 +210,6 @@ pub record TakenAll {B : Type 0} (g : Ghosts B) (event : Received) (old : Node) 
 abbrev pub TakeDone : {B : Type 0} → Ghosts B → Received → Node → B → Result ⊤ NodeError → Node → B
     → Type 0
 TakeDone g event old board result new after_board =
-    Call g (SafeTaken event old) (WornWhere g old (ArmedTaking event old) new after_board)
+    Call g (SafeTaken event old)
+    (WornWhere g old (ArmedTaking event old) (WearingTaking event old) new after_board)
     (TakenAll g event old board new after_board) board result after_board

@@ -2,7 +2,7 @@ use Rattle.std.proofs.Common.{◌≡◌, ◌∙◌, ℕ, sym, subst, refl, Optio
 use Rattle.command_line.specs.Commands.{line_of}
 use Rattle.command_line.specs.Lines.{CommandLine, gen, line_of_words}
 use Rattle.command_line.specs.declared.Command.TheVariants as command
-use Rattle.storage_cli.specs.Sessions.{PrintsSession}
+use Rattle.storage_cli.specs.Sessions.{PrintsSession, WearsOut}
 use Rattle.storage_cli.specs.Statuses.{texts, Prints}
 use Rattle.storage_cli.proofs.TextEndings.{cut_short_of, line_given}
 use Rattle.storage_cli.proofs.commands.run.Goals as goal
@@ -44,3 +44,10 @@ returns-in-Ok-Some-Gen-clause-generated g c = λ rounds is done.
     let line = line_of_words (texts c.args.words.now) in
     let given = line_given line a.field-0 a.field-0-0 (command.Gen a.rounds) a.ensures.value a.field-0-is a.field-0-0-is in
     subst (λ (n : ℕ). PrintsSession n (Prints g.K.Sink c.args.out.now c.run_gen.new.out)) (gen_one a.rounds rounds (sym given ∙ is)) (c.run_gen.ensures.generated done)
+
+pub returns-in-Ok-Some-Gen-clause-gen_worn : goal.returns-in-Ok-Some-Gen-clause-gen_worn
+returns-in-Ok-Some-Gen-clause-gen_worn g c = λ rounds is worn.
+    let a = c.in-Ok-Some-Gen in
+    let line = line_of_words (texts c.args.words.now) in
+    let given = line_given line a.field-0 a.field-0-0 (command.Gen a.rounds) a.ensures.value a.field-0-is a.field-0-0-is in
+    subst WearsOut (gen_one a.rounds rounds (sym given ∙ is)) (c.run_gen.ensures.worn worn)

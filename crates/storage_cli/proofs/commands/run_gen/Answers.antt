@@ -1,7 +1,7 @@
 use Rattle.std.proofs.Common.{◌≡◌, ◌∙◌, ap, sym, subst, arith, ℕ, List, ◌++◌}
 use Rattle.storage_cli.specs.Texts.{Line}
 use Rattle.storage_cli.specs.Texts as texts
-use Rattle.storage_cli.proofs.Outcomes.{gen_done, gen_others, gen_stopped, not_done, prints_none, prints_stopped}
+use Rattle.storage_cli.proofs.Outcomes.{gen_done, gen_others, gen_stopped, not_done, prints_none, prints_stopped, worn_told}
 use Rattle.storage_cli.proofs.TextEndings.{never_0}
 use Rattle.storage_cli.proofs.Sessions.{summary_line}
 use Rattle.storage_cli.proofs.commands.run_gen.Goals as goal
@@ -45,3 +45,9 @@ returns-in-Err-clause-lines g c = prints_stopped c.print_stop.result.0 c.in-Err.
 
 pub returns-in-Err-clause-generated : goal.returns-in-Err-clause-generated
 returns-in-Err-clause-generated g c = λ done. absurd (never_0 c.print_stop.result.0 c.in-Err.stop c.print_stop.ensures.status done)
+
+pub returns-in-Ok-clause-worn : goal.returns-in-Ok-clause-worn
+returns-in-Ok-clause-worn g c = not_done c.print.result.0 7 c.print.ensures.status (λ z. omega (arith, z)) (λ z. omega (arith, z))
+
+pub returns-in-Err-clause-worn : goal.returns-in-Err-clause-worn
+returns-in-Err-clause-worn g c = worn_told c.print_stop.result.0 c.in-Err.stop c.print_stop.ensures.status _ c.in-Err.ensures.worn

@@ -4,11 +4,12 @@ use Rattle.flash_traits.specs.declared.board.Fault.{Fault}
 use Rattle.sha2.specs.Sha256.{sha256}
 use Rattle.sector_image.specs.Stands.{Stands}
 use Rattle.session_boards.specs.Session.{AreFirst}
-use Rattle.storage_cli.specs.Sessions.{fresh_bytes}
+use Rattle.storage_cli.specs.Sessions.{fresh_bytes, WearsOut}
 use Rattle.storage_cli.specs.Steps.Sessions.{IsSessionStop}
+use Rattle.storage_cli.specs.Steps.Stops.{OnWorn}
 use Rattle.storage_cli.proofs.Causes.{on_stop}
 use Rattle.storage_cli.proofs.FreshImage.{fresh_stands, fresh_size}
-use Rattle.storage_cli.proofs.Sessions.{session_stop, not_over, survey_answers, counted_at, summary_of}
+use Rattle.storage_cli.proofs.Sessions.{session_stop, not_over, survey_answers, counted_at, summary_of, wears_out}
 use Rattle.storage_cli.proofs.generating.generate_on.Goals as goal
 
 no_faults : Fault → ℕ
@@ -42,3 +43,11 @@ returns-clause-summary g c =
     let first = subst (λ (n : ℕ). AreFirst n done.events) (sym c.requires.session) (c.tells_session.ensures.events done.events done.frames (done.lists tt)) in
     summary_of c.args.rounds served c.digest.result c.survey.new.images.whole done.events done.frames _ c.session_ends.ensures c.one_of_both.ensures first done.ends (done.counted tt)
     run (c.in-Ok.ensures.stands tt) (c.digest.ensures ∙ ap sha256 c.whole.ensures)
+
+pub returns-in_err-served-clause-worn : goal.returns-in_err-served-clause-worn
+returns-in_err-served-clause-worn g c =
+    let why = c.in_err-served.field-0.0 in
+    let e = c.in_err-served.ensures in
+    on_stop c.from_residual-in_err-served.result why c.from_residual-in_err-served.ensures.1 (λ w. OnWorn w (WearsOut c.args.rounds))
+    (wears_out _ c.args.rounds _ _ _ why e.geometry (λ attached. e.shape attached tt) c.in_ok-board.ensures.words
+    (λ events frames has. subst (λ (n : ℕ). AreFirst n events) (sym c.requires.session) (c.tells_session.ensures.events events frames has)) tt e.worn_lines)

@@ -1,13 +1,15 @@
-use Rattle.std.proofs.Common.{◌∙◌, sym, subst, ℕ, []}
+use Rattle.std.proofs.Common.{◌∙◌, ap, sym, subst, ℕ, []}
+use Rattle.std.specs.Prelude.{⊤}
 use Rattle.flash_traits.specs.Budget.{budget_of}
 use Rattle.flash_traits.specs.Words.{Words, HasShape}
 use Rattle.sector_image.specs.FirstBad.{FirstBad}
 use Rattle.sector_image.specs.Stands.{Stands}
 use Rattle.storage_cli.specs.Serving.{HasToVoid}
+use Rattle.storage_cli.specs.Steps.Guard.{WearsFrom}
 use Rattle.storage_cli.specs.Steps.Progress.{IsSafeRun, Completes}
 use Rattle.storage_cli.proofs.Causes.{void_from, worn_in, foreign_in}
 use Rattle.storage_cli.proofs.Formatting.{on_ok_part, size_part}
-use Rattle.storage_cli.proofs.Serves.{safe_run, completes_attached}
+use Rattle.storage_cli.proofs.Serves.{safe_run, completes_attached, wears_attached}
 use Rattle.storage_cli.proofs.serving.serve.Goals as goal
 
 pub returns-clause-losses : goal.returns-clause-losses
@@ -63,3 +65,16 @@ returns-clause-shape g c = λ attached told.
     let known = size_part c.attach.result (g.B.Board.sector_bytes c.attach.new.self) (λ _. Unit {0}) ok c.attach.ensures.geometry in
     subst (λ (n : ℕ). HasShape n (g.B.Board.words c.args.board.now)) (sym c.serve_image.ensures.geometry)
     (subst (λ (w : Words). HasShape (g.B.Board.sector_bytes c.attach.new.self) w) same (g.met.B.Board.shape c.attach.new.self t known))
+
+pub returns-clause-worn_lines : goal.returns-clause-worn_lines
+returns-clause-worn_lines g c =
+    let a = c.attach.new.self in
+    let d = c.serve_image.new.board in
+    let ok = sym c.is_err.ensures.value ∙ c.if-is_err.false in
+    let words = g.B.Board.words a in
+    let before = g.B.Board.words c.args.board.now in
+    let n = budget_of (g.B.Board.sector_bytes a) in
+    let budget = budget_of (g.B.Board.sector_bytes d) in
+    worn_in c.serve_image.result (WearsFrom g.B.Board n words (g.B.Board.has_lists a [] []) d) (WearsFrom g.B.Board budget before ⊤ d)
+    (λ wears. wears_attached g.B.Board n budget words before a d (ap budget_of (sym c.serve_image.ensures.geometry))
+    (λ t. on_ok_part c.attach.result _ ok c.attach.ensures.words (c.serve_image.ensures.told t)) (on_ok_part c.attach.result _ ok c.attach.ensures.lists) wears) c.serve_image.ensures.worn_lines

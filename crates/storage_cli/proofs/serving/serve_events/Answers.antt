@@ -3,9 +3,10 @@ use Rattle.flash_traits.specs.declared.board.Fault.{Fault}
 use Rattle.flash_traits.specs.Budget.{budget_of}
 use Rattle.dirty_lines.specs.Lines.{Lines}
 use Rattle.dirty_lines.specs.Losses.{IsWornForNext}
+use Rattle.storage_cli.specs.Steps.Guard.{WearsSince}
 use Rattle.storage_cli.specs.Steps.Progress.{WasArmedSince}
 use Rattle.storage_cli.specs.Steps.Stops.{stop_of, IsEventStop, OnWorn}
-use Rattle.storage_cli.proofs.Calls.{finishes_none, finishes_more, finishes_end, progress_lost, losses_at, armed_later}
+use Rattle.storage_cli.proofs.Calls.{finishes_none, finishes_more, finishes_end, progress_lost, losses_at, armed_later, wears_later}
 use Rattle.storage_cli.proofs.Causes.{on_err, on_stop, caused, node_cause, event_stop, worn_stop}
 use Rattle.storage_cli.proofs.serving.serve_events.Goals as goal
 
@@ -44,6 +45,14 @@ returns-in_err-turn-clause-worn_next g c = λ alone.
       | inl lacks ↦ inl (c.event.new.self.lines, lacks)
       | inr armed ↦ inr (armed_later g.B.Board c.args.node.now.budget c.args.node.now c.args.board.now c.loop-events.node c.loop-events.board c.event.new.self c.event.new.board i.events i.frames i.progress armed)
     ]) next)
+
+pub returns-in_err-turn-clause-worn_lines : goal.returns-in_err-turn-clause-worn_lines
+returns-in_err-turn-clause-worn_lines g c =
+    let i = c.loop-events.invariant.finishes in
+    on_stop c.from_residual.result (stop_of c.in_err-turn.field-0.0) c.from_residual.ensures.1 (λ why. OnWorn why (WearsSince g.B.Board c.args.node.now c.args.board.now c.event.new.board))
+    (worn_stop c.in_err-turn.field-0.0 _ _ (λ n wears.
+    wears_later g.B.Board c.args.node.now.budget c.args.node.now c.args.board.now c.loop-events.node c.loop-events.board c.event.new.self c.event.new.board i.events i.frames i.progress c.loop-events.invariant.budget wears)
+    c.in_err-turn.ensures.worn_lines)
 
 pub returns-in_err-turn-clause-cause : goal.returns-in_err-turn-clause-cause
 returns-in_err-turn-clause-cause g c =

@@ -5,10 +5,11 @@ use Rattle.flash_traits.specs.declared.board.Fault.{Fault}
 use Rattle.storage_cli.specs.declared.stop.Served.{Served}
 use Rattle.storage_cli.specs.declared.stop.Stop.{Stop}
 use Rattle.storage_cli.specs.Serving.{HasToVoid}
+use Rattle.storage_cli.specs.Steps.Guard.{WearsFrom}
 use Rattle.storage_cli.specs.Steps.Progress.{IsSafe}
 use Rattle.storage_cli.specs.Steps.Stops.{stop_of, IsFirst, IsServeStop, IsDone, OnForeign, OnMemory, OnWorn, StopsEarly, StopsWorn}
 use Rattle.storage_cli.proofs.Causes.{never_both, is_first, opens_early, opens_worn, not_done, on_stop, on_result, caused, node_cause, cause_later, event_stop, serve_event, serve_stop, event_memory, event_first, event_foreign, memory_stop, foreign_stop, worn_stop, worn_map, stopped_by}
-use Rattle.storage_cli.proofs.Serves.{open_lost, open_then, open_closed, completes_end, completes_turns, finished_at, void_opened, void_served}
+use Rattle.storage_cli.proofs.Serves.{open_lost, open_then, open_closed, completes_end, completes_turns, finished_at, void_opened, void_served, wears_opened, wears_served, wears_closed}
 use Rattle.storage_cli.proofs.Calls.{losses_at}
 use Rattle.storage_cli.proofs.serving.serve_image.Goals as goal
 
@@ -244,3 +245,35 @@ returns-in-Some-clause-left_alone g c = λ told place bad.
 pub returns-in-None-clause-left_alone : goal.returns-in-None-clause-left_alone
 returns-in-None-clause-left_alone g c = λ told place bad.
     absurd (never_both (g.B.Board.words c.args.board.now) place (c.in_ok-node.ensures.not_foreign (c.in_ok-end.ensures.told (c.in_ok-close.ensures.told told))) bad)
+
+pub returns-in_err-node-clause-worn_lines : goal.returns-in_err-node-clause-worn_lines
+returns-in_err-node-clause-worn_lines g c =
+    let words = g.B.Board.words c.args.board.now in
+    let budget = budget_of (g.B.Board.sector_bytes c.args.board.now) in
+    on_stop c.from_residual.result (stop_of c.in_err-node.field-0.0) c.from_residual.ensures.1
+    (λ why. OnWorn why (WearsFrom g.B.Board budget words (g.B.Board.has_lists c.args.board.now [] []) c.open.new.board))
+    (worn_stop c.in_err-node.field-0.0 _ _ (λ n wears. wears_opened g.B.Board budget words c.args.board.now c.open.new.board c.in_err-node.ensures.lists wears) c.in_err-node.ensures.worn_lines)
+
+pub returns-in_err-end-clause-worn_lines : goal.returns-in_err-end-clause-worn_lines
+returns-in_err-end-clause-worn_lines g c =
+    let o = c.in_ok-node.ensures in
+    let words = g.B.Board.words c.args.board.now in
+    let budget = budget_of (g.B.Board.sector_bytes c.args.board.now) in
+    on_stop c.from_residual-in_err-end.result c.in_err-end.field-0.0 c.from_residual-in_err-end.ensures.1
+    (λ why. OnWorn why (WearsFrom g.B.Board budget words (g.B.Board.has_lists c.args.board.now [] []) c.serve_events.new.board))
+    (worn_map c.in_err-end.field-0.0 _ _ (λ wears.
+    wears_served g.B.Board budget words c.args.board.now c.open.new.board c.in_ok-node.node o.lists o.within (o.fits.budget ∙ ap budget_of o.geometry) c.serve_events.new.board c.in_err-end.ensures.told wears)
+    c.in_err-end.ensures.worn_lines)
+
+pub returns-in_err-close-clause-worn_lines : goal.returns-in_err-close-clause-worn_lines
+returns-in_err-close-clause-worn_lines g c =
+    let o = c.in_ok-node.ensures in
+    let words = g.B.Board.words c.args.board.now in
+    let budget = budget_of (g.B.Board.sector_bytes c.args.board.now) in
+    let same : c.in_ok-node.node.budget ≡ budget = o.fits.budget ∙ ap budget_of o.geometry in
+    on_stop c.from_residual-in_err-close.result (stop_of c.in_err-close.field-0.0) c.from_residual-in_err-close.ensures.1
+    (λ why. OnWorn why (WearsFrom g.B.Board budget words (g.B.Board.has_lists c.args.board.now [] []) c.close.new.board))
+    (worn_stop c.in_err-close.field-0.0 _ _ (λ n wears.
+    wears_closed g.B.Board budget words c.args.board.now c.open.new.board c.in_ok-node.node o.lists o.within c.serve_events.new.board c.close.new.board c.serve_events.new.node c.args.turns c.in_ok-end.end
+    (finished_at g.B.Board c.in_ok-node.node.budget budget same c.in_ok-node.node c.open.new.board c.serve_events.new.node c.serve_events.new.board c.args.turns c.in_ok-end.end c.in_ok-end.ensures.finished)
+    (c.in_ok-end.ensures.budget ∙ same) c.in_err-close.ensures.told c.in_err-close.ensures.lists wears) c.in_err-close.ensures.worn_lines)

@@ -1,5 +1,5 @@
 use Rattle.std.proofs.Common.{◌∙◌}
-use Rattle.vehicle_node.proofs.Boot.{closed_at, closed_worn, flushing_leaves}
+use Rattle.vehicle_node.proofs.Boot.{closed_at, closed_worn, closed_wears, flushing_leaves}
 use Rattle.vehicle_node.proofs.Finishing.{Leaves, leaves_safe, leaves_rising}
 use Rattle.vehicle_node.proofs.Fitting.{fits_room, flag_is}
 use Rattle.flash_traits.proofs.Moments.{weaker}
@@ -27,3 +27,6 @@ pub returns-clause-worn_next : goal.returns-clause-worn_next
 returns-clause-worn_next g c =
     closed_worn g.B.Board c.armed-armed.result c.args.self c.flush_all.new.self c.flush_all.new.board c.flush_all.result (flag_is c.self.inside c.args.self c.armed-armed.result c.self.view_is c.armed-armed.ensures)
     c.flush_all.ensures.done.stopped
+
+pub returns-clause-worn_lines : goal.returns-clause-worn_lines
+returns-clause-worn_lines g c = closed_wears g.B.Board c.armed-armed.result c.args.self c.flush_all.new.self c.flush_all.new.board c.flush_all.result c.flush_all.ensures.done.stopped

@@ -2,7 +2,7 @@ use Rattle.std.proofs.Common.{Result, false, sym, subst, refl}
 use Rattle.std.specs.Prelude.{⊤, OnOk, IfErr}
 use Rattle.block_store.specs.Store as store
 use Rattle.block_store.specs.Store.{home_free}
-use Rattle.vehicle_node.specs.Standing.{Node}
+use Rattle.vehicle_node.specs.Standing.{Node, ceiling}
 use Rattle.vehicle_node.specs.Steps.Inside.{view_of}
 use Rattle.vehicle_node.specs.Steps.Calls.{Keeps, WornAlone, OfFlash}
 use Rattle.vehicle_node.specs.Steps.Answering.{CompactedAll, CompactDone}
@@ -34,8 +34,8 @@ returns-clause-done g c =
         | in-Err w ↦ subst (λ (r : Result ⊤ NodeError). OnOk r (CompactedAll b old a new last)) (sym w.result-is) tt
       ];
       stopped = elim c.match-compact.branch [
-        | in-Ok w ↦ subst (λ (r : Result ⊤ NodeError). IfErr r (WornAlone b false old new last)) (sym w.result-is) tt
-        | in-Err w ↦ subst (λ (r : Result ⊤ NodeError). IfErr r (WornAlone b false old new last)) (sym w.result-is)
+        | in-Ok w ↦ subst (λ (r : Result ⊤ NodeError). IfErr r (WornAlone b false (ceiling old) old new last)) (sym w.result-is) tt
+        | in-Err w ↦ subst (λ (r : Result ⊤ NodeError). IfErr r (WornAlone b false (ceiling old) old new last)) (sym w.result-is)
             (compact_worn b old new last w.in-Err.error w.error_of.result w.error_of.ensures w.in-Err.ensures.worn)
       ];
     })

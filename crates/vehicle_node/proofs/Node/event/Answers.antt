@@ -1,13 +1,15 @@
-use Rattle.std.proofs.Common.{◌+◌, arith}
+use Rattle.std.proofs.Common.{◌⊎◌, inl, inr, ◌+◌, arith}
 use Rattle.flash_traits.specs.Losses.{received}
+use Rattle.dirty_lines.specs.Losses.{IsWornForNext}
 use Rattle.vehicle_node.specs.Safe.{SafeSince}
-use Rattle.vehicle_node.specs.Standing.{WasArmed}
-use Rattle.vehicle_node.specs.Steps.Calls.{WornWhere}
-use Rattle.vehicle_node.specs.Steps.Hearing.{ArmedTaking}
-use Rattle.vehicle_node.proofs.ActsDone.{worn_later}
+use Rattle.vehicle_node.specs.Standing.{IsAloneUnlessArmed, WasArmed}
+use Rattle.vehicle_node.specs.Guard.{WearsIn}
+use Rattle.vehicle_node.specs.Refusals.{OnWorn}
+use Rattle.vehicle_node.specs.Steps.Calls.{IsWornWhere}
+use Rattle.vehicle_node.specs.Steps.Hearing.{ArmedTaking, WearingTaking}
 use Rattle.vehicle_node.proofs.Fitting.{fits_kept, fits_room, fits_flushed, flag_is}
-use Rattle.vehicle_node.proofs.Finishing.{received_in_range, failed_leaves, taken_leaves, flushed_leaves, leaves_safe, leaves_rising, done_losses, event_finished, alone_at_end, flushed_worn, was_armed, passes_err, cut_none, cut_some}
-use Rattle.vehicle_node.proofs.Passing.{on_err, error_at, lists_then}
+use Rattle.vehicle_node.proofs.Finishing.{received_in_range, failed_leaves, taken_leaves, flushed_leaves, leaves_safe, leaves_rising, done_losses, event_finished, alone_at_end, flushed_worn, was_armed, wears_in, passes_err, cut_none, cut_some}
+use Rattle.vehicle_node.proofs.Passing.{on_err, error_at, worn_more, lists_then}
 use Rattle.vehicle_node.proofs.Node.event.Goals as goal
 
 pub returns-in-Err-clause-losses : goal.returns-in-Err-clause-losses
@@ -120,9 +122,24 @@ returns-in_err-answer_event-clause-worn_next g c =
     let got = received c.in-Ok.event c.recv.new.into in
     let last = c.answer_event.new.board in
     let e = c.in_err-answer_event.field-0.0 in
-    error_at c.from_residual.result e (WornWhere b old (WasArmed b old c.args.board.now last) c.answer_event.new.self last) c.from_residual.ensures.1
-    (worn_later b old old (ArmedTaking got old) (WasArmed b old c.args.board.now last) c.answer_event.new.self last e (λ unless. unless)
-    (λ x. was_armed b old got c.args.board.now c.recv.new.self last c.in-Ok.ensures.lists c.in_err-answer_event.ensures.done.lists x) c.in_err-answer_event.ensures.done.stopped)
+    let next : Type 0 = IsAloneUnlessArmed old → IsWornForNext b last c.answer_event.new.self.lines ⊎ WasArmed b old c.args.board.now last in
+    error_at c.from_residual.result e (λ e. OnWorn e (λ n. next)) c.from_residual.ensures.1
+    (worn_more e (IsWornWhere b old (ArmedTaking got old) (WearingTaking got old) c.answer_event.new.self last) next
+    (λ w unless. elim (w.next unless) [
+      | inl lacks ↦ inl lacks
+      | inr x ↦ inr (was_armed b old got c.args.board.now c.recv.new.self last c.in-Ok.ensures.lists c.in_err-answer_event.ensures.done.lists x)
+    ]) c.in_err-answer_event.ensures.done.stopped)
+
+pub returns-in_err-answer_event-clause-worn_lines : goal.returns-in_err-answer_event-clause-worn_lines
+returns-in_err-answer_event-clause-worn_lines g c =
+    let b = g.B.Board in
+    let old = c.args.self.now in
+    let got = received c.in-Ok.event c.recv.new.into in
+    let last = c.answer_event.new.board in
+    let e = c.in_err-answer_event.field-0.0 in
+    error_at c.from_residual.result e (λ e. OnWorn e (λ n. WearsIn b old c.args.board.now last)) c.from_residual.ensures.1
+    (worn_more e (IsWornWhere b old (ArmedTaking got old) (WearingTaking got old) c.answer_event.new.self last) (WearsIn b old c.args.board.now last)
+    (λ w. wears_in b old got c.args.board.now c.recv.new.self last c.in-Ok.ensures.lists c.in_err-answer_event.ensures.done.lists w.lines) c.in_err-answer_event.ensures.done.stopped)
 
 pub returns-in_err-flush-clause-worn_next : goal.returns-in_err-flush-clause-worn_next
 returns-in_err-flush-clause-worn_next g c =
@@ -132,7 +149,27 @@ returns-in_err-flush-clause-worn_next g c =
     let in_range = received_in_range c.in-Ok.event c.recv.new.into c.in-Ok.ensures.bounds in
     let last = c.flush.new.board in
     let e = c.in_err-flush.field-0.0 in
-    error_at c.from_residual-in_err-flush.result e (WornWhere b old (WasArmed b old c.args.board.now last) c.flush.new.self last) c.from_residual-in_err-flush.ensures.1
+    let P : Type 0 = WasArmed b old c.args.board.now last in
+    let next : Type 0 = IsAloneUnlessArmed old → IsWornForNext b last c.flush.new.self.lines ⊎ P in
+    error_at c.from_residual-in_err-flush.result e (λ e. OnWorn e (λ n. next)) c.from_residual-in_err-flush.ensures.1
+    (worn_more e (IsWornWhere b old P (WearingTaking got old) c.flush.new.self last) next (λ w. w.next)
     (flushed_worn b g.met.B.Board.reads old c.args.board.now c.requires.fits.store c.frames_are_read.ensures got in_range c.recv.new.self c.in-Ok.ensures.time
-    c.answer_event.new.self c.answer_event.new.board c.in_ok-answer_event.ensures.done (WasArmed b old c.args.board.now last) c.armed-armed.result
-    (flag_is c.self.inside c.answer_event.new.self c.armed-armed.result c.self.view_is c.armed-armed.ensures) c.flush.new.self last e c.in_err-flush.ensures.done.stopped)
+    c.answer_event.new.self c.answer_event.new.board c.in_ok-answer_event.ensures.done P c.armed-armed.result
+    (flag_is c.self.inside c.answer_event.new.self c.armed-armed.result c.self.view_is c.armed-armed.ensures) c.flush.new.self last e c.in_err-flush.ensures.done.stopped))
+
+pub returns-in_err-flush-clause-worn_lines : goal.returns-in_err-flush-clause-worn_lines
+returns-in_err-flush-clause-worn_lines g c =
+    let b = g.B.Board in
+    let old = c.args.self.now in
+    let got = received c.in-Ok.event c.recv.new.into in
+    let in_range = received_in_range c.in-Ok.event c.recv.new.into c.in-Ok.ensures.bounds in
+    let last = c.flush.new.board in
+    let e = c.in_err-flush.field-0.0 in
+    let P : Type 0 = WasArmed b old c.args.board.now last in
+    error_at c.from_residual-in_err-flush.result e (λ e. OnWorn e (λ n. WearsIn b old c.args.board.now last)) c.from_residual-in_err-flush.ensures.1
+    (worn_more e (IsWornWhere b old P (WearingTaking got old) c.flush.new.self last) (WearsIn b old c.args.board.now last)
+    (λ w. wears_in b old got c.args.board.now c.recv.new.self last c.in-Ok.ensures.lists
+    (lists_then b c.recv.new.self c.answer_event.new.board last c.in_ok-answer_event.ensures.done.lists c.flush.ensures.done.lists) w.lines)
+    (flushed_worn b g.met.B.Board.reads old c.args.board.now c.requires.fits.store c.frames_are_read.ensures got in_range c.recv.new.self c.in-Ok.ensures.time
+    c.answer_event.new.self c.answer_event.new.board c.in_ok-answer_event.ensures.done P c.armed-armed.result
+    (flag_is c.self.inside c.answer_event.new.self c.armed-armed.result c.self.view_is c.armed-armed.ensures) c.flush.new.self last e c.in_err-flush.ensures.done.stopped))

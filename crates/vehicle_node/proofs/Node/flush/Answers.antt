@@ -2,14 +2,14 @@ use Rattle.std.proofs.Common.{Result, sym, subst, refl}
 use Rattle.std.specs.Prelude.{⊤, OnOk, IfErr}
 use Rattle.block_store.specs.Store as store
 use Rattle.vehicle_node.specs.declared.NodeError.{NodeError}
-use Rattle.vehicle_node.specs.Standing.{Node}
+use Rattle.vehicle_node.specs.Standing.{Node, ceiling}
 use Rattle.vehicle_node.specs.Steps.Inside.{view_of}
 use Rattle.vehicle_node.specs.Steps.Calls.{Keeps, WornAlone, OfFlash}
 use Rattle.vehicle_node.specs.Steps.Answering.{FlushedAll, FlushDone, HasRoom}
 use Rattle.vehicle_node.proofs.Keeping.{keeps_put, keeps_flush_refused, flush_worn}
 use Rattle.vehicle_node.proofs.Passing.{at_ok, lists_kept}
 use Rattle.block_store.proofs.StoreLaws.{fits_whole}
-use Rattle.vehicle_node.proofs.Putting.{flush_losses, never_full, nothing_sent, flushed}
+use Rattle.vehicle_node.proofs.Putting.{flush_losses, flush_within, never_full, nothing_sent, flushed}
 use Rattle.vehicle_node.proofs.Node.flush.Goals as goal
 use Rattle.vehicle_node.proofs.Node.flush.Goals.{in-Ok, in-Err}
 
@@ -43,9 +43,10 @@ returns-clause-done g c =
         | in-Err w ↦ subst (λ (r : Result ⊤ NodeError). OnOk r (FlushedAll b c.args.n armed old a new last)) (sym w.result-is) tt
       ];
       stopped = elim c.match-flush.branch [
-        | in-Ok w ↦ subst (λ (r : Result ⊤ NodeError). IfErr r (WornAlone b armed old new last)) (sym w.result-is) tt
-        | in-Err w ↦ subst (λ (r : Result ⊤ NodeError). IfErr r (WornAlone b armed old new last)) (sym w.result-is)
-            (flush_worn b armed old new last w.in-Err.error w.error_of.result w.error_of.ensures w.in-Err.ensures.worn w.in-Err.ensures.worn_next)
+        | in-Ok w ↦ subst (λ (r : Result ⊤ NodeError). IfErr r (WornAlone b armed (ceiling old) old new last)) (sym w.result-is) tt
+        | in-Err w ↦ subst (λ (r : Result ⊤ NodeError). IfErr r (WornAlone b armed (ceiling old) old new last)) (sym w.result-is)
+            (flush_worn b armed old new last w.in-Err.error w.error_of.result w.error_of.ensures w.in-Err.ensures.worn w.in-Err.ensures.worn_next
+            (flush_within b a last old (subst (λ (node : Node). store.Fits b a node.lines.store) (sym c.self.view_is) c.requires.fits) c.flush.result c.flush.new.self.pending c.flush.ensures.left c.flush.ensures.changes))
       ];
     })
 

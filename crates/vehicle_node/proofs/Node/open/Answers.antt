@@ -2,19 +2,22 @@ use Rattle.std.proofs.Common.{◌≡◌, ◌⊎◌, ℕ, false, List, refl, sym,
 use Rattle.flash_traits.specs.declared.board.Fault.TheVariants.{Read}
 use Rattle.flash_traits.specs.Budget.{budget_of}
 use Rattle.flash_traits.specs.Words.{IsSectorSize}
+use Rattle.guard_row.specs.Row.{IsGuardRow}
 use Rattle.sector_image.specs.FirstBad.{Place, FirstBad}
 use Rattle.sector_image.proofs.ImageLaws.{one_value}
 use Rattle.block_store.specs.Store.{durable_of}
 use Rattle.block_store.specs.Store as store
 use Rattle.block_store.proofs.StoreLaws.{fits_attached}
 use Rattle.dirty_lines.specs.Lines.{Lines}
+use Rattle.vehicle_node.specs.Guard.{MayWear}
 use Rattle.vehicle_node.specs.Refusals.{OnWorn}
-use Rattle.vehicle_node.specs.Standing.{IsAlone, StandsForRun}
+use Rattle.vehicle_node.specs.Standing.{StandsForRun, ceiling}
+use Rattle.vehicle_node.specs.Steps.Calls.{IsWornAlone}
 use Rattle.sector_image.specs.Stands.{Stands, IsUsedUp}
 use Rattle.dirty_lines.specs.Losses.{IsWornForNext}
 use Rattle.vehicle_node.proofs.Passing.{adds_both, error_at, worn_more}
 use Rattle.vehicle_node.proofs.Putting.{nothing_sent}
-use Rattle.vehicle_node.proofs.Boot.{open_losses, boot_losses, open_rises, boot_rises, boot_within, stands_booted, booted_fits, booted_unarmed, foreign_at, worn_at, fault_at, booted_alone, read_stands}
+use Rattle.vehicle_node.proofs.Boot.{open_losses, boot_losses, open_rises, boot_rises, boot_within, boot_wears, read_wears, stands_booted, booted_fits, booted_unarmed, foreign_at, worn_at, fault_at, booted_alone, read_stands}
 use Rattle.vehicle_node.proofs.Node.open.Goals as goal
 
 pub returns-in-Err-clause-losses : goal.returns-in-Err-clause-losses
@@ -76,8 +79,30 @@ returns-in_err-flush_all-clause-worn_where g c =
     let e = c.in_err-flush_all.field-0.0 in
     let W : Type 0 = (g.B.Board.tells last → IsUsedUp (g.B.Board.words c.args.board.now)) ⊎ ((lines : Lines) × IsWornForNext g.B.Board last lines) in
     error_at c.from_residual.result e (λ e. OnWorn e (λ count. W)) c.from_residual.ensures.1
-    (worn_more e ((false ≡ false) × (IsAlone c.booted-node.result → IsWornForNext g.B.Board last node.lines)) W
-    (λ w. inr (node.lines, w.1 (booted_alone c.budget.result c.in-Ok.lines c.booted-node.result c.booted-node.ensures c.in-Ok.ensures.alone))) c.in_err-flush_all.ensures.done.stopped)
+    (worn_more e (IsWornAlone g.B.Board false (ceiling c.booted-node.result) c.booted-node.result node last) W
+    (λ w. inr (node.lines, w.next (booted_alone c.budget.result c.in-Ok.lines c.booted-node.result c.booted-node.ensures c.in-Ok.ensures.alone))) c.in_err-flush_all.ensures.done.stopped)
+
+pub returns-in-Err-clause-worn_lines : goal.returns-in-Err-clause-worn_lines
+returns-in-Err-clause-worn_lines g c =
+    let a = c.args.board.now in
+    let words = g.B.Board.words a in
+    let budget = budget_of (g.B.Board.sector_bytes a) in
+    worn_at c.in-Err.error c.error_of.result _ (λ n. g.B.Board.tells c.open.new.board → (count : ℕ) (b : List ℕ) → IsGuardRow words.guard count → Stands words b → MayWear budget count b []) c.error_of.ensures
+    (λ n given told count b row stands. let x = given.1 told in read_wears words x.0 x.1 x.3 budget count b row) c.in-Err.ensures.worn
+
+pub returns-in_err-flush_all-clause-worn_lines : goal.returns-in_err-flush_all-clause-worn_lines
+returns-in_err-flush_all-clause-worn_lines g c =
+    let a = c.args.board.now in
+    let words = g.B.Board.words a in
+    let budget = budget_of (g.B.Board.sector_bytes a) in
+    let last = c.flush_all.new.board in
+    let e = c.in_err-flush_all.field-0.0 in
+    let Wears : Type 0 = g.B.Board.tells last → (count : ℕ) (b : List ℕ) → IsGuardRow words.guard count → Stands words b → MayWear budget count b [] in
+    error_at c.from_residual.result e (λ e. OnWorn e (λ n. Wears)) c.from_residual.ensures.1
+    (worn_more e (IsWornAlone g.B.Board false (ceiling c.booted-node.result) c.booted-node.result c.flush_all.new.self last) Wears
+    (λ w told count b row stands.
+    boot_wears g.B.Board g.met.B.Board.reads a c.open.new.board c.open.ensures.changes budget count b (λ t. (row, stands)) c.in-Ok.lines c.in-Ok.ensures.fits c.in-Ok.ensures.alone c.in-Ok.ensures.stands
+    c.budget.result c.booted-node.result c.booted-node.ensures (c.flush_all.ensures.keeps.told told) (w.reached told)) c.in_err-flush_all.ensures.done.stopped)
 
 pub geometry-requires : goal.geometry-requires
 geometry-requires g c = fits_attached g.B.Board c.open.new.board c.in-Ok.lines.store c.in-Ok.ensures.fits
