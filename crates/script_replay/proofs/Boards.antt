@@ -85,8 +85,11 @@ by_result was budget b e f m o (Err x) after = subst (λ (k : ℕ). After was (S
 module _ {S K N : Type 0} {g : source.Ghosts S} {h : sink.Ghosts K} (n : start.Ghosts N) where
   -- at its start nothing was received or printed
   pub begins : (b : ScriptBoard S K g h) (buffer : List ℕ) → b.mark ≡ None → b.line ≡ n.line → length b.waiting.items ≡ n.waiting → unread_in b ≡ n.unread
-      → g.rest b.input.now ≡ n.rest → h.written b.out.now ≡ n.written → HasLists n b None buffer [] []
-  begins b buffer mark line waiting unread rest written = record {
+      → g.rest b.input.now ≡ n.rest → h.written b.out.now ≡ n.written → (g.tells_rest b.input.now → n.tells_rest) → (h.tells_written b.out.now → n.tells_written)
+      → HasLists n b None buffer [] []
+  begins b buffer mark line waiting unread rest written told_rest told_written = record {
+    told_rest = told_rest;
+    told_written = told_written;
     events_are = refl;
     printed = λ un told. (written ∙ sym (append-nil n.written), tt);
     lines = [];

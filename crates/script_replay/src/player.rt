@@ -1,5 +1,5 @@
 //! The calls of a node over a script's board, for a replay.
-ghost use Rattle.std.specs.Prelude.{◌≡◌, ◌≢◌, ◌≤◌, ◌+◌, ◌++◌, [], true, false, None, Err, List, ℕ, length, IfOk, IfErr, OnOk, OnErr};
+ghost use Rattle.std.specs.Prelude.{◌≡◌, ◌≢◌, ◌⊎◌, ◌≤◌, ◌+◌, ◌++◌, [], true, false, None, Err, List, ℕ, length, IfOk, IfErr, OnOk, OnErr};
 ghost use Rattle.flash_traits.specs.Causes.{Rose};
 ghost use Rattle.flash_traits.specs.declared.numbers.TheConstants.{GUARD_HALFWORDS};
 ghost use Rattle.flash_traits.specs.Budget.{budget_of};
@@ -234,6 +234,8 @@ fn print_on<'a, S: Source, K: Sink, N: Start>(
 fn still_printed<T>(printed: bool, answer: &Result<T, Break>) -> bool
     ensures before { result ≡ true → printed ≡ true }
     ensures unfailed { result ≡ true → answer.now ≢ Err (breaks.Stopped stops.Output) }
+    ensures failed { result ≡ false
+        → (printed ≡ false) ⊎ (answer.now ≡ Err (breaks.Stopped stops.Output)) }
 {
     match answer {
         Err(Break::Stopped(Stop::Output)) => false,
@@ -253,7 +255,7 @@ pub(crate) struct ScriptPlayer<'a, S: Source, K: Sink, M: Beginning> {
 impl<'a, S: Source, K: Sink, M: Beginning> Player for ScriptPlayer<'a, S, K, M> {
     ghost use Rattle.script_replay.specs.Places.{HoldsAt, ToldAt, TookAt};
 
-    ghost holds = { λ p. HoldsAt M.Beginning p.place };
+    ghost holds = { λ p. HoldsAt M.Beginning p.printed p.place };
 
     ghost told = { λ p. ToldAt p.printed p.place };
 
@@ -296,8 +298,12 @@ impl<'a, S: Source, K: Sink, M: Beginning> Player for ScriptPlayer<'a, S, K, M> 
     }
 
     fn print_loss(&mut self) -> Result<(), Failed> {
-        let printed = print_on::<S, K, Brand>(&mut self.place);
-        self.printed = self.printed && printed.is_ok();
-        printed
+        match print_on::<S, K, Brand>(&mut self.place) {
+            Ok(()) => Ok(()),
+            Err(failed) => {
+                self.printed = false;
+                Err(failed)
+            }
+        }
     }
 }
