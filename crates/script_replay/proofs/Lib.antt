@@ -1,6 +1,8 @@
+pub mod Frames
 pub mod Lists
-pub mod Steps
+pub mod Hearing
 pub mod Left
+pub mod Steps
 pub mod Fits
 pub mod Ended
 pub mod Uses

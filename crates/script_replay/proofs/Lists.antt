@@ -1,5 +1,5 @@
 -- The lists that a board stands for during a call of a node, from one of its calls to the next.
-use Rattle.std.proofs.Common.{◌≡◌, ◌≢◌, ◌⊎◌, inl, inr, ℕ, ◌+◌, ◌≤◌, Bool, true, false, List, [], ◌∷◌, ◌++◌, length, drop, Option, Some, None, refl, sym, ◌∙◌, ap, subst, arith}
+use Rattle.std.proofs.Common.{◌≡◌, ◌≢◌, ◌⊎◌, inl, inr, ℕ, ◌+◌, ◌≤◌, ◌<◌, Bool, true, false, List, [], ◌∷◌, ◌++◌, length, drop, Option, Some, None, refl, sym, ◌∙◌, ap, subst, arith}
 use Rattle.std.specs.Option.{is_some}
 use Rattle.flash_traits.specs.declared.stream.Source as source
 use Rattle.flash_traits.specs.declared.stream.Sink as sink
@@ -15,10 +15,15 @@ use Rattle.script_board.specs.Waiting.{falls_now}
 use Rattle.script_board.specs.declared.board.ScriptMark.{ScriptMark}
 use Rattle.script_board.specs.declared.board.ScriptMark.TheVariants.{Lost, Refused, Input, Output}
 use Rattle.script_board.specs.declared.board.ScriptBoard.{ScriptBoard}
+use Rattle.script_board.specs.Printing.{frame_line}
 use Rattle.script_board.proofs.Listed.{unread_by}
-use Rattle.script_replay.specs.Calls.{Takes, ArePrinted, WaitsBy, HasHeard, too_many}
+use Rattle.script_replay.specs.Calls.{Takes, AreBytes, ArePrinted, WaitsBy, HasHeard, too_many}
 use Rattle.script_replay.specs.Held.{HasLists, StandsFor}
 use Rattle.script_replay.specs.declared.start.Start as start
+use Rattle.script_replay.proofs.Frames.{printed_more}
+
+pub none_no_output : (let none : Option ScriptMark = None in none) ≡ Some Output → ⊥
+none_no_output is = cc
 
 -- a script without a failure heard the event that it was asked for
 pub on_heard : (faulted refused : Type 0) (next : ℕ) (lines : List ScriptLine) → IsUnheard None None 0 lines faulted next refused → ⊥
@@ -27,17 +32,17 @@ on_heard faulted refused next lines (inr (inl (losses, fault, mark))) = let is =
 on_heard faulted refused next lines (inr (inr (losses, refusal, mark))) = cc
 
 -- what a call that takes no line does to the losses that wait, where the script had not failed
-pub heard_then : (heard : Option Event) (buffer : List ℕ) (mark : Option ScriptMark) (before now later next more : ℕ) (faulted refused fault refusal : Type 0) (lines : List ScriptLine)
+pub heard_then : (room : Bool) (heard : Option Event) (buffer : List ℕ) (mark : Option ScriptMark) (before now later next more : ℕ) (faulted refused fault refusal : Type 0) (lines : List ScriptLine)
     → ((would : ℕ) → now ≡ would → WaitsBy mark would later)
-    → HasHeard heard buffer None before now faulted next refused lines → HasHeard heard buffer mark before later fault more refusal lines
-heard_then None buffer mark before now later next more faulted refused fault refusal lines waits (inl (none, same)) = inl (none, waits before same)
-heard_then None buffer mark before now later next more faulted refused fault refusal lines waits (inr (unheard, same)) = absurd (on_heard faulted refused next lines unheard)
-heard_then (Some event) buffer mark before now later next more faulted refused fault refusal lines waits (heard, same) = (heard, waits _ same)
+    → HasHeard room heard buffer None before now faulted next refused lines → HasHeard room heard buffer mark before later fault more refusal lines
+heard_then room None buffer mark before now later next more faulted refused fault refusal lines waits (inl (none, same)) = inl (none, waits before same)
+heard_then room None buffer mark before now later next more faulted refused fault refusal lines waits (inr (roomy, unheard, same)) = absurd (on_heard faulted refused next lines unheard)
+heard_then room (Some event) buffer mark before now later next more faulted refused fault refusal lines waits (heard, same) = (heard, waits _ same)
 
 -- what was heard, by the parts of the board that tell it
-abbrev HasHeardOf : {S : Type 0} → ℕ → ℕ → source.Ghosts S → Option Event → List ℕ → List ScriptLine → S → List ℕ → ℕ → Option ScriptMark → List Waiting → Type 0
-HasHeardOf waited faults g heard buffer lines s unread line mark waiting =
-    HasHeard heard buffer mark waited (length waiting) (Rose faults (g.faults s)) (line + 1) (IsRefused line waiting unread (g.tells_rest s) (g.rest s)) lines
+abbrev HasHeardOf : {S : Type 0} → Bool → ℕ → ℕ → source.Ghosts S → Option Event → List ℕ → List ScriptLine → S → List ℕ → ℕ → Option ScriptMark → List Waiting → Type 0
+HasHeardOf room waited faults g heard buffer lines s unread line mark waiting =
+    HasHeard room heard buffer mark waited (length waiting) (Rose faults (g.faults s)) (line + 1) (IsRefused line waiting unread (g.tells_rest s) (g.rest s)) lines
 
 module _ {S K N : Type 0} {g : source.Ghosts S} {h : sink.Ghosts K} (n : start.Ghosts N) (a b : ScriptBoard S K g h) where
   -- the board is the same
@@ -56,13 +61,13 @@ module _ {S K N : Type 0} {g : source.Ghosts S} {h : sink.Ghosts K} (n : start.G
   }
     where
       by_parts : (s : S) (u : List ℕ) (l : ℕ) (m : Option ScriptMark) (w : List Waiting) → s ≡ a.input.now → u ≡ unread_in a → l ≡ a.line → m ≡ a.mark → w ≡ a.waiting.items
-          → HasHeardOf n.waiting n.input_faults g heard buffer had.lines s u l m w
+          → HasHeardOf n.room n.waiting n.input_faults g heard buffer had.lines s u l m w
       by_parts s u l m w si ui li mi wi =
-          subst (λ (s : S). HasHeardOf n.waiting n.input_faults g heard buffer had.lines s u l m w) (sym si)
-          (subst (λ (u : List ℕ). HasHeardOf n.waiting n.input_faults g heard buffer had.lines a.input.now u l m w) (sym ui)
-          (subst (λ (l : ℕ). HasHeardOf n.waiting n.input_faults g heard buffer had.lines a.input.now (unread_in a) l m w) (sym li)
-          (subst (λ (m : Option ScriptMark). HasHeardOf n.waiting n.input_faults g heard buffer had.lines a.input.now (unread_in a) a.line m w) (sym mi)
-          (subst (λ (w : List Waiting). HasHeardOf n.waiting n.input_faults g heard buffer had.lines a.input.now (unread_in a) a.line a.mark w) (sym wi) had.hears))))
+          subst (λ (s : S). HasHeardOf n.room n.waiting n.input_faults g heard buffer had.lines s u l m w) (sym si)
+          (subst (λ (u : List ℕ). HasHeardOf n.room n.waiting n.input_faults g heard buffer had.lines a.input.now u l m w) (sym ui)
+          (subst (λ (l : ℕ). HasHeardOf n.room n.waiting n.input_faults g heard buffer had.lines a.input.now (unread_in a) l m w) (sym li)
+          (subst (λ (m : Option ScriptMark). HasHeardOf n.room n.waiting n.input_faults g heard buffer had.lines a.input.now (unread_in a) a.line m w) (sym mi)
+          (subst (λ (w : List Waiting). HasHeardOf n.room n.waiting n.input_faults g heard buffer had.lines a.input.now (unread_in a) a.line a.mark w) (sym wi) had.hears))))
 
   -- a call of the device or of the sink, where the script had not failed
   pub lists_then : a.mark ≡ None → b.input.now ≡ a.input.now → unread_in b ≡ unread_in a → b.line ≡ a.line
@@ -74,22 +79,19 @@ module _ {S K N : Type 0} {g : source.Ghosts S} {h : sink.Ghosts K} (n : start.G
     told_rest = λ told. had.told_rest (subst (λ (s : S). g.tells_rest s) input told);
     told_written = λ tells. had.told_written (told tells);
     events_are = had.events_are;
-    printed = λ other tells. prints other tells (had.printed (λ is. unmarked (sym on ∙ is)) (told tells));
+    printed = λ other tells. prints other tells (had.printed (λ is. none_no_output (sym on ∙ is)) (told tells));
     lines = had.lines;
     line = line ∙ had.line;
-    hears = heard_then heard buffer b.mark n.waiting (length a.waiting.items) (length b.waiting.items) _ _ _ _ _ _ had.lines waits
-        (subst (λ (m : Option ScriptMark). HasHeard heard buffer m n.waiting (length a.waiting.items) (Rose n.input_faults (g.faults a.input.now)) (a.line + 1)
-            (IsRefused a.line a.waiting.items (unread_in a) (g.tells_rest a.input.now) (g.rest a.input.now)) had.lines) on had.hears);
+    hears = heard_then n.room heard buffer b.mark n.waiting (length a.waiting.items) (length b.waiting.items) _ _ _ _ _ _ had.lines waits
+        (subst (λ (m : Option ScriptMark). HasHeard n.room heard buffer m n.waiting (length a.waiting.items) (Rose n.input_faults (g.faults a.input.now)) (a.line + 1)
+        (IsRefused a.line a.waiting.items (unread_in a) (g.tells_rest a.input.now) (g.rest a.input.now)) had.lines) on had.hears);
     takes = λ told. subst (λ (s : S). Takes n.unread n.rest (unread_in b) (g.rest s) had.lines) (sym input)
         (subst (λ (u : List ℕ). Takes n.unread n.rest u (g.rest a.input.now) had.lines) (sym unread) (had.takes (subst (λ (s : S). g.tells_rest s) input told)));
   }
-    where
-      unmarked : (let none : Option ScriptMark = None in none) ≡ Some Output → ⊥
-      unmarked is = cc
 
-pub none_is : (m : Option ScriptMark) (r : Bool) → r ≡ is_some m → r ≡ false → m ≡ None
+pub none_is : {A : Type 0} (o : Option A) (r : Bool) → r ≡ is_some o → r ≡ false → o ≡ None
 none_is None r is off = refl
-none_is (Some mark) r is off = let both : true ≡ false = sym is ∙ off in cc
+none_is (Some x) r is off = let both : true ≡ false = sym is ∙ off in cc
 
 fewer_wait : (waiting : List Waiting) (since : ℕ) → falls_now waiting since ≡ true → length (drop 1 waiting) + 1 ≡ length waiting
 fewer_wait [] since falls = cc
@@ -113,6 +115,30 @@ module _ {S K N : Type 0} {g : source.Ghosts S} {h : sink.Ghosts K} (n : start.G
       (λ would long. lost_waits a.waiting.items b.waiting.items since would a.mark b.mark on lost falls fewer long)
       (λ told. subst (λ o. h.tells_written o.now) out told) f f
       (λ other told printed. subst (λ o. ArePrinted n.written (h.written o.now) f) (sym out) printed) heard into e
+
+kept_waits : (old new : Option ScriptMark) (waiting later : List Waiting) (would : ℕ) → old ≡ None → new ≡ old → later ≡ waiting → length waiting ≡ would → WaitsBy new would (length later)
+kept_waits old new waiting later would none same is long =
+    subst (λ (m : Option ScriptMark). WaitsBy m would (length later)) (sym (same ∙ none)) (ap length is ∙ long)
+
+failed_waits : (new : Option ScriptMark) (waiting later : List Waiting) (would : ℕ) → new ≡ Some Output → later ≡ waiting → length waiting ≡ would → WaitsBy new would (length later)
+failed_waits new waiting later would marked is long =
+    subst (λ (m : Option ScriptMark). WaitsBy m would (length later)) (sym marked) (ap length is ∙ long)
+
+-- calls of the sink
+module _ {S K N : Type 0} {g : source.Ghosts S} {h : sink.Ghosts K} (n : start.Ghosts N) (a b : ScriptBoard S K g h) (on : a.mark ≡ None)
+    (input : b.input ≡ a.input) (buffer : b.buffer ≡ a.buffer) (ahead : b.ahead ≡ a.ahead) (line : b.line ≡ a.line) (waiting : b.waiting ≡ a.waiting)
+    (told : h.tells_written b.out.now → h.tells_written a.out.now) where
+  pub lists_sent : (x : SentFrame) → x.peer < 256 → AreBytes x.bytes → b.mark ≡ a.mark → (h.tells_written b.out.now → h.written b.out.now ≡ h.written a.out.now ++ frame_line x)
+      → (heard : Option Event) (into : List ℕ) (e : List Received) (f : List SentFrame) → HasLists n a heard into e f → HasLists n b heard into e (f ++ x ∷ [])
+  lists_sent x peer bytes mark written heard into e f = lists_then n a b on (ap (λ i. i.now) input) (unread_by _ _ _ _ (ap (λ l. l.items) buffer) ahead) line
+      (λ would long. kept_waits a.mark b.mark a.waiting.items b.waiting.items would on mark (ap (λ w. w.items) waiting) long)
+      told f (f ++ x ∷ []) (λ other tells printed. printed_more n.written (h.written a.out.now) (h.written b.out.now) f x peer bytes (written tells) printed) heard into e
+
+  pub lists_unsent : b.mark ≡ Some Output
+      → (heard : Option Event) (into : List ℕ) (e : List Received) (f : List SentFrame) → HasLists n a heard into e f → HasLists n b heard into e f
+  lists_unsent mark heard into e f = lists_then n a b on (ap (λ i. i.now) input) (unread_by _ _ _ _ (ap (λ l. l.items) buffer) ahead) line
+      (λ would long. failed_waits b.mark a.waiting.items b.waiting.items would mark (ap (λ w. w.items) waiting) long)
+      told f f (λ other tells printed. absurd (other mark)) heard into e
 
 -- a call where only the number of receptions may be told
 pub stands_then : {S K N : Type 0} {g : source.Ghosts S} {h : sink.Ghosts K} (n : start.Ghosts N) (a b : ScriptBoard S K g h) (room over : Bool) (heard later : Option Event) (buffer more : List ℕ)

@@ -1,15 +1,30 @@
 -- The clauses of a held board's calls.
-use Rattle.std.proofs.Common.{◌≡◌, ◌≢◌, ◌⊎◌, inl, inr, ℕ, ◌+◌, ◌≤◌, ◌^◌, ◌<◌, Bool, true, false, List, [], ◌∷◌, ◌++◌, length, slice_index, Option, Some, None, refl, sym, ◌∙◌, ap, subst, arith}
+use Rattle.std.proofs.Common.{◌≡◌, ◌≢◌, ◌⊎◌, inl, inr, ℕ, ◌+◌, ◌≤◌, ◌^◌, ◌<◌, Bool, true, false, List, [], ◌∷◌, ◌++◌, length, slice_index, Option, Some, None, Err, refl, sym, ◌∙◌, ap, subst, arith}
 use Rattle.flash_traits.specs.declared.stream.Source as source
 use Rattle.flash_traits.specs.declared.stream.Sink as sink
 use Rattle.flash_traits.specs.Words.{Words}
+use Rattle.flash_traits.specs.Counts.{raised}
+use Rattle.flash_traits.specs.Causes.{HasCause}
+use Rattle.flash_traits.specs.declared.board.Fault.{Fault}
+use Rattle.flash_traits.specs.declared.board.Fault.TheVariants as fault
 use Rattle.flash_traits.specs.Losses.{Received, SentFrame, Moment, IsUpTo, Outcome, After, OnWords, ChangesWords, Elapses}
 use Rattle.script_board.specs.Boards.{words_in}
 use Rattle.script_board.specs.Lists.{moment_of}
 use Rattle.script_board.specs.declared.board.ScriptBoard.{ScriptBoard}
-use Rattle.script_replay.specs.Held.{StandsFor, HasLeft}
+use Rattle.script_replay.specs.Held.{StandsFor, HasLeft, failures}
 use Rattle.script_replay.specs.declared.start.Start as start
 use Rattle.script_replay.specs.declared.held.Held.{Held}
+
+-- a reception that fails is counted
+pub recv_fails : {T E : Type 0} (attaches old new : ℕ) (e : E) → new ≡ raised old → HasCause {T = T} {E = E} fault.Recv (failures attaches old) (failures attaches new) (Err e)
+recv_fails attaches old new e is = record { later = later; failed = omega (arith, is) }
+  where
+    later : (k : Fault) → failures attaches old k ≤ failures attaches new k
+    later fault.Attach = omega arith
+    later fault.Read = omega (arith, is)
+    later fault.Flash = omega (arith, is)
+    later fault.Recv = omega (arith, is)
+    later fault.Send = omega (arith, is)
 
 module _ {S K N : Type 0} {g : source.Ghosts S} {h : sink.Ghosts K} {n : start.Ghosts N} (old new : Held S K N g h n) where
   -- the clause of a call of the device
@@ -40,5 +55,24 @@ module _ {S K N : Type 0} {g : source.Ghosts S} {h : sink.Ghosts K} {n : start.G
     later = later;
     inside = λ t o le was. inr (left lost loses o was);
     here = λ o was. left done does o was;
+    keeps = λ none. absurd none;
+  }
+
+  -- the clause of a call of the link
+  abbrev pub HeldPasses : (Outcome → Outcome → Type 0) → (Outcome → Outcome → Type 0) → Type 0
+  HeldPasses lost done = Elapses ⊥
+      (λ (x : Held S K N g h n). moment_of x.board)
+      (λ (x : Held S K N g h n). HasLeft n x.over x.board x.heard x.buffer)
+      (λ (x : Held S K N g h n) (t : Moment). HasLeft n x.over x.board x.heard x.buffer)
+      old new lost done
+
+  pub held_passes : (lost done : Outcome → Outcome → Type 0) → IsUpTo (moment_of old.board) (moment_of new.board)
+      → ((o : Outcome) → HasLeft n new.over new.board new.heard new.buffer o → After (HasLeft n old.over old.board old.heard old.buffer) lost o)
+      → ((o : Outcome) → HasLeft n new.over new.board new.heard new.buffer o → After (HasLeft n old.over old.board old.heard old.buffer) done o)
+      → HeldPasses lost done
+  held_passes lost done later loses does = record {
+    later = later;
+    inside = λ t o le was. inr (loses o was);
+    here = does;
     keeps = λ none. absurd none;
   }

@@ -31,8 +31,6 @@ pub(crate) struct Held<'a, S: Source, K: Sink, N: Start> {
     ghost same_room: { room ≡ N.room },
     ghost on: { board.mark ≡ None → failed ≡ 0 },
     ghost unfailed: { board.mark ≡ None → slice_index board.faults 3 ≡ 0 },
-    ghost grows: { K.tells_written board.out.now
-        → length N.written ≤ length (K.written board.out.now) },
     ghost kept: { K.tells_written board.out.now
         → take (length N.written) (K.written board.out.now) ≡ N.written },
     ghost input_counts: { N.input_faults ≤ S.faults board.input.now },

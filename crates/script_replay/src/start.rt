@@ -79,14 +79,17 @@ pub trait Beginning {
 
     /// The bytes that were left to read, where the source told them.
     ghost rest: { List ℕ };
+
     ghost tells_rest: { Type 0 };
 
     /// The bytes that were printed, where the sink told them.
     ghost written: { List ℕ };
+
     ghost tells_written: { Type 0 };
 
     /// How often the source and the sink had failed.
     ghost input_faults: { ℕ };
+
     ghost output_faults: { ℕ };
 }
 
@@ -98,9 +101,14 @@ impl Beginning for Brand {
     ghost sector_bytes = { 0 };
 
     ghost rest = { [] };
+
     ghost tells_rest = { ⊥ };
+
     ghost written = { [] };
+
     ghost tells_written = { ⊥ };
+
     ghost input_faults = { 0 };
+
     ghost output_faults = { 0 };
 }

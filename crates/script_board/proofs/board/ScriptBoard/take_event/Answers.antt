@@ -22,7 +22,6 @@ lines-init g c = record {
   others = only_none c.args.self.now;
   same_input = refl;
   into = refl;
-  same_input = refl;
 }
 
 pub lines-preserved : goal.lines-preserved
@@ -49,7 +48,6 @@ lines-preserved g c =
       others = only_then c.args.self.now c.lines.self c.next_line.new.self c.lines.invariant.others c.in-Ok.ensures.others;
       same_input = c.in-Ok.ensures.same_input ∙ c.lines.invariant.same_input;
       into = c.lines.invariant.into;
-      same_input = c.in-Ok.ensures.same_input ∙ c.lines.invariant.same_input;
     }
 
 pub returns-in-LossNow-clause-took : goal.returns-in-LossNow-clause-took

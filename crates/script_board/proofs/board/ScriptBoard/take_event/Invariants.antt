@@ -21,7 +21,6 @@ invariant-lines g l = record {
   others : OnlyScript l.fn.self l.self;
   same_input : l.self.input.ghost_name ≡ l.fn.self.input.ghost_name;
   into : length l.into ≡ length l.fn.into;
-  same_input : l.self.input.ghost_name ≡ l.fn.self.input.ghost_name;
 }
 
 abbrev pub decreases-lines : goal.decreases-lines
