@@ -7,8 +7,7 @@ use Rattle.vehicle_node.specs.Standing.{Node}
 use Rattle.vehicle_node.specs.declared.Turn.{Turn}
 use Rattle.vehicle_node.specs.declared.Turn.TheVariants as turn
 use Rattle.replay.specs.Breaks.{OnStopped, OnRefused}
-use Rattle.replay.specs.Playing.{Falls, StopsSo, BreaksSo, TurnUses, PlayUses, QuietUses}
-use Rattle.replay.specs.declared.Stop.{Stop}
+use Rattle.replay.specs.Playing.{Falls, BreaksSo, TurnUses, PlayUses, QuietUses}
 use Rattle.replay.specs.declared.Break.{Break}
 use Rattle.replay.specs.declared.Break.TheVariants.{Lost, Stopped}
 use Rattle.replay.proofs.Causes.{refused_map, between_map, between_all}

@@ -20,15 +20,15 @@ pub returns-in_err-event-clause-plays : goal.returns-in_err-event-clause-plays
 returns-in_err-event-clause-plays g c =
     let passed = err_from_is_err_and c.from_residual.result c.from_residual.ensures.1 in
     rw (passed.1, passed.2) (λ told.
-        let i = c.events.invariant.plays (c.in_err-event.ensures.told told) in
-        let e = c.in_err-event.ensures.plays told in (
-          i.0 ++ e.0,
-          i.1 ++ e.1,
-          length (events_of i.0) + e.2,
-          adds_then _ _ _ _ _ _ i.0 e.0 i.1 e.1 i.2 e.3,
-          breaks_then g.P.Player.arming _ _ i.0 e.0 i.1 e.1 e.2 _ i.3 e.4,
-          breaks_off_then i.0 e.0 e.2 _ _ _ i.5 i.6 i.7 c.in_err-event.field-0.0 e.5,
-        ))
+    let i = c.events.invariant.plays (c.in_err-event.ensures.told told) in
+    let e = c.in_err-event.ensures.plays told in (
+      i.0 ++ e.0,
+      i.1 ++ e.1,
+      length (events_of i.0) + e.2,
+      adds_then _ _ _ _ _ _ i.0 e.0 i.1 e.1 i.2 e.3,
+      breaks_then g.P.Player.arming _ _ i.0 e.0 i.1 e.1 e.2 _ i.3 e.4,
+      breaks_off_then i.0 e.0 e.2 _ _ _ i.5 i.6 i.7 c.in_err-event.field-0.0 e.5,
+    ))
 
 pub returns-in-End-clause-plays : goal.returns-in-End-clause-plays
 returns-in-End-clause-plays g c = λ told.

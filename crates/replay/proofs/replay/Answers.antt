@@ -62,8 +62,8 @@ returns-in-Err-Stopped-clause-foreign g c =
     let never : Place → Type 0 = λ place. p.told c.run_once.new.player → (b : List ℕ) → Stands (p.words c.args.player.now) b → ⊥ in
     foreign_map {P = found} {Q = never} c.in-Err-Stopped.stop
     (λ place bad told b stands.
-        let i = c.runs.invariant.ended (c.in-Err-Stopped.ensures.told told) b stands in
-        never_both _ i.5.1.0 place i.5.1.1 (bad told))
+    let i = c.runs.invariant.ended (c.in-Err-Stopped.ensures.told told) b stands in
+    never_both _ i.5.1.0 place i.5.1.1 (bad told))
     (stopped_by (OnForeign found) _ c.in-Err-Stopped.stop c.in-Err-Stopped.field-0-is c.in-Err-Stopped.ensures.foreign)
 
 pub runs-preserved : goal.runs-preserved

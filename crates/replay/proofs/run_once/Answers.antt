@@ -1,4 +1,4 @@
-use Rattle.std.proofs.Common.{◌+◌, [], ◌∙◌, List, ℕ, length, subst, arith}
+use Rattle.std.proofs.Common.{◌+◌, [], ◌∙◌, ℕ, length, subst, arith}
 use Rattle.std.proofs.lemmas.Result.{err_from_is_err_and}
 use Rattle.vehicle_node.specs.Safe.{Safe}
 use Rattle.script_board.specs.Taking.{events_of}
@@ -19,15 +19,15 @@ returns-in_err-play-clause-ends g c =
     let o = c.in_ok-node.ensures in
     let passed = err_from_is_err_and c.from_residual-in_err-play.result c.from_residual-in_err-play.ensures.1 in
     rw (passed.1, passed.2) (λ told.
-        let p = c.in_err-play.ensures.plays told in
-        let o_told = c.in_err-play.ensures.told told in (
-          p.0,
-          p.1,
-          p.2,
-          adds_then _ _ _ _ _ _ [] p.0 [] p.1 (o.adds o_told) p.3,
-          λ b began. subst (λ (n : ℕ). Safe g.P.Player.arming b (events_of p.0) p.1 n (g.P.Player.words c.play.new.player)) (omega arith) (p.4 b [] [] 0 ((o.ends o_told).0 b began)),
-          subst (λ (n : ℕ). BreaksSo c.in_err-play.field-0.0 p.0 p.2 n (g.P.Player.waiting c.play.new.player)) o.uses p.5,
-        ))
+    let p = c.in_err-play.ensures.plays told in
+    let o_told = c.in_err-play.ensures.told told in (
+      p.0,
+      p.1,
+      p.2,
+      adds_then _ _ _ _ _ _ [] p.0 [] p.1 (o.adds o_told) p.3,
+      λ b began. subst (λ (n : ℕ). Safe g.P.Player.arming b (events_of p.0) p.1 n (g.P.Player.words c.play.new.player)) (omega arith) (p.4 b [] [] 0 ((o.ends o_told).0 b began)),
+      subst (λ (n : ℕ). BreaksSo c.in_err-play.field-0.0 p.0 p.2 n (g.P.Player.waiting c.play.new.player)) o.uses p.5,
+    ))
 
 pub returns-clause-ends : goal.returns-clause-ends
 returns-clause-ends g c = λ told.
