@@ -51,6 +51,11 @@ fn ended<T: Drop>(mark: Option<ScriptMark>, answer: Result<T, NodeError>) -> Res
     }
 }
 
+/// A buffer for one datagram.
+fn empty_buffer() -> [u8; DATAGRAM_BYTES] {
+    [0; DATAGRAM_BYTES]
+}
+
 /// Opens a node over the board in the place.
 fn open_on<'a, S: Source, K: Sink, N: Start>(
     alloc: Global,
@@ -84,7 +89,7 @@ fn open_on<'a, S: Source, K: Sink, N: Start>(
         room: false,
         over: false,
         heard: None,
-        buffer: [0; DATAGRAM_BYTES],
+        buffer: empty_buffer(),
         failed: 0,
         attaches: 0,
         names: PhantomData::<N>,
@@ -134,12 +139,12 @@ fn event_on<'a, S: Source, K: Sink, N: Start>(
         room: true,
         over: false,
         heard: None,
-        buffer: [0; DATAGRAM_BYTES],
+        buffer: empty_buffer(),
         failed: 0,
         attaches: 0,
         names: PhantomData::<N>,
     };
-    let mut buffer = [0; DATAGRAM_BYTES];
+    let mut buffer = empty_buffer();
     let answer = node.event(&mut held, &mut buffer);
     let Held {
         board,
@@ -188,7 +193,7 @@ fn close_on<'a, S: Source, K: Sink, N: Start>(
         room: false,
         over: false,
         heard: None,
-        buffer: [0; DATAGRAM_BYTES],
+        buffer: empty_buffer(),
         failed: 0,
         attaches: 0,
         names: PhantomData::<N>,
