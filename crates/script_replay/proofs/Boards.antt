@@ -127,5 +127,5 @@ module _ {S K N : Type 0} {g : source.Ghosts S} {h : sink.Ghosts K} (n : start.G
 pub events_same : (room : Bool) (heard : Option Event) (buffer : List ℕ) (m : Option ScriptMark) (before now : ℕ) (faulted refused : Type 0) (next : ℕ) (lines : List ScriptLine)
     → HasHeard room heard buffer m before now faulted next refused lines → events_of lines ≡ events_heard heard buffer
 events_same room None buffer m before now faulted refused next lines (inl (none, waits)) = ap events_of none
-events_same room None buffer m before now faulted refused next lines (inr (open, un, waits)) = no_events-unheard None m 0 lines faulted next refused un
+events_same room None buffer m before now faulted refused next lines (inr (has_room, un, waits)) = no_events-unheard None m 0 lines faulted next refused un
 events_same room (Some heard) buffer m before now faulted refused next lines hears = events-heard heard buffer lines hears.0
