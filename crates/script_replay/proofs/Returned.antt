@@ -1,5 +1,5 @@
 -- What one call leaves of the board that was held for it.
-use Rattle.std.proofs.Common.{◌≡◌, ◌≢◌, ℕ, ◌+◌, ◌≤◌, Bool, true, false, List, [], ◌++◌, length, Option, Some, None, Result, Ok, Err, IfOk, refl, sym, ◌∙◌, ap, subst, arith}
+use Rattle.std.proofs.Common.{◌≡◌, ◌≢◌, ℕ, ◌+◌, ◌≤◌, Bool, true, false, List, [], ◌++◌, length, Option, Some, None, Result, Ok, Err, IfOk, OnOk, refl, sym, ◌∙◌, ap, subst, arith}
 use Rattle.flash_traits.specs.Budget.{budget_of}
 use Rattle.flash_traits.specs.Causes.{Rose}
 use Rattle.flash_traits.specs.Losses.{Received, SentFrame, Outcome, After}
@@ -40,6 +40,10 @@ pub opened : {B : Type 0} (g : board.Ghosts B) (b : B) (before : Words) (size : 
     → IfOk a (λ node. ((bytes : List ℕ) → Stands before bytes → StandsForRun node bytes [] [] 0) × (node.budget ≡ budget_of size))
 opened g b before size (Ok node) is stands fits = (stands tt, fits.budget ∙ ap budget_of is)
 opened g b before size (Err e) is stands fits = tt
+
+pub closed : (P : Type 0) (a : Result (Unit {0}) NodeError) → OnOk a (Unit {0} → P) → IfOk a (λ t. P)
+closed P (Ok t) is = is tt
+closed P (Err e) is = tt
 
 module _ {S K N : Type 0} {g : source.Ghosts S} {h : sink.Ghosts K} (n : start.Ghosts N) (held : Held S K N g h n) where
   pub returned : (e : List Received) (f : List SentFrame) → HasLists n held.board held.heard held.buffer e f → Returns n (Some held.board)
