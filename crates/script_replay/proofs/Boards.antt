@@ -85,8 +85,11 @@ by_result was budget b e f m o (Err x) after = subst (λ (k : ℕ). After was (S
 module _ {S K N : Type 0} {g : source.Ghosts S} {h : sink.Ghosts K} (n : start.Ghosts N) where
   -- at its start nothing was received or printed
   pub begins : (b : ScriptBoard S K g h) (buffer : List ℕ) → b.mark ≡ None → b.line ≡ n.line → length b.waiting.items ≡ n.waiting → unread_in b ≡ n.unread
-      → g.rest b.input.now ≡ n.rest → h.written b.out.now ≡ n.written → HasLists n b None buffer [] []
-  begins b buffer mark line waiting unread rest written = record {
+      → g.rest b.input.now ≡ n.rest → h.written b.out.now ≡ n.written → (g.tells_rest b.input.now → n.tells_rest) → (h.tells_written b.out.now → n.tells_written)
+      → HasLists n b None buffer [] []
+  begins b buffer mark line waiting unread rest written told_rest told_written = record {
+    told_rest = told_rest;
+    told_written = told_written;
     events_are = refl;
     printed = λ un told. (written ∙ sym (append-nil n.written), tt);
     lines = [];
@@ -124,5 +127,5 @@ module _ {S K N : Type 0} {g : source.Ghosts S} {h : sink.Ghosts K} (n : start.G
 pub events_same : (room : Bool) (heard : Option Event) (buffer : List ℕ) (m : Option ScriptMark) (before now : ℕ) (faulted refused : Type 0) (next : ℕ) (lines : List ScriptLine)
     → HasHeard room heard buffer m before now faulted next refused lines → events_of lines ≡ events_heard heard buffer
 events_same room None buffer m before now faulted refused next lines (inl (none, waits)) = ap events_of none
-events_same room None buffer m before now faulted refused next lines (inr (open, un, waits)) = no_events-unheard None m 0 lines faulted next refused un
+events_same room None buffer m before now faulted refused next lines (inr (has_room, un, waits)) = no_events-unheard None m 0 lines faulted next refused un
 events_same room (Some heard) buffer m before now faulted refused next lines hears = events-heard heard buffer lines hears.0

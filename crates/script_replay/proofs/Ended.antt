@@ -43,16 +43,16 @@ module _ {T : Type 0} where
   no_fault (Err (Worn count)) Kinds other x y f0 f1 before now why = tt
 
   -- the causes of a stop
-  pub on_foreign : (P : Place → Type 0) (m : Option ScriptMark) (a : Result T NodeError) → IfErr a (λ e. refusals.OnForeign e P) → IfErr (ended m a) (OnStopped (OnForeign P))
-  on_foreign P (Some Lost) a why = tt
-  on_foreign P (Some (Refused line)) a why = tt
-  on_foreign P (Some Input) a why = tt
-  on_foreign P (Some Output) a why = tt
-  on_foreign P None (Ok v) why = tt
-  on_foreign P None (Err Memory) why = tt
-  on_foreign P None (Err (Failing kind)) why = tt
-  on_foreign P None (Err (Foreign region offset word)) why = why
-  on_foreign P None (Err (Worn count)) why = tt
+  pub on_foreign : (P Q : Place → Type 0) → ((p : Place) → Q p → P p) → (m : Option ScriptMark) (a : Result T NodeError) → IfErr a (λ e. refusals.OnForeign e Q) → IfErr (ended m a) (OnStopped (OnForeign P))
+  on_foreign P Q so (Some Lost) a why = tt
+  on_foreign P Q so (Some (Refused line)) a why = tt
+  on_foreign P Q so (Some Input) a why = tt
+  on_foreign P Q so (Some Output) a why = tt
+  on_foreign P Q so None (Ok v) why = tt
+  on_foreign P Q so None (Err Memory) why = tt
+  on_foreign P Q so None (Err (Failing kind)) why = tt
+  on_foreign P Q so None (Err (Foreign region offset word)) why = so _ why
+  on_foreign P Q so None (Err (Worn count)) why = tt
 
   pub on_worn : (P Q : ℕ → Type 0) → ((count : ℕ) → Q count → P count) → (m : Option ScriptMark) (a : Result T NodeError) → IfErr a (λ e. refusals.OnWorn e Q) → IfErr (ended m a) (OnStopped (OnWorn P))
   on_worn P Q so (Some Lost) a why = tt
@@ -148,7 +148,7 @@ module _ (budget : ℕ) (old new : Node) (events : List Received) (frames : List
   event_ends None (Err (Worn count)) goes safe = safe
 
 pub close_ends : (budget : ℕ) (node : Node) (now : Words) (m : Option ScriptMark) (a : Result (Unit {0}) NodeError)
-    → IfOk a (λ t. CloseEnds {Unit {0}} {Break} budget (Ok tt) node now) → Breaks budget node [] [] 0 now → CloseEnds budget (ended m a) node now
+    → IfOk a (λ t. CloseEnds {T = Unit {0}} {E = Break} budget (Ok tt) node now) → Breaks budget node [] [] 0 now → CloseEnds budget (ended m a) node now
 close_ends budget node now (Some Lost) a closed safe = safe
 close_ends budget node now (Some (Refused line)) a closed safe = safe
 close_ends budget node now (Some Input) a closed safe = safe

@@ -32,17 +32,17 @@ lost_input is = cc
 same_line : (a b : ℕ) → Some (Refused a) ≡ Some (Refused b) → b ≡ a
 same_line a b is = cc
 
-waits_refused : (m : Option ScriptMark) (line would now : ℕ) → m ≡ Some (Refused line) → WaitsBy m would now → ⊥
+pub waits_refused : (m : Option ScriptMark) (line would now : ℕ) → m ≡ Some (Refused line) → WaitsBy m would now → ⊥
 waits_refused m line would now is waits = subst (λ (n : Option ScriptMark). WaitsBy n would now) is waits
 
-waits_input : (m : Option ScriptMark) (would now : ℕ) → m ≡ Some Input → WaitsBy m would now → ⊥
+pub waits_input : (m : Option ScriptMark) (would now : ℕ) → m ≡ Some Input → WaitsBy m would now → ⊥
 waits_input m would now is waits = subst (λ (n : Option ScriptMark). WaitsBy n would now) is waits
 
 module _ (buffer : List ℕ) (m : Option ScriptMark) (before now : ℕ) (faulted refused : Type 0) (next : ℕ) (lines : List ScriptLine) where
   -- a call that has no room for a reception takes no line, where it received nothing
   pub quiet : (heard : Option Event) (room : Bool) → [] ≡ events_heard heard buffer → room ≡ false → HasHeard room heard buffer m before now faulted next refused lines → (lines ≡ []) × WaitsBy m before now
   quiet None room none shut (inl only) = only
-  quiet None room none shut (inr (open, un, waits)) = absurd (closed (sym shut ∙ open))
+  quiet None room none shut (inr (has_room, un, waits)) = absurd (closed (sym shut ∙ has_room))
   quiet (Some heard) room none shut hears = absurd (empty _ none)
 
   refused_by : (line : ℕ) → m ≡ Some (Refused line) → IsUnheard None m 0 lines faulted next refused → (line ≡ next) × refused
@@ -52,7 +52,7 @@ module _ (buffer : List ℕ) (m : Option ScriptMark) (before now : ℕ) (faulted
 
   pub refused_so : (heard : Option Event) (room : Bool) (line : ℕ) → HasHeard room heard buffer m before now faulted next refused lines → m ≡ Some (Refused line) → (line ≡ next) × refused
   refused_so None room line (inl only) is = absurd (waits_refused m line before now is only.1)
-  refused_so None room line (inr (open, un, waits)) is = refused_by line is un
+  refused_so None room line (inr (has_room, un, waits)) is = refused_by line is un
   refused_so (Some heard) room line hears is = absurd (waits_refused m line _ now is hears.1)
 
   input_by : m ≡ Some Input → IsUnheard None m 0 lines faulted next refused → faulted
@@ -62,7 +62,7 @@ module _ (buffer : List ℕ) (m : Option ScriptMark) (before now : ℕ) (faulted
 
   pub input_so : (heard : Option Event) (room : Bool) → HasHeard room heard buffer m before now faulted next refused lines → m ≡ Some Input → faulted
   input_so None room (inl only) is = absurd (waits_input m before now is only.1)
-  input_so None room (inr (open, un, waits)) is = input_by is un
+  input_so None room (inr (has_room, un, waits)) is = input_by is un
   input_so (Some heard) room hears is = absurd (waits_input m _ now is hears.1)
 
   some_by : (heard : Option Event) (room : Bool) (turn : Turn) → HasHeard room heard buffer m before now faulted next refused lines → CameBy (Ok turn) (events_heard heard buffer) → 1 ≤ length lines

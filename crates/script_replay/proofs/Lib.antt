@@ -3,7 +3,6 @@ pub mod Lists
 pub mod Hearing
 pub mod Left
 pub mod Steps
-pub mod Fits
 pub mod Ended
 pub mod Uses
 pub mod Scripts
@@ -12,3 +11,4 @@ pub mod Heard
 pub mod Played
 pub mod Remaining
 pub mod Places
+pub mod Returned

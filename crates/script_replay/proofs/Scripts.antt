@@ -61,7 +61,7 @@ behind_most event.End before lines = omega arith
 pub few_heard : (room : Bool) (heard : Option Event) (buffer : List ℕ) (m : Option ScriptMark) (before now : ℕ) (faulted refused : Type 0) (next : ℕ) (lines : List ScriptLine)
     → HasHeard room heard buffer m before now faulted next refused lines → now ≤ before + loses lines
 few_heard room None buffer m before now faulted refused next lines (inl (none, waits)) = omega (arith, waits_most m before now waits)
-few_heard room None buffer m before now faulted refused next lines (inr (open, un, waits)) = omega (arith, waits)
+few_heard room None buffer m before now faulted refused next lines (inr (has_room, un, waits)) = omega (arith, waits)
 few_heard room (Some heard) buffer m before now faulted refused next lines hears = omega (arith, waits_most m _ now hears.1, behind_most heard before lines)
 
 -- The line that is refused stays refused where what is left is told.
@@ -90,4 +90,4 @@ ahead_told line bytes unread told rest is a = record {
 pub refused_told : (line : ℕ) (waiting : List Waiting) (unread : List ℕ) (told : Type 0) (rest : List ℕ) → told → IsRefused line waiting unread told rest → IsRefused line waiting unread (Unit {0}) rest
 refused_told line waiting unread told rest is (inl many) = inl many
 refused_told line waiting unread told rest is (inr (inl none)) = inr (inl (no_line_told unread told rest is none))
-refused_told line waiting unread told rest is (inr (inr (full, call, how, bytes, ahead))) = inr (inr (full, call, how, bytes, ahead_told (LossLater call how) bytes unread told rest is ahead))
+refused_told line waiting unread told rest is (inr (inr (full, (call, how, bytes, ahead)))) = inr (inr (full, (call, how, bytes, ahead_told (LossLater call how) bytes unread told rest is ahead)))

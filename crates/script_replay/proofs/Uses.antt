@@ -21,7 +21,7 @@ use Rattle.script_replay.proofs.Ended.{finished_by}
 
 -- the node's answer tells whether the event was the end
 abbrev pub CameBy : Result Turn NodeError → List Received → Type 0
-CameBy (Ok turn) events = (event : Received) × (events ≡ event ∷ []) × ((turn ≡ turn.End) ↔ (event ≡ link.End))
+CameBy (Ok answer) events = (came : Received) × (events ≡ came ∷ []) × ((answer ≡ turn.End) ↔ (came ≡ link.End))
 CameBy (Err e) events = Unit {0}
 
 empty : (e : Received) → [] ≡ e ∷ [] → ⊥
@@ -119,7 +119,7 @@ module _ (buffer : List ℕ) (lines : List ScriptLine) (before now : ℕ) where
 
   pub turn_uses : (heard : Option Event) (a : Result Turn NodeError) (m : Option ScriptMark) (faulted refused : Type 0) (next : ℕ) → HasHeard true heard buffer m before now faulted next refused lines
       → CameBy a (events_heard heard buffer) → TurnUses (ended m a) lines (finished_by a) before now
-  turn_uses None (Ok turn) m faulted refused next hears came = absurd (empty came.0 came.1)
+  turn_uses None (Ok answer) m faulted refused next hears came = absurd (empty came.0 came.1)
   turn_uses None (Err e) m faulted refused next (inl (none, waits)) came = nothing m e none waits
   turn_uses None (Err e) m faulted refused next (inr (room, un, waits)) came = unheard m e faulted refused next un waits
   turn_uses (Some heard) a m faulted refused next hears came = by_event heard a m hears.0 hears.1 came

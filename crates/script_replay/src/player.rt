@@ -1,5 +1,5 @@
 //! The calls of a node over a script's board, for a replay.
-ghost use Rattle.std.specs.Prelude.{◌≡◌, ◌≢◌, ◌≤◌, ◌+◌, ◌++◌, [], true, false, None, Err, List, ℕ, length, IfOk, IfErr, OnOk, OnErr};
+ghost use Rattle.std.specs.Prelude.{◌≡◌, ◌≢◌, ◌⊎◌, ◌≤◌, ◌+◌, ◌++◌, [], true, false, None, Err, List, ℕ, length, IfOk, IfErr, OnOk, OnErr};
 ghost use Rattle.flash_traits.specs.Causes.{Rose};
 ghost use Rattle.flash_traits.specs.declared.numbers.TheConstants.{GUARD_HALFWORDS};
 ghost use Rattle.flash_traits.specs.Budget.{budget_of};
@@ -51,6 +51,11 @@ fn ended<T: Drop>(mark: Option<ScriptMark>, answer: Result<T, NodeError>) -> Res
     }
 }
 
+/// A buffer for one datagram.
+fn empty_buffer() -> [u8; DATAGRAM_BYTES] {
+    [0; DATAGRAM_BYTES]
+}
+
 /// Opens a node over the board in the place.
 fn open_on<'a, S: Source, K: Sink, N: Start>(
     alloc: Global,
@@ -84,7 +89,7 @@ fn open_on<'a, S: Source, K: Sink, N: Start>(
         room: false,
         over: false,
         heard: None,
-        buffer: [0; DATAGRAM_BYTES],
+        buffer: empty_buffer(),
         failed: 0,
         attaches: 0,
         names: PhantomData::<N>,
@@ -134,12 +139,12 @@ fn event_on<'a, S: Source, K: Sink, N: Start>(
         room: true,
         over: false,
         heard: None,
-        buffer: [0; DATAGRAM_BYTES],
+        buffer: empty_buffer(),
         failed: 0,
         attaches: 0,
         names: PhantomData::<N>,
     };
-    let mut buffer = [0; DATAGRAM_BYTES];
+    let mut buffer = empty_buffer();
     let answer = node.event(&mut held, &mut buffer);
     let Held {
         board,
@@ -188,7 +193,7 @@ fn close_on<'a, S: Source, K: Sink, N: Start>(
         room: false,
         over: false,
         heard: None,
-        buffer: [0; DATAGRAM_BYTES],
+        buffer: empty_buffer(),
         failed: 0,
         attaches: 0,
         names: PhantomData::<N>,
@@ -234,6 +239,8 @@ fn print_on<'a, S: Source, K: Sink, N: Start>(
 fn still_printed<T>(printed: bool, answer: &Result<T, Break>) -> bool
     ensures before { result ≡ true → printed ≡ true }
     ensures unfailed { result ≡ true → answer.now ≢ Err (breaks.Stopped stops.Output) }
+    ensures failed { result ≡ false
+        → (printed ≡ false) ⊎ (answer.now ≡ Err (breaks.Stopped stops.Output)) }
 {
     match answer {
         Err(Break::Stopped(Stop::Output)) => false,
@@ -253,7 +260,7 @@ pub(crate) struct ScriptPlayer<'a, S: Source, K: Sink, M: Beginning> {
 impl<'a, S: Source, K: Sink, M: Beginning> Player for ScriptPlayer<'a, S, K, M> {
     ghost use Rattle.script_replay.specs.Places.{HoldsAt, ToldAt, TookAt};
 
-    ghost holds = { λ p. HoldsAt M.Beginning p.place };
+    ghost holds = { λ p. HoldsAt M.Beginning p.printed p.place };
 
     ghost told = { λ p. ToldAt p.printed p.place };
 
@@ -296,8 +303,12 @@ impl<'a, S: Source, K: Sink, M: Beginning> Player for ScriptPlayer<'a, S, K, M> 
     }
 
     fn print_loss(&mut self) -> Result<(), Failed> {
-        let printed = print_on::<S, K, Brand>(&mut self.place);
-        self.printed = self.printed && printed.is_ok();
-        printed
+        match print_on::<S, K, Brand>(&mut self.place) {
+            Ok(()) => Ok(()),
+            Err(failed) => {
+                self.printed = false;
+                Err(failed)
+            }
+        }
     }
 }

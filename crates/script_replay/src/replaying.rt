@@ -1,5 +1,5 @@
 //! The whole replay, from an image and a script to the digest of the storage bytes.
-ghost use Rattle.std.specs.Prelude.{◌≡◌, ◌≢◌, ◌≤◌, ◌++◌, [], List, ℕ, length, IfOk, IfErr, OnOk, IfSome, IsSome};
+ghost use Rattle.std.specs.Prelude.{◌≡◌, ◌≢◌, ◌≤◌, ◌++◌, [], true, List, ℕ, length, IfOk, IfErr, OnOk, IfSome, IsSome};
 ghost use Rattle.flash_traits.specs.Words.{IsSectorSize};
 ghost use Rattle.flash_traits.specs.Budget.{budget_of};
 ghost use Rattle.flash_traits.specs.Causes.{Rose};
@@ -101,7 +101,7 @@ fn replay_on<'a, S: Source, K: Sink, M: Beginning>(
     place: &mut Option<ScriptBoard<'a, S, K>>,
 ) -> Result<(), Stop>
     requires begins { Begins M.Beginning place.old }
-    ensures holds { HoldsAt M.Beginning place.new }
+    ensures holds { HoldsAt M.Beginning true place.new }
     ensures replayed { OnOk result (ReplaysAt M.Beginning (words_at place.old) place.new) }
     ensures cut_short { IfErr result
         (λ stop. stop ≢ stops.Output → StopsAt M.Beginning (words_at place.old) place.new stop) }
@@ -123,14 +123,14 @@ fn replay_on<'a, S: Source, K: Sink, M: Beginning>(
     let done = replay(alloc, &mut player);
     let ScriptPlayer {
         place: after,
-        printed: _,
+        printed,
         start: _,
     } = player;
     let Some(board) = after else {
         unreachable!();
     };
     let _ = place.replace(board);
-    done
+    if printed { done } else { Err(Stop::Output) }
 }
 
 /// Runs a script over the words of an image, whose first bytes are those of an image file with
