@@ -113,3 +113,7 @@ foreign_less P Q so (Err (Stopped stops.Output)) is = tt
 -- where a line failed in a call, the sink did
 pub output_rose : {T : Type 0} (P : Type 0) (r : Result T Break) → IfErr r (OnStopped (OnOutput P)) → r ≡ Err (Stopped stops.Output) → P
 output_rose {T} P r why is = subst (λ (x : Result T Break). IfErr x (OnStopped (OnOutput P))) is why
+
+pub fails_by : {T : Type 0} (P : Type 0) (r : Result T Break) (before : Bool) → IfErr r (OnStopped (OnOutput P)) → (before ≡ false) ⊎ (r ≡ Err (Stopped stops.Output)) → (before ≡ false) ⊎ P
+fails_by P r before why (inl was) = inl was
+fails_by P r before why (inr is) = inr (output_rose P r why is)

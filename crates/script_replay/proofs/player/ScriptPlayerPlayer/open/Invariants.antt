@@ -1,0 +1,6 @@
+use Rattle.std.proofs.Common.{true, false}
+use Rattle.script_replay.proofs.Places.{now_at}
+use Rattle.script_replay.proofs.player.ScriptPlayerPlayer.open.Given as goal
+
+abbrev pub ghosts-open_on : goal.ghosts-open_on
+ghosts-open_on g a = now_at false a.place.now
