@@ -13,4 +13,6 @@ mod images;
 #[cfg(test)]
 mod memory;
 #[cfg(test)]
+mod replays;
+#[cfg(test)]
 mod texts;

@@ -49,6 +49,8 @@ session_stop stop.Link before now words bytes serves zero (inr cause) law stands
 session_stop stop.Worn before now words bytes serves zero cause law stands first on = tt
 session_stop (stop.Turns n) before now words bytes serves zero cause law stands first on = absurd (on n (λ i. stop.Turns n))
 session_stop stop.Attach before now words bytes serves zero cause law stands first on = never_rose (before Attach) (now Attach) (zero Attach) cause
+session_stop stop.Input before now words bytes serves zero cause law stands first on = serves
+session_stop (stop.Script line) before now words bytes serves zero cause law stands first on = serves
 
 -- no session has so many turns
 pub not_over : {B : Type 0} (g : Ghosts B) (budget rounds : ℕ) (before : Words) (board : B) (why : Stop) → (IsDone (Err why) → Completes g budget before ⊤ board (2 ^ 32 - 1) (Err why)) → SessionEnds → rounds ≤ 1000

@@ -2,5 +2,6 @@
 pub mod Endings
 pub mod Printing
 pub mod Progress
+pub mod Replaying
 pub mod Sessions
 pub mod Stops

@@ -1,10 +1,12 @@
-use Rattle.std.proofs.Common.{◌≡◌, ◌∙◌, ℕ, sym, subst, refl, Option, Some}
+use Rattle.std.proofs.Common.{◌≡◌, ◌∙◌, ℕ, sym, subst, refl, inl, inr, arith, Option, Some}
 use Rattle.command_line.specs.Commands.{line_of}
 use Rattle.command_line.specs.Lines.{CommandLine, gen, line_of_words}
 use Rattle.command_line.specs.declared.Command.TheVariants as command
 use Rattle.storage_cli.specs.Sessions.{PrintsSession}
 use Rattle.storage_cli.specs.Statuses.{texts, Prints}
 use Rattle.storage_cli.proofs.TextEndings.{cut_short_of, line_given}
+use Rattle.storage_cli.proofs.Completeness.{memory_complete}
+use Rattle.storage_cli.proofs.ReplayLines.{memory_prints}
 use Rattle.storage_cli.proofs.commands.run.Goals as goal
 
 pub returns-in-Ok-Some-Dump-clause-cut_short : goal.returns-in-Ok-Some-Dump-clause-cut_short
@@ -44,3 +46,29 @@ returns-in-Ok-Some-Gen-clause-generated g c = λ rounds is done.
     let line = line_of_words (texts c.args.words.now) in
     let given = line_given line a.field-0 a.field-0-0 (command.Gen a.rounds) a.ensures.value a.field-0-is a.field-0-0-is in
     subst (λ (n : ℕ). PrintsSession n (Prints g.K.Sink c.args.out.now c.run_gen.new.out)) (gen_one a.rounds rounds (sym given ∙ is)) (c.run_gen.ensures.generated done)
+
+pub returns-in-Ok-Some-Replay-clause-unread : goal.returns-in-Ok-Some-Replay-clause-unread
+returns-in-Ok-Some-Replay-clause-unread g c = λ other always.
+    let a = c.in-Ok-Some-Replay in
+    let line = line_of_words (texts c.args.words.now) in
+    absurd (other a.image.now (line_given line a.field-0 a.field-0-0 (command.Replay a.image) a.ensures.value a.field-0-is a.field-0-0-is))
+
+pub returns-in-Ok-Some-Replay-clause-lines : goal.returns-in-Ok-Some-Replay-clause-lines
+returns-in-Ok-Some-Replay-clause-lines g c = λ other always.
+    let a = c.in-Ok-Some-Replay in
+    let line = line_of_words (texts c.args.words.now) in
+    absurd (other a.image.now (line_given line a.field-0 a.field-0-0 (command.Replay a.image) a.ensures.value a.field-0-is a.field-0-0-is))
+
+pub returns-in-Ok-Some-Replay-clause-foreign : goal.returns-in-Ok-Some-Replay-clause-foreign
+returns-in-Ok-Some-Replay-clause-foreign g c = λ other is.
+    let a = c.in-Ok-Some-Replay in
+    let line = line_of_words (texts c.args.words.now) in
+    absurd (other a.image.now (line_given line a.field-0 a.field-0-0 (command.Replay a.image) a.ensures.value a.field-0-is a.field-0-0-is))
+
+pub returns-in-Ok-Some-Replay-clause-cut_short : goal.returns-in-Ok-Some-Replay-clause-cut_short
+returns-in-Ok-Some-Replay-clause-cut_short g c = λ failed told_out.
+    let a = c.in-Ok-Some-Replay in
+    let line = line_of_words (texts c.args.words.now) in
+    let ran = c.run_replay in
+    cut_short_of line (Some (line_of (command.Replay a.image))) (g.B.Board.tells ran.new.board) (g.B.Board.words c.args.board.now) (g.K.Sink.written c.args.out.now) (g.K.Sink.written ran.new.out)
+    (line_given line a.field-0 a.field-0-0 (command.Replay a.image) a.ensures.value a.field-0-is a.field-0-0-is) (inr (ran.ensures.cut_short failed told_out))
