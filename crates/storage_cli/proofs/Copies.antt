@@ -1,5 +1,6 @@
 -- Halfwords that were copied one by one, as the words of an image.
-use Rattle.std.proofs.Common.{◌≡◌, ◌∙◌, ℕ, ◌+◌, ◌*◌, ◌/◌, ◌<◌, List, length, slice_index, sym, ap, arith}
+use Rattle.std.proofs.Common.{◌≡◌, ◌∙◌, ℕ, ◌+◌, ◌*◌, ◌/◌, ◌<◌, List, length, slice_index, sym, ap, arith, Result, Ok, Err}
+use Rattle.std.specs.Prelude.{OnOk}
 use Rattle.std.proofs.lemmas.List.{ext_get_or}
 use Rattle.flash_traits.specs.Words.{Words, IsSectorSize}
 use Rattle.script_board.specs.Image.{halfword_at, halfwords_from, words_of}
@@ -23,3 +24,8 @@ regions_copied n w a b c known first second row keeps_first keeps_both =
     let s0 : halfwords_from c 0 (n / 2) ≡ w.s0 = same c a 0 (n / 2) (λ j from to. keeps_both j (omega (arith, known)) ∙ keeps_first j (omega (arith, known))) ∙ first in
     let s1 : halfwords_from c n (n / 2) ≡ w.s1 = same c b n (n / 2) (λ j from to. keeps_both j (omega (arith, known))) ∙ second in
     λ i. record { s0 = s0 i; s1 = s1 i; guard = row i }
+
+-- what holds where all was copied
+pub on_ok_map : {T E : Type 0} (r : Result T E) (P Q : Type 0) → (P → Q) → OnOk r P → OnOk r Q
+on_ok_map (Ok x) P Q f p = f p
+on_ok_map (Err e) P Q f p = tt
