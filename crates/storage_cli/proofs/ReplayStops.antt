@@ -18,7 +18,7 @@ use Rattle.storage_cli.specs.declared.stop.Stop.{Stop}
 use Rattle.storage_cli.specs.declared.stop.Stop.TheVariants as stop
 use Rattle.storage_cli.specs.declared.replaying.Replayed.{Replayed}
 use Rattle.storage_cli.specs.declared.replaying.Replayed.TheVariants as replayed
-use Rattle.storage_cli.specs.Steps.Stops.{stop_of_fault, stop_of_survey, IsFirst, IsCausedBy, StopsByCause, IsAttached}
+use Rattle.storage_cli.specs.Steps.Stops.{stop_of_fault, stop_of_survey, IsFirst, IsCausedBy, StopsByCause, StopsEarly}
 use Rattle.storage_cli.specs.Steps.Replaying.{ending_of, OnWhole, OnPrefix, OnForeign, OnInput, HasPart, IsReadStop, IsEarly, StopsBefore, StopsInside}
 use Rattle.storage_cli.proofs.Causes.{first_fault, fault_cause}
 
@@ -138,3 +138,9 @@ module _ (why : script.Stop) (result : Result Replayed Stop) (is : result ≡ en
         never_foreign = foreign;
         input = input;
       }))
+
+-- a failed read of the image is an early stop
+pub read_early : (T : Type 0) (why : Stop) → IsReadStop why → (let r : Result T Stop = Err why in StopsEarly r)
+read_early T stop.Read reads = tt
+read_early T (stop.Foreign found) reads = tt
+read_early T _ reads = absurd reads

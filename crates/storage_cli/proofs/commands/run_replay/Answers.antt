@@ -1,5 +1,6 @@
-use Rattle.std.proofs.Common.{◌≡◌, ◌≢◌, ◌∙◌, ap, sym, subst, refl, inl, inr, arith, append_assoc, take, ℕ, List, ◌++◌, ⊎_elim}
+use Rattle.std.proofs.Common.{◌≡◌, ◌≢◌, ◌⊎◌, ◌∙◌, ap, sym, subst, refl, inl, inr, arith, append_assoc, take, ℕ, List, ◌++◌, ⊎_elim}
 use Rattle.flash_traits.specs.Budget.{budget_of}
+use Rattle.flash_traits.specs.Causes.{Rose}
 use Rattle.script_replay.specs.Replays.{ReplaysWhole}
 use Rattle.storage_cli.specs.Texts.{digest_line}
 use Rattle.storage_cli.specs.Replays.{AllTell}
@@ -76,7 +77,8 @@ returns-in-Ok-Whole-clause-complete g c = λ nothing input tell b stands worn sc
 
 pub returns-in-Ok-Prefix-clause-output : goal.returns-in-Ok-Prefix-clause-output
 returns-in-Ok-Prefix-clause-output g c = λ failed.
-    subst (λ (r : Replayed). OnPrefix r _) c.in-Ok-Prefix.field-0-is c.in-Ok-Prefix.ensures.output
+    let P : Type 0 = Rose (g.K.Sink.faults c.args.out.now) (g.K.Sink.faults c.replay_on.new.out) in
+    subst (λ (r : Replayed). OnPrefix r P) c.in-Ok-Prefix.field-0-is c.in-Ok-Prefix.ensures.output
 
 pub returns-in-Ok-Prefix-clause-foreign_where : goal.returns-in-Ok-Prefix-clause-foreign_where
 returns-in-Ok-Prefix-clause-foreign_where g c = λ past told place bad. absurd (c.in-Ok-Prefix.ensures.foreign_where told place bad)
