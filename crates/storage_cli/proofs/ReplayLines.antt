@@ -1,12 +1,11 @@
 -- What a replay that stopped has printed, by its status.
-use Rattle.std.proofs.Common.{◌≡◌, ◌≢◌, ◌⊎◌, inl, inr, ℕ, List, [], ◌++◌, refl, sym, ◌∙◌, ap, subst, arith, append_assoc, Result, Ok, Err}
+use Rattle.std.proofs.Common.{◌≡◌, ◌≢◌, ◌⊎◌, inl, inr, ℕ, List, ◌++◌, refl, sym, ◌∙◌, ap, subst, arith, append_assoc, Result, Ok, Err}
 use Rattle.flash_traits.specs.Causes.{Rose}
 use Rattle.flash_traits.specs.Words.{Words}
 use Rattle.flash_traits.specs.declared.stream.Sink.{Ghosts}
 use Rattle.sector_image.specs.FirstBad.{place_of}
 use Rattle.replay.specs.declared.Stop as script
 use Rattle.replay.specs.declared.Stop.TheVariants as script_stop
-use Rattle.storage_cli.specs.declared.stop.Foreign.{Foreign}
 use Rattle.storage_cli.specs.declared.stop.Stop.{Stop}
 use Rattle.storage_cli.specs.declared.stop.Stop.TheVariants as stop
 use Rattle.storage_cli.specs.declared.replaying.Replayed.{Replayed}
@@ -121,18 +120,6 @@ prints_nothing status printed printed_last gives = record {
   worn = not_done status 7 gives (λ z. omega (arith, z)) (λ z. omega (arith, z));
   input = not_done status 9 gives (λ z. omega (arith, z)) (λ z. omega (arith, z));
   script = not_done status 11 gives (λ z. omega (arith, z)) (λ z. omega (arith, z));
-}
-
--- where memory was wanting for the words
-pub memory_prints : {K : Type 0} (k : Ghosts K) (old new : K) (status : ℕ) → Gives status 2 → (status ≢ 10 → Prints k old new (line_of_stop stop.Memory)) → PrintsReplayStatus status (Prints k old new) (PrintsLast k old new)
-memory_prints k old new status gives line = record {
-  read = λ e. absurd (other status 2 4 gives (λ z. omega (arith, z)) (λ z. omega (arith, z)) e);
-  attach = λ e. absurd (other status 2 13 gives (λ z. omega (arith, z)) (λ z. omega (arith, z)) e);
-  memory = λ e t. ([], line (λ z. omega (arith, z, e)) t);
-  foreign = λ e. absurd (other status 2 3 gives (λ z. omega (arith, z)) (λ z. omega (arith, z)) e);
-  worn = λ e. absurd (other status 2 7 gives (λ z. omega (arith, z)) (λ z. omega (arith, z)) e);
-  input = λ e. absurd (other status 2 9 gives (λ z. omega (arith, z)) (λ z. omega (arith, z)) e);
-  script = λ e. absurd (other status 2 11 gives (λ z. omega (arith, z)) (λ z. omega (arith, z)) e);
 }
 
 -- the status is one of a stop that comes before the script, or that comes inside it

@@ -1,5 +1,5 @@
 -- What a script came to over the copy of an image, said of the image.
-use Rattle.std.proofs.Common.{◌≡◌, ◌≢◌, ◌∙◌, ℕ, List, ◌++◌, sym, subst}
+use Rattle.std.proofs.Common.{◌≡◌, ℕ, List, ◌++◌, sym, subst}
 use Rattle.flash_traits.specs.Words.{Words}
 use Rattle.flash_traits.specs.Budget.{budget_of}
 use Rattle.sector_image.specs.Stands.{Stands}
@@ -26,7 +26,7 @@ module _ (told : Type 0) (words : Words) (copy : List ℕ) (size sector_bytes : 
         r.0,
         r.1,
         subst (λ (w : Words). ReplaysWhole (budget_of size) w rest_before rest_now r.0 digest) (same_words t)
-        (subst (λ (n : ℕ). ReplaysWhole (budget_of n) (words_of sector_bytes copy) rest_before rest_now r.0 digest) is_size r.2),
+            (subst (λ (n : ℕ). ReplaysWhole (budget_of n) (words_of sector_bytes copy) rest_before rest_now r.0 digest) is_size r.2),
       )
 
   pub part_run : (why : script.Stop) → told

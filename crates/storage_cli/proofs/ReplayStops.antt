@@ -1,11 +1,11 @@
 -- How a replay stops, by what its survey and its script answer.
-use Rattle.std.proofs.Common.{◌≡◌, ◌≢◌, ◌≤◌, ◌⊎◌, inl, inr, ℕ, List, ◌++◌, refl, sym, ◌∙◌, ap, subst, Result, Ok, Err}
+use Rattle.std.proofs.Common.{◌≡◌, ◌≢◌, ◌≤◌, ◌⊎◌, inr, ℕ, List, refl, sym, ◌∙◌, ap, subst, Result, Ok, Err}
 use Rattle.std.specs.Prelude.{IfOk, IfErr}
 use Rattle.flash_traits.specs.Words.{Words}
 use Rattle.flash_traits.specs.declared.board.Fault.{Fault}
 use Rattle.flash_traits.specs.declared.board.Fault.TheVariants as fault
 use Rattle.flash_traits.specs.Causes.{Rose}
-use Rattle.sector_image.specs.FirstBad.{FirstBad, Place}
+use Rattle.sector_image.specs.FirstBad.{FirstBad}
 use Rattle.sector_image.specs.Refusals as image
 use Rattle.sector_image.specs.declared.kept.SurveyError.{SurveyError}
 use Rattle.sector_image.specs.declared.kept.SurveyError.TheVariants as survey
@@ -13,7 +13,6 @@ use Rattle.replay.specs.Breaks as breaks
 use Rattle.replay.specs.declared.Stop as script
 use Rattle.replay.specs.declared.Stop.TheVariants as script_stop
 use Rattle.replay.specs.declared.Break.TheVariants.{Stopped}
-use Rattle.script_replay.specs.Replays.{ReplaysPart}
 use Rattle.storage_cli.specs.declared.stop.Stop.{Stop}
 use Rattle.storage_cli.specs.declared.stop.Stop.TheVariants as stop
 use Rattle.storage_cli.specs.declared.replaying.Replayed.{Replayed}

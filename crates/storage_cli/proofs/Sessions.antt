@@ -1,5 +1,5 @@
 -- A generated session that was run in memory.
-use Rattle.std.proofs.Common.{inl, inr, ◌⊎◌, ◌≡◌, ◌≢◌, ◌≤◌, ◌*◌, ◌-◌, ◌^◌, ℕ, List, [], length, sym, ◌∙◌, ap, subst, arith, Result, Ok, Err}
+use Rattle.std.proofs.Common.{inl, inr, ◌≡◌, ◌≢◌, ◌≤◌, ◌-◌, ◌^◌, ℕ, List, length, ◌∙◌, ap, subst, arith, Ok, Err}
 use Rattle.std.specs.Prelude.{⊤}
 use Rattle.std.proofs.lemmas.Slice.Zip.{AllZip-long}
 use Rattle.flash_traits.specs.Causes.{Rose}
@@ -20,7 +20,7 @@ use Rattle.sector_image.specs.Laws.{OneOfBoth}
 use Rattle.sector_image.specs.Stands.{Stands}
 use Rattle.session_boards.specs.Laws.{SessionEnds}
 use Rattle.session_boards.specs.declared.device.TheConstants.{SECTOR_BYTES}
-use Rattle.session_boards.specs.Session.{AreFirst, EndsOnce, HasNoEnd}
+use Rattle.session_boards.specs.Session.{AreFirst, EndsOnce}
 use Rattle.vehicle_node.specs.Frames.{IsFrameOf}
 use Rattle.storage_cli.specs.declared.stop.Served.{Served}
 use Rattle.storage_cli.specs.declared.stop.Stop.{Stop}

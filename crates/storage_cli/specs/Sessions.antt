@@ -1,5 +1,5 @@
 -- What a `gen` has done: a generated session, run in memory.
-use Rattle.std.specs.Prelude.{◌≡◌, ℕ, ◌-◌, List, length, replicate}
+use Rattle.std.specs.Prelude.{ℕ, ◌-◌, List, length, replicate}
 use Rattle.flash_traits.specs.Budget.{budget_of}
 use Rattle.flash_traits.specs.Counts.{counts}
 use Rattle.flash_traits.specs.Losses.{Received}

@@ -56,5 +56,11 @@ pub(crate) fn copy_image<B: Board>(board: &mut B, bytes: &mut [u8]) -> Result<()
     let halfwords = sector_bytes / 2;
     copy_region(board, Region::S0, halfwords, 0, bytes)?;
     copy_region(board, Region::S1, halfwords, sector_bytes as usize, bytes)?;
-    copy_region(board, Region::Guard, GUARD_HALFWORDS, 2 * sector_bytes as usize, bytes)
+    copy_region(
+        board,
+        Region::Guard,
+        GUARD_HALFWORDS,
+        2 * sector_bytes as usize,
+        bytes,
+    )
 }

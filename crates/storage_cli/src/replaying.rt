@@ -53,11 +53,7 @@ fn ending_of(why: script_replay::Stop) -> Result<Replayed, Stop>
 }
 
 /// Reads the image that is attached, and copies its words. Nothing is programmed.
-fn read_image<B: Board>(
-    board: &mut B,
-    images: &mut Images,
-    copy: &mut [u8],
-) -> Result<(), Stop>
+fn read_image<B: Board>(board: &mut B, images: &mut Images, copy: &mut [u8]) -> Result<(), Stop>
     requires attached { IsSectorSize (B.sector_bytes board.old) }
     requires whole { length copy.old ≡ IMAGE_BYTES }
     ensures stands { OnOk result (B.tells board.new

@@ -1,12 +1,10 @@
-use Rattle.std.proofs.Common.{◌≡◌, ◌∙◌, ℕ, sym, subst, refl, inl, inr, arith, Option, Some}
+use Rattle.std.proofs.Common.{◌≡◌, ◌∙◌, ℕ, sym, subst, refl, inr, Option, Some}
 use Rattle.command_line.specs.Commands.{line_of}
 use Rattle.command_line.specs.Lines.{CommandLine, gen, line_of_words}
 use Rattle.command_line.specs.declared.Command.TheVariants as command
 use Rattle.storage_cli.specs.Sessions.{PrintsSession}
 use Rattle.storage_cli.specs.Statuses.{texts, Prints}
 use Rattle.storage_cli.proofs.TextEndings.{cut_short_of, line_given}
-use Rattle.storage_cli.proofs.Completeness.{memory_complete}
-use Rattle.storage_cli.proofs.ReplayLines.{memory_prints}
 use Rattle.storage_cli.proofs.commands.run.Goals as goal
 
 pub returns-in-Ok-Some-Dump-clause-cut_short : goal.returns-in-Ok-Some-Dump-clause-cut_short

@@ -1,7 +1,7 @@
-use Rattle.std.proofs.Common.{◌≡◌, ◌∙◌, ap, sym, subst, arith, ℕ, List, ◌++◌}
+use Rattle.std.proofs.Common.{◌∙◌, ap, sym, subst, arith, ℕ, List, ◌++◌}
 use Rattle.storage_cli.specs.Texts.{Line}
 use Rattle.storage_cli.specs.Texts as texts
-use Rattle.storage_cli.proofs.Outcomes.{gen_done, gen_others, gen_stopped, not_done, prints_none, prints_stopped}
+use Rattle.storage_cli.proofs.Outcomes.{gen_done, gen_others, gen_stopped, prints_none, prints_stopped}
 use Rattle.storage_cli.proofs.TextEndings.{never_0}
 use Rattle.storage_cli.proofs.Sessions.{summary_line}
 use Rattle.storage_cli.proofs.commands.run_gen.Goals as goal

@@ -1,9 +1,5 @@
-use Rattle.std.proofs.Common.{◌≡◌, ◌≢◌, ◌⊎◌, ◌∙◌, ap, sym, subst, refl, inl, inr, arith, append_assoc, take, ℕ, List, ◌++◌, ⊎_elim}
-use Rattle.flash_traits.specs.Budget.{budget_of}
+use Rattle.std.proofs.Common.{◌≡◌, ◌≢◌, ◌⊎◌, ◌∙◌, ap, subst, refl, inl, inr, arith, append_assoc, take, ℕ, List, ◌++◌, ⊎_elim}
 use Rattle.flash_traits.specs.Causes.{Rose}
-use Rattle.script_replay.specs.Replays.{ReplaysWhole}
-use Rattle.storage_cli.specs.Texts.{digest_line}
-use Rattle.storage_cli.specs.Replays.{AllTell}
 use Rattle.storage_cli.specs.declared.replaying.Replayed.{Replayed}
 use Rattle.storage_cli.specs.declared.replaying.Replayed.TheVariants as replayed
 use Rattle.storage_cli.specs.Steps.Replaying.{OnWhole, OnPrefix}

@@ -1,4 +1,4 @@
-use Rattle.std.proofs.Common.{◌≡◌, ◌∙◌, ◌*◌, ap, sym, subst, arith, ℕ}
+use Rattle.std.proofs.Common.{◌≡◌, ◌∙◌, ap, sym, subst, ℕ}
 use Rattle.flash_traits.specs.Words.{Words, IsSectorSize}
 use Rattle.flash_traits.proofs.Moments.{reads_then}
 use Rattle.script_board.specs.Image.{words_of}

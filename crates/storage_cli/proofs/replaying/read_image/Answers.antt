@@ -1,5 +1,4 @@
-use Rattle.std.proofs.Common.{◌≡◌, ◌∙◌, sym, subst, ap, arith, ℕ}
-use Rattle.flash_traits.specs.Words.{Words}
+use Rattle.std.proofs.Common.{◌≡◌, ◌∙◌, subst, ℕ}
 use Rattle.flash_traits.proofs.Moments.{reads_then}
 use Rattle.script_board.specs.Image.{words_of}
 use Rattle.storage_cli.specs.Steps.Stops.{stop_of_fault, stop_of_survey, IsFirst}

@@ -1,6 +1,6 @@
-use Rattle.std.proofs.Common.{◌≡◌, ◌≢◌, ◌∙◌, inl, inr, [], ◌++◌, refl, sym, subst, ap, append-nil, ℕ, List, take, drop, length, arith}
+use Rattle.std.proofs.Common.{◌≡◌, ◌∙◌, inl, [], ◌++◌, refl, sym, subst, ap, append-nil, ℕ, List, take, drop, length, arith}
 use Rattle.std.proofs.lemmas.List.{take_at}
-use Rattle.flash_traits.specs.Words.{Words, IsSectorSize}
+use Rattle.flash_traits.specs.Words.{IsSectorSize}
 use Rattle.flash_traits.specs.Budget.{budget_of}
 use Rattle.script_board.specs.Image.{words_of}
 use Rattle.storage_cli.specs.Replays.{AllTell}

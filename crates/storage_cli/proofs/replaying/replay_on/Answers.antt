@@ -1,7 +1,7 @@
-use Rattle.std.proofs.Common.{◌≡◌, ◌∙◌, sym, subst}
+use Rattle.std.proofs.Common.{◌∙◌, sym, subst}
 use Rattle.flash_traits.specs.Words.{Words}
 use Rattle.sector_image.specs.FirstBad.{FirstBad}
-use Rattle.storage_cli.proofs.Formatting.{on_ok_part, size_part}
+use Rattle.storage_cli.proofs.Formatting.{on_ok_part}
 use Rattle.storage_cli.proofs.replaying.replay_on.Goals as goal
 
 pub returns-clause-foreign_where : goal.returns-clause-foreign_where
