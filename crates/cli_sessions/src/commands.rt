@@ -294,7 +294,7 @@ impl Board for Refusing {
 #[test]
 fn attaches_once_by_the_words(rt: HostRuntime) -> Result<(), Fail> {
     let alloc = rt.alloc();
-    let cases: [(&[&str], &'static str, u16, Option<u32>); 7] = [
+    let cases: [(&[&str], &'static str, u16, Option<u32>); 8] = [
         (&["serve", "a.img"], "a.img", 14_550, None),
         (&["serve", "a.img", "--port", "7"], "a.img", 7, None),
         (&["serve", "--turns=2", "--", "-a"], "-a", 14_550, None),
@@ -307,6 +307,7 @@ fn attaches_once_by_the_words(rt: HostRuntime) -> Result<(), Fail> {
         ),
         (&["dump", "a.img"], "a.img", 0, None),
         (&["report", "a.img"], "a.img", 0, None),
+        (&["replay", "a.img"], "a.img", 0, None),
     ];
     for (words, name, port, make) in cases {
         let mut board = Refusing {

@@ -1,12 +1,13 @@
 -- A command as the words say it, and the ranges that its numbers keep.
 use Rattle.std.specs.Prelude.{◌≤◌, ℕ}
 use Rattle.flash_traits.specs.Words.{IsSectorSize}
-use Rattle.command_line.specs.Lines.{CommandLine, serve, format, dump, report, gen}
+use Rattle.command_line.specs.Lines.{CommandLine, serve, replay, format, dump, report, gen}
 use Rattle.command_line.specs.declared.Command.{Command}
 use Rattle.command_line.specs.declared.Command.TheVariants as command
 
 abbrev pub line_of : Command → CommandLine
 line_of (command.Serve image port turns) = serve image.now port turns
+line_of (command.Replay image) = replay image.now
 line_of (command.Format image sector) = format image.now sector
 line_of (command.Dump image) = dump image.now
 line_of (command.Report image) = report image.now
@@ -20,6 +21,7 @@ IsFormatSize n = IsSectorSize n
 -- there are 1 to 1,000 rounds
 abbrev pub IsInRange : Command → Type 0
 IsInRange (command.Serve image port turns) = (1 ≤ port) × (1 ≤ turns)
+IsInRange (command.Replay image) = Unit {0}
 IsInRange (command.Format image sector) = IsFormatSize sector
 IsInRange (command.Dump image) = Unit {0}
 IsInRange (command.Report image) = Unit {0}

@@ -16,6 +16,8 @@ use Rattle.command_line.specs.Numbers.{number_given, number_in, only}
 pub data CommandLine : Type 0 where
   -- IMAGE, the UDP port and the number of turns
   serve : Text → ℕ → ℕ → CommandLine
+  -- IMAGE
+  replay : Text → CommandLine
   -- IMAGE and the bytes of a sector
   format : Text → ℕ → CommandLine
   -- IMAGE
@@ -65,9 +67,16 @@ abbrev pub format_from : Option (List Argument) → Option CommandLine
 format_from None = None
 format_from (Some args) = format_says (operands args) (values_of (codes "sector") args)
 
--- `dump IMAGE` and `report IMAGE`
+-- `replay IMAGE`, `dump IMAGE` and `report IMAGE`
 abbrev pub no_options : List Text
 no_options = []
+
+abbrev pub replay_says : List Text → Option CommandLine
+replay_says images = option_map replay (only images)
+
+abbrev pub replay_from : Option (List Argument) → Option CommandLine
+replay_from None = None
+replay_from (Some args) = replay_says (operands args)
 
 abbrev pub dump_says : List Text → Option CommandLine
 dump_says images = option_map dump (only images)
@@ -95,11 +104,12 @@ gen_from (Some args) = gen_says (operands args)
 abbrev pub line_of_command : Text → List Text → Option CommandLine
 line_of_command first rest =
     if bytes_eq first (codes "serve") then serve_from (arguments serve_options None rest)
+    else (if bytes_eq first (codes "replay") then replay_from (arguments no_options None rest)
     else (if bytes_eq first (codes "format") then format_from (arguments format_options None rest)
     else (if bytes_eq first (codes "dump") then dump_from (arguments no_options None rest)
     else (if bytes_eq first (codes "report") then report_from (arguments no_options None rest)
     else (if bytes_eq first (codes "gen") then gen_from (arguments no_options None rest)
-    else None))))
+    else None)))))
 
 abbrev pub line_from : Option Text → List Text → Option CommandLine
 line_from None rest = None

@@ -4,7 +4,7 @@
 ghost use Rattle.std.specs.Prelude.{◌≡◌, IfOk, IfSome, None, map, option_map, drop, codes};
 ghost use Rattle.command_line.specs.Arguments.{arguments};
 ghost use Rattle.command_line.specs.Commands.{IsFormatSize, IsInRange, line_of};
-ghost use Rattle.command_line.specs.Lines.{dump_from, dump_says, format_from, format_options, format_says, line_of_words, no_options, report_from, report_says, format_size_in, gen_from, gen_says, serve_from, serve_options, serve_says};
+ghost use Rattle.command_line.specs.Lines.{dump_from, dump_says, format_from, format_options, format_says, line_of_words, no_options, replay_from, replay_says, report_from, report_says, format_size_in, gen_from, gen_says, serve_from, serve_options, serve_says};
 ghost use Rattle.command_line.specs.Matches.{texts_of};
 
 mod number;
@@ -27,6 +27,11 @@ pub enum Command<'a> {
         port: u16,
         /// How many events are served at most, from 1; 4294967295 where no number is given.
         turns: u32,
+    },
+    /// `replay IMAGE`: run a script over a copy of the image in memory.
+    Replay {
+        /// The image file's name.
+        image: &'a str,
     },
     /// `format IMAGE [--sector S]`: make a fresh image.
     Format {
@@ -136,6 +141,30 @@ fn format<'a>(alloc: Global, words: &'a [&'a str]) -> Result<Option<Command<'a>>
 
 static NO_OPTIONS: [&str; 0] = [];
 
+/// What the matches of `replay` say.
+fn replay_said<'a>(matches: &ArgMatches<'a>) -> Option<Command<'a>>
+    ensures value { option_map line_of result ≡ replay_says (texts_of matches.now (codes "IMAGE")) }
+    ensures ranges { IfSome result IsInRange }
+{
+    let Some(image) = only_operand(matches) else {
+        return None;
+    };
+    Some(Command::Replay { image })
+}
+
+/// `replay IMAGE`, from all the words.
+fn replay<'a>(alloc: Global, words: &'a [&'a str]) -> Result<Option<Command<'a>>, AllocError>
+    ensures value { IfOk result (λ r. option_map line_of r
+        ≡ replay_from (arguments no_options None (drop 1 (map (λ s. s.now) words.entry.now)))) }
+    ensures ranges { IfOk result (λ r. IfSome r IsInRange) }
+{
+    match read(alloc, NO_OPTIONS.as_slice(), words) {
+        Err(error) => Err(error),
+        Ok(None) => Ok(None),
+        Ok(Some(matches)) => Ok(replay_said(&matches)),
+    }
+}
+
 /// What the matches of `dump` say.
 fn dump_said<'a>(matches: &ArgMatches<'a>) -> Option<Command<'a>>
     ensures value { option_map line_of result ≡ dump_says (texts_of matches.now (codes "IMAGE")) }
@@ -238,6 +267,9 @@ pub fn command_of<'a>(
     let first = words[0];
     if first == "serve" {
         return serve(alloc, words);
+    }
+    if first == "replay" {
+        return replay(alloc, words);
     }
     if first == "format" {
         return format(alloc, words);

@@ -2,9 +2,11 @@
 use crate::{Command, command_of};
 use std::alloc::Global;
 
-static NO_COMMAND_LINES: [&[&str]; 18] = [
+static NO_COMMAND_LINES: [&[&str]; 20] = [
     &[],
     &["print", "a"],
+    &["replay"],
+    &["replay", "a", "--turns", "1"],
     &["dump"],
     &["dump", "a", "b"],
     &["report", "a", "--port", "1"],
@@ -49,6 +51,7 @@ fn reads_the_words_of_a_user(rt: HostRuntime) {
     );
     assert!(rt; is_format(alloc, &["format", "--sector", "16384", "x"], "x", 16384));
     assert!(rt; is_format(alloc, &["format", "x"], "x", 131072));
+    assert!(rt; command_of(alloc, &["replay", "a"]) == Ok(Some(Command::Replay { image: "a" })));
     assert!(rt; command_of(alloc, &["dump", "a"]) == Ok(Some(Command::Dump { image: "a" })));
     assert!(rt;
         command_of(alloc, &["report", "--", "-a"]) == Ok(Some(Command::Report { image: "-a" }))

@@ -46,6 +46,8 @@ not_done stop.Link event done = done
 not_done stop.Worn event done = done
 not_done (stop.Turns n) event done = event
 not_done stop.Attach event done = done
+not_done stop.Input event done = done
+not_done (stop.Script line) event done = done
 
 -- what the stop of an opening is, where there is a foreign halfword and where the guard row is used up
 early_fault : (kind : Fault) → kind ≡ fault.Read → (let r : Result Served Stop = Err (stop_of_fault kind) in StopsEarly r)
@@ -112,7 +114,7 @@ fault_cause fault.Flash before now rose = rose
 fault_cause fault.Recv before now rose = inl rose
 fault_cause fault.Send before now rose = inr rose
 
-rose_later : (a b c : ℕ) → a ≤ b → Rose b c → Rose a c
+pub rose_later : (a b c : ℕ) → a ≤ b → Rose b c → Rose a c
 rose_later a b c before rose = omega arith
 
 pub node_cause : (e : NodeError) (before mid now : Fault → ℕ) (K : Fault → Type 0) → ((k : Fault) → before k ≤ mid k) → node.OnFault e (λ kind. K kind × Rose (mid kind) (now kind)) → IsCausedBy (stop_of e) before now
@@ -133,6 +135,8 @@ cause_later stop.Link before mid now earlier (inr cause) = inr (rose_later (befo
 cause_later stop.Worn before mid now earlier cause = tt
 cause_later (stop.Turns n) before mid now earlier cause = tt
 cause_later stop.Attach before mid now earlier cause = rose_later (before fault.Attach) (mid fault.Attach) (now fault.Attach) (earlier fault.Attach) cause
+cause_later stop.Input before mid now earlier cause = tt
+cause_later (stop.Script line) before mid now earlier cause = tt
 
 pub on_err : {T E : Type 0} (r : Result T E) (P : Type 0) → P → OnErr r P
 on_err (Ok x) P p = tt
@@ -162,6 +166,8 @@ serve_event stop.Link event = tt
 serve_event stop.Worn event = tt
 serve_event (stop.Turns n) event = absurd event
 serve_event stop.Attach event = tt
+serve_event stop.Input event = event
+serve_event (stop.Script line) event = event
 
 pub serve_stop : (e : NodeError) → IsServeStop (stop_of e)
 serve_stop node_error.Memory = tt
@@ -180,6 +186,8 @@ event_memory stop.Link P event = tt
 event_memory stop.Worn P event = tt
 event_memory (stop.Turns n) P event = tt
 event_memory stop.Attach P event = tt
+event_memory stop.Input P event = tt
+event_memory (stop.Script line) P event = tt
 
 pub event_first : (why : Stop) (words : Words) → IsEventStop why → IsFirst words why
 event_first stop.Words words event = tt
@@ -191,6 +199,8 @@ event_first stop.Link words event = tt
 event_first stop.Worn words event = tt
 event_first (stop.Turns n) words event = tt
 event_first stop.Attach words event = tt
+event_first stop.Input words event = tt
+event_first (stop.Script line) words event = tt
 
 pub event_foreign : (why : Stop) (P : Type 0) → IsEventStop why → OnForeign why P
 event_foreign stop.Words P event = tt
@@ -202,6 +212,8 @@ event_foreign stop.Link P event = tt
 event_foreign stop.Worn P event = tt
 event_foreign (stop.Turns n) P event = tt
 event_foreign stop.Attach P event = tt
+event_foreign stop.Input P event = tt
+event_foreign (stop.Script line) P event = tt
 
 fault_memory : (kind : Fault) (P : Type 0) → OnMemory (stop_of_fault kind) P
 fault_memory kind P = event_memory (stop_of_fault kind) P (fault_stop kind)
@@ -241,6 +253,8 @@ worn_map stop.Link Q P f q = tt
 worn_map stop.Worn Q P f q = f q
 worn_map (stop.Turns n) Q P f q = tt
 worn_map stop.Attach Q P f q = tt
+worn_map stop.Input Q P f q = tt
+worn_map (stop.Script line) Q P f q = tt
 
 -- the image as it was attached
 pub void_from : {B : Type 0} (g : Ghosts B) (words before : Words) (board : B) → (g.tells board → words ≡ before) → HasToVoid g words board → HasToVoid g before board
@@ -261,6 +275,8 @@ foreign_map stop.Link Q P f q = tt
 foreign_map stop.Worn Q P f q = tt
 foreign_map (stop.Turns n) Q P f q = tt
 foreign_map stop.Attach Q P f q = tt
+foreign_map stop.Input Q P f q = tt
+foreign_map (stop.Script line) Q P f q = tt
 
 pub foreign_in : {T : Type 0} (r : Result T Stop) (Q P : Type 0) → (Q → P) → IfErr r (λ why. OnForeign why Q) → IfErr r (λ why. OnForeign why P)
 foreign_in (Ok x) Q P f q = tt

@@ -7,9 +7,9 @@ use Rattle.flash_traits.specs.Words.{Words}
 use Rattle.sector_image.specs.Stands.{Stands}
 use Rattle.storage_cli.specs.declared.printing.ImageText.{ImageText}
 use Rattle.storage_cli.specs.declared.printing.ImageText.TheVariants as image_text
-use Rattle.storage_cli.specs.declared.status.TheConstants.{FOREIGN_WORD, NO_MEMORY, OUTPUT_FAILED, TURNS_OVER, WORN}
+use Rattle.storage_cli.specs.declared.status.TheConstants.{FOREIGN_WORD, INPUT_FAILED, NO_MEMORY, OUTPUT_FAILED, SCRIPT_REFUSED, TURNS_OVER, WORN}
 use Rattle.storage_cli.specs.Serving.{NamesForeign}
-use Rattle.storage_cli.specs.Statuses.{IsServeStatus, IsFormatStatus, IsGenStatus, TellsFaults, NothingFailed, IsDoneUnlessMemory}
+use Rattle.storage_cli.specs.Statuses.{IsServeStatus, IsReplayStatus, IsFormatStatus, IsGenStatus, TellsFaults, NothingFailed, IsDoneUnlessMemory}
 use Rattle.storage_cli.specs.Steps.Printing.{IsTextStatus}
 use Rattle.storage_cli.proofs.Causes.{never_both}
 
@@ -30,6 +30,17 @@ module _ (status : ℕ) (before now : Fault → ℕ) (output_before output_now :
   gen_complete (inr (inr (inr is))) worn = absurd (nothing.output (output is))
 
   module _ (faults : TellsFaults status before now) where
+    pub replay_complete : IsReplayStatus status → (status ≡ FOREIGN_WORD → ⊥) → status ≢ WORN → status ≢ INPUT_FAILED → status ≢ SCRIPT_REFUSED → IsDoneUnlessMemory status
+    replay_complete (inl is) foreign worn input script = inl is
+    replay_complete (inr (inl is)) foreign worn input script = inr is
+    replay_complete (inr (inr (inl is))) foreign worn input script = absurd (foreign is)
+    replay_complete (inr (inr (inr (inl is)))) foreign worn input script = absurd (nothing.board Read (faults.read is))
+    replay_complete (inr (inr (inr (inr (inl is))))) foreign worn input script = absurd (worn is)
+    replay_complete (inr (inr (inr (inr (inr (inl is)))))) foreign worn input script = absurd (input is)
+    replay_complete (inr (inr (inr (inr (inr (inr (inl is))))))) foreign worn input script = absurd (nothing.output (output is))
+    replay_complete (inr (inr (inr (inr (inr (inr (inr (inl is)))))))) foreign worn input script = absurd (script is)
+    replay_complete (inr (inr (inr (inr (inr (inr (inr (inr is)))))))) foreign worn input script = absurd (nothing.board Attach (faults.attach is))
+
     pub serve_complete : IsServeStatus status → (status ≡ FOREIGN_WORD → ⊥) → status ≢ WORN → IsDoneUnlessMemory status ⊎ (status ≡ TURNS_OVER)
     serve_complete (inl is) foreign worn = inl (inl is)
     serve_complete (inr (inl is)) foreign worn = inl (inr is)

@@ -52,6 +52,8 @@ module _ {B : Type 0} (g : Ghosts B) (budget : ℕ) (board : B) (before : Words)
   no_stop n stop.Worn is zero = omega (arith, is, zero)
   no_stop n (stop.Turns m) is zero = omega (arith, is, zero)
   no_stop n stop.Attach is zero = omega (arith, is, zero)
+  no_stop n stop.Input is zero = omega (arith, is, zero)
+  no_stop n (stop.Script line) is zero = omega (arith, is, zero)
 
   pub serves_stopped : (why : Stop) → Gives status (status_of_stop why) → (IsDone (Err why) → Completes g budget before ⊤ board turns (Err why)) → (status ≡ 0) ⊎ (status ≡ 8)
       → Serves budget (g.has_lists board) (g.tells board) before (g.words board) turns status printed

@@ -1,5 +1,5 @@
 -- A fresh image stands for zeros.
-use Rattle.std.proofs.Common.{inl, inr, ◌/◌, ◌≡◌, ℕ, zero, suc, ◌<◌, List, [], ◌∷◌, length, replicate, slice_set, refl, sym, ◌∙◌, ap, arith, get_or, rules}
+use Rattle.std.proofs.Common.{inl, inr, ◌/◌, ◌≡◌, ℕ, suc, [], ◌∷◌, length, replicate, slice_set, refl, sym, ◌∙◌, ap, arith, rules}
 use Rattle.std.specs.List.{All}
 use Rattle.std.proofs.lemmas.List.{length-replicate, get_or-replicate}
 use Rattle.flash_traits.specs.Words.{Words, HasShape, IsSectorSize}
@@ -11,10 +11,10 @@ use Rattle.flash_traits.specs.declared.numbers.TheConstants.{ERASED, SIGNATURE, 
 use Rattle.flash_traits.specs.Marks.{mark_word}
 use Rattle.guard_row.specs.Row.{IsGuardRow}
 use Rattle.sector_log.specs.Storage.{storage_bytes}
-use Rattle.sector_log.specs.Entries.{Entry, IsEntry}
+use Rattle.sector_log.specs.Entries.{IsEntry}
 use Rattle.sector_log.specs.Sector.{IsSector}
 use Rattle.sector_log.specs.Bytes.{IsValue}
-use Rattle.sector_image.specs.Stands.{Stands, Reading, Both, IsBoth}
+use Rattle.sector_image.specs.Stands.{Stands, Both}
 use Rattle.session_boards.specs.Device.{fresh}
 use Rattle.session_boards.specs.Sizes.{begun}
 use Rattle.storage_cli.specs.Sessions.{zeros, fresh_bytes}

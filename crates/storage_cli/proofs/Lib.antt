@@ -10,3 +10,7 @@ pub mod TextEndings
 pub mod Completeness
 pub mod FreshImage
 pub mod Sessions
+pub mod Copies
+pub mod ReplayStops
+pub mod ReplayLines
+pub mod ReplayRuns

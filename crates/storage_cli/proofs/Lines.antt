@@ -15,3 +15,5 @@ line_is stop.Link = texts.Link
 line_is stop.Worn = texts.Worn
 line_is (stop.Turns n) = texts.Turns n
 line_is stop.Attach = texts.Attach
+line_is stop.Input = texts.Input
+line_is (stop.Script line) = texts.Script line

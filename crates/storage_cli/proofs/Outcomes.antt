@@ -21,109 +21,54 @@ other status own n (inl is) a b e = a (sym is ∙ e)
 other status own n (inr is) a b e = b (sym is ∙ e)
 
 -- where the output didn't fail it is that of the ending
-own_is : (status own n : ℕ) → Gives status own → 10 ≢ n → status ≡ n → own ≡ n
+pub own_is : (status own n : ℕ) → Gives status own → 10 ≢ n → status ≡ n → own ≡ n
 own_is status own n (inl is) b e = sym is ∙ e
 own_is status own n (inr is) b e = absurd (b (sym is ∙ e))
 
 -- each status is that of one ending
 is_words : (why : Stop) → status_of_stop why ≡ 1 → why ≡ stop.Words
 is_words stop.Words e = refl
-is_words stop.Memory e = absurd (omega (arith, e))
-is_words (stop.Foreign found) e = absurd (omega (arith, e))
-is_words stop.Read e = absurd (omega (arith, e))
-is_words stop.Flash e = absurd (omega (arith, e))
-is_words stop.Link e = absurd (omega (arith, e))
-is_words stop.Worn e = absurd (omega (arith, e))
-is_words (stop.Turns n) e = absurd (omega (arith, e))
-is_words stop.Attach e = absurd (omega (arith, e))
+is_words _ e = absurd (omega (arith, e))
 
 is_memory : (why : Stop) → status_of_stop why ≡ 2 → why ≡ stop.Memory
-is_memory stop.Words e = absurd (omega (arith, e))
 is_memory stop.Memory e = refl
-is_memory (stop.Foreign found) e = absurd (omega (arith, e))
-is_memory stop.Read e = absurd (omega (arith, e))
-is_memory stop.Flash e = absurd (omega (arith, e))
-is_memory stop.Link e = absurd (omega (arith, e))
-is_memory stop.Worn e = absurd (omega (arith, e))
-is_memory (stop.Turns n) e = absurd (omega (arith, e))
-is_memory stop.Attach e = absurd (omega (arith, e))
+is_memory _ e = absurd (omega (arith, e))
 
 is_foreign : (why : Stop) → status_of_stop why ≡ 3 → (found : Foreign) × (why ≡ stop.Foreign found)
-is_foreign stop.Words e = absurd (omega (arith, e))
-is_foreign stop.Memory e = absurd (omega (arith, e))
 is_foreign (stop.Foreign found) e = (found, refl)
-is_foreign stop.Read e = absurd (omega (arith, e))
-is_foreign stop.Flash e = absurd (omega (arith, e))
-is_foreign stop.Link e = absurd (omega (arith, e))
-is_foreign stop.Worn e = absurd (omega (arith, e))
-is_foreign (stop.Turns n) e = absurd (omega (arith, e))
-is_foreign stop.Attach e = absurd (omega (arith, e))
+is_foreign _ e = absurd (omega (arith, e))
 
 is_read : (why : Stop) → status_of_stop why ≡ 4 → why ≡ stop.Read
-is_read stop.Words e = absurd (omega (arith, e))
-is_read stop.Memory e = absurd (omega (arith, e))
-is_read (stop.Foreign found) e = absurd (omega (arith, e))
 is_read stop.Read e = refl
-is_read stop.Flash e = absurd (omega (arith, e))
-is_read stop.Link e = absurd (omega (arith, e))
-is_read stop.Worn e = absurd (omega (arith, e))
-is_read (stop.Turns n) e = absurd (omega (arith, e))
-is_read stop.Attach e = absurd (omega (arith, e))
+is_read _ e = absurd (omega (arith, e))
 
 is_flash : (why : Stop) → status_of_stop why ≡ 5 → why ≡ stop.Flash
-is_flash stop.Words e = absurd (omega (arith, e))
-is_flash stop.Memory e = absurd (omega (arith, e))
-is_flash (stop.Foreign found) e = absurd (omega (arith, e))
-is_flash stop.Read e = absurd (omega (arith, e))
 is_flash stop.Flash e = refl
-is_flash stop.Link e = absurd (omega (arith, e))
-is_flash stop.Worn e = absurd (omega (arith, e))
-is_flash (stop.Turns n) e = absurd (omega (arith, e))
-is_flash stop.Attach e = absurd (omega (arith, e))
+is_flash _ e = absurd (omega (arith, e))
 
 is_link : (why : Stop) → status_of_stop why ≡ 6 → why ≡ stop.Link
-is_link stop.Words e = absurd (omega (arith, e))
-is_link stop.Memory e = absurd (omega (arith, e))
-is_link (stop.Foreign found) e = absurd (omega (arith, e))
-is_link stop.Read e = absurd (omega (arith, e))
-is_link stop.Flash e = absurd (omega (arith, e))
 is_link stop.Link e = refl
-is_link stop.Worn e = absurd (omega (arith, e))
-is_link (stop.Turns n) e = absurd (omega (arith, e))
-is_link stop.Attach e = absurd (omega (arith, e))
+is_link _ e = absurd (omega (arith, e))
 
 is_worn : (why : Stop) → status_of_stop why ≡ 7 → why ≡ stop.Worn
-is_worn stop.Words e = absurd (omega (arith, e))
-is_worn stop.Memory e = absurd (omega (arith, e))
-is_worn (stop.Foreign found) e = absurd (omega (arith, e))
-is_worn stop.Read e = absurd (omega (arith, e))
-is_worn stop.Flash e = absurd (omega (arith, e))
-is_worn stop.Link e = absurd (omega (arith, e))
 is_worn stop.Worn e = refl
-is_worn (stop.Turns n) e = absurd (omega (arith, e))
-is_worn stop.Attach e = absurd (omega (arith, e))
+is_worn _ e = absurd (omega (arith, e))
 
 is_turns : (why : Stop) → status_of_stop why ≡ 8 → (n : ℕ) × (why ≡ stop.Turns n)
-is_turns stop.Words e = absurd (omega (arith, e))
-is_turns stop.Memory e = absurd (omega (arith, e))
-is_turns (stop.Foreign found) e = absurd (omega (arith, e))
-is_turns stop.Read e = absurd (omega (arith, e))
-is_turns stop.Flash e = absurd (omega (arith, e))
-is_turns stop.Link e = absurd (omega (arith, e))
-is_turns stop.Worn e = absurd (omega (arith, e))
 is_turns (stop.Turns n) e = (n, refl)
-is_turns stop.Attach e = absurd (omega (arith, e))
+is_turns _ e = absurd (omega (arith, e))
+
+is_input : (why : Stop) → status_of_stop why ≡ 9 → why ≡ stop.Input
+is_input stop.Input e = refl
+is_input _ e = absurd (omega (arith, e))
+
+is_script : (why : Stop) → status_of_stop why ≡ 11 → (n : ℕ) × (why ≡ stop.Script n)
+is_script (stop.Script n) e = (n, refl)
+is_script _ e = absurd (omega (arith, e))
 
 is_attach : (why : Stop) → status_of_stop why ≡ 13 → why ≡ stop.Attach
-is_attach stop.Words e = absurd (omega (arith, e))
-is_attach stop.Memory e = absurd (omega (arith, e))
-is_attach (stop.Foreign found) e = absurd (omega (arith, e))
-is_attach stop.Read e = absurd (omega (arith, e))
-is_attach stop.Flash e = absurd (omega (arith, e))
-is_attach stop.Link e = absurd (omega (arith, e))
-is_attach stop.Worn e = absurd (omega (arith, e))
-is_attach (stop.Turns n) e = absurd (omega (arith, e))
 is_attach stop.Attach e = refl
+is_attach _ e = absurd (omega (arith, e))
 
 -- the statuses of a serve and of a format
 pub serve_done : (status : ℕ) → Gives status 0 → IsServeStatus status
@@ -141,6 +86,8 @@ serve_stopped status stop.Link serves (inl is) = inr (inr (inr (inr (inr (inl is
 serve_stopped status stop.Worn serves (inl is) = inr (inr (inr (inr (inr (inr (inl is))))))
 serve_stopped status (stop.Turns n) serves (inl is) = inr (inr (inr (inr (inr (inr (inr (inl is)))))))
 serve_stopped status stop.Attach serves (inl is) = inr (inr (inr (inr (inr (inr (inr (inr (inr is))))))))
+serve_stopped status stop.Input serves (inl is) = absurd serves
+serve_stopped status (stop.Script line) serves (inl is) = absurd serves
 
 pub format_stopped : (status : ℕ) (why : Stop) → IsFormatStop why → Gives status (status_of_stop why) → IsFormatStatus status
 format_stopped status why formats (inr is) = inr (inr (inr (inl is)))
@@ -153,6 +100,8 @@ format_stopped status stop.Link formats (inl is) = absurd formats
 format_stopped status stop.Worn formats (inl is) = absurd formats
 format_stopped status (stop.Turns n) formats (inl is) = absurd formats
 format_stopped status stop.Attach formats (inl is) = inr (inr (inr (inr is)))
+format_stopped status stop.Input formats (inl is) = absurd formats
+format_stopped status (stop.Script line) formats (inl is) = absurd formats
 
 pub format_others : (status : ℕ) (why : Stop) → IsFormatStop why → Gives status (status_of_stop why) → (status ≢ 2) × (status ≢ 3) × (status ≢ 7)
 format_others status why formats (inr is) = (λ e. omega (arith, is, e), λ e. omega (arith, is, e), λ e. omega (arith, is, e))
@@ -165,6 +114,8 @@ format_others status stop.Link formats (inl is) = absurd formats
 format_others status stop.Worn formats (inl is) = absurd formats
 format_others status (stop.Turns n) formats (inl is) = absurd formats
 format_others status stop.Attach formats (inl is) = (λ e. omega (arith, is, e), λ e. omega (arith, is, e), λ e. omega (arith, is, e))
+format_others status stop.Input formats (inl is) = absurd formats
+format_others status (stop.Script line) formats (inl is) = absurd formats
 
 -- the statuses of a gen
 pub gen_done : (status : ℕ) → Gives status 0 → IsGenStatus status
@@ -182,6 +133,8 @@ gen_stopped status stop.Link stops (inl is) = absurd stops
 gen_stopped status stop.Worn stops (inl is) = inr (inr (inl is))
 gen_stopped status (stop.Turns n) stops (inl is) = absurd stops
 gen_stopped status stop.Attach stops (inl is) = absurd stops
+gen_stopped status stop.Input stops (inl is) = absurd stops
+gen_stopped status (stop.Script line) stops (inl is) = absurd stops
 
 gen_other : (status n : ℕ) → IsGenStatus status → 0 ≢ n → 2 ≢ n → 7 ≢ n → 10 ≢ n → status ≢ n
 gen_other status n (inl is) a b c d e = a (sym is ∙ e)
@@ -252,6 +205,12 @@ module _ (status : ℕ) (why : Stop) (gives : Gives status (status_of_stop why))
   pub ends_attach : status ≡ 13 → why ≡ stop.Attach
   ends_attach e = is_attach why (own_is status (status_of_stop why) 13 gives (λ z. omega (arith, z)) e)
 
+  pub ends_input : status ≡ 9 → why ≡ stop.Input
+  ends_input e = is_input why (own_is status (status_of_stop why) 9 gives (λ z. omega (arith, z)) e)
+
+  pub ends_script : status ≡ 11 → (n : ℕ) × (why ≡ stop.Script n)
+  ends_script e = is_script why (own_is status (status_of_stop why) 11 gives (λ z. omega (arith, z)) e)
+
   pub faults_stopped : (before now : Fault → ℕ) → IsCausedBy why before now → TellsFaults status before now
   faults_stopped before now cause = record {
     attach = λ e. subst (λ (w : Stop). IsCausedBy w before now) (ends_attach e) cause;
@@ -303,19 +262,23 @@ attached T status before now stop.Worn gives cause past = tt
 attached T status before now (stop.Turns n) gives cause past = tt
 attached T status before now stop.Attach (inl is) cause past = past.attach is
 attached T status before now stop.Attach (inr is) cause past = past.output is cause
+attached T status before now stop.Input gives cause past = tt
+attached T status before now (stop.Script line) gives cause past = tt
 
 -- what an early stop and a used up guard row leave for the status
-pub stops_early : (status : ℕ) (why : Stop) → Gives status (status_of_stop why) → (let r : Result Served Stop = Err why in StopsEarly r) → status ≢ 13 → (status ≡ 2) ⊎ (status ≡ 3) ⊎ (status ≡ 4) ⊎ (status ≡ 10)
-stops_early status why (inr is) early past = inr (inr (inr is))
-stops_early status stop.Memory (inl is) early past = inl is
-stops_early status (stop.Foreign found) (inl is) early past = inr (inl is)
-stops_early status stop.Read (inl is) early past = inr (inr (inl is))
-stops_early status stop.Attach (inl is) early past = absurd (past is)
-stops_early status stop.Words (inl is) early past = absurd early
-stops_early status stop.Flash (inl is) early past = absurd early
-stops_early status stop.Link (inl is) early past = absurd early
-stops_early status stop.Worn (inl is) early past = absurd early
-stops_early status (stop.Turns n) (inl is) early past = absurd early
+pub stops_early : (T : Type 0) (status : ℕ) (why : Stop) → Gives status (status_of_stop why) → (let r : Result T Stop = Err why in StopsEarly r) → status ≢ 13 → (status ≡ 2) ⊎ (status ≡ 3) ⊎ (status ≡ 4) ⊎ (status ≡ 10)
+stops_early T status why (inr is) early past = inr (inr (inr is))
+stops_early T status stop.Memory (inl is) early past = inl is
+stops_early T status (stop.Foreign found) (inl is) early past = inr (inl is)
+stops_early T status stop.Read (inl is) early past = inr (inr (inl is))
+stops_early T status stop.Attach (inl is) early past = absurd (past is)
+stops_early T status stop.Input (inl is) early past = absurd early
+stops_early T status (stop.Script line) (inl is) early past = absurd early
+stops_early T status stop.Words (inl is) early past = absurd early
+stops_early T status stop.Flash (inl is) early past = absurd early
+stops_early T status stop.Link (inl is) early past = absurd early
+stops_early T status stop.Worn (inl is) early past = absurd early
+stops_early T status (stop.Turns n) (inl is) early past = absurd early
 
 pub stops_worn : (status : ℕ) (why : Stop) → Gives status (status_of_stop why) → (let r : Result Served Stop = Err why in StopsWorn r) → status ≢ 13 → (status ≡ 2) ⊎ (status ≡ 4) ⊎ (status ≡ 5) ⊎ (status ≡ 7) ⊎ (status ≡ 10)
 stops_worn status why (inr is) worn past = inr (inr (inr (inr is)))
@@ -324,6 +287,8 @@ stops_worn status stop.Read (inl is) worn past = inr (inl is)
 stops_worn status stop.Flash (inl is) worn past = inr (inr (inl is))
 stops_worn status stop.Worn (inl is) worn past = inr (inr (inr (inl is)))
 stops_worn status stop.Attach (inl is) worn past = absurd (past is)
+stops_worn status stop.Input (inl is) worn past = absurd worn
+stops_worn status (stop.Script line) (inl is) worn past = absurd worn
 stops_worn status stop.Words (inl is) worn past = absurd worn
 stops_worn status (stop.Foreign found) (inl is) worn past = absurd worn
 stops_worn status stop.Link (inl is) worn past = absurd worn

@@ -21,7 +21,8 @@ use Rattle.vehicle_node.specs.Standing.{Node, StandsAt, StandsForRun, StaysWithi
 use Rattle.storage_cli.specs.declared.stop.Served.{Served}
 use Rattle.storage_cli.specs.declared.stop.Stop.{Stop}
 use Rattle.storage_cli.specs.declared.stop.Stop.TheVariants as stop
-use Rattle.storage_cli.specs.Serving.{IsWhole, HasToVoid, is_armed_after_events}
+use Rattle.replay.specs.Histories.{IsWhole}
+use Rattle.storage_cli.specs.Serving.{HasToVoid, is_armed_after_events}
 use Rattle.storage_cli.specs.Steps.Guard.{WearsSince, WearsFrom}
 use Rattle.storage_cli.specs.Steps.Progress.{IsSafe, IsSafeRun, Finishes, Completes, EndsSo, WasArmedSince}
 use Rattle.storage_cli.proofs.FewerEvents.{one_fewer, safe_none}

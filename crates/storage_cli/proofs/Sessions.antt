@@ -23,7 +23,7 @@ use Rattle.sector_image.specs.Laws.{OneOfBoth}
 use Rattle.sector_image.specs.Stands.{Stands}
 use Rattle.session_boards.specs.Laws.{SessionEnds}
 use Rattle.session_boards.specs.declared.device.TheConstants.{SECTOR_BYTES}
-use Rattle.session_boards.specs.Session.{AreFirst, EndsOnce, HasNoEnd}
+use Rattle.session_boards.specs.Session.{AreFirst, EndsOnce}
 use Rattle.vehicle_node.specs.Frames.{IsFrameOf}
 use Rattle.vehicle_node.specs.Runs.{run_of}
 use Rattle.storage_cli.specs.declared.stop.Served.{Served}
@@ -55,6 +55,8 @@ session_stop stop.Link before now words bytes serves zero (inr cause) law stands
 session_stop stop.Worn before now words bytes serves zero cause law stands first on = tt
 session_stop (stop.Turns n) before now words bytes serves zero cause law stands first on = absurd (on n (λ i. stop.Turns n))
 session_stop stop.Attach before now words bytes serves zero cause law stands first on = never_rose (before Attach) (now Attach) (zero Attach) cause
+session_stop stop.Input before now words bytes serves zero cause law stands first on = serves
+session_stop (stop.Script line) before now words bytes serves zero cause law stands first on = serves
 
 -- no session has so many turns
 pub not_over : {B : Type 0} (g : Ghosts B) (budget rounds : ℕ) (before : Words) (board : B) (why : Stop) → (IsDone (Err why) → Completes g budget before ⊤ board (2 ^ 32 - 1) (Err why)) → SessionEnds → rounds ≤ 1000

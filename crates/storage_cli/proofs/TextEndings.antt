@@ -115,6 +115,8 @@ module _ (n : ℕ) where
   text_stopped image_text.Dump stop.Worn stops (inl is) = absurd stops
   text_stopped image_text.Dump (stop.Turns count) stops (inl is) = absurd stops
   text_stopped image_text.Dump stop.Attach stops (inl is) = inr (inr (inr (inr (inr is))))
+  text_stopped image_text.Dump stop.Input stops (inl is) = absurd stops
+  text_stopped image_text.Dump (stop.Script line) stops (inl is) = absurd stops
   text_stopped image_text.Report stop.Words stops (inl is) = absurd stops
   text_stopped image_text.Report stop.Memory stops (inl is) = inr (inl is)
   text_stopped image_text.Report (stop.Foreign found) stops (inl is) = absurd stops
@@ -124,6 +126,8 @@ module _ (n : ℕ) where
   text_stopped image_text.Report stop.Worn stops (inl is) = absurd stops
   text_stopped image_text.Report (stop.Turns count) stops (inl is) = absurd stops
   text_stopped image_text.Report stop.Attach stops (inl is) = inr (inr (inr (inr is)))
+  text_stopped image_text.Report stop.Input stops (inl is) = absurd stops
+  text_stopped image_text.Report (stop.Script line) stops (inl is) = absurd stops
 
   -- a dump that stopped after its attach
   pub dump_stopped : (text : ImageText) (why : Stop) → IsTextStop text why → Gives n (status_of_stop why) → n ≢ 13 → (n ≡ 2) ⊎ (n ≡ 3) ⊎ (n ≡ 4) ⊎ (n ≡ 10)
@@ -137,6 +141,8 @@ module _ (n : ℕ) where
   dump_stopped text stop.Worn stops (inl is) past = absurd stops
   dump_stopped text (stop.Turns count) stops (inl is) past = absurd stops
   dump_stopped text stop.Attach stops (inl is) past = absurd (past is)
+  dump_stopped text stop.Input stops (inl is) past = absurd stops
+  dump_stopped text (stop.Script line) stops (inl is) past = absurd stops
 
   -- no stop has status 0
   pub never_0 : (why : Stop) → Gives n (status_of_stop why) → n ≡ 0 → ⊥
@@ -150,6 +156,8 @@ module _ (n : ℕ) where
   never_0 stop.Worn (inl is) e = omega (arith, is, e)
   never_0 (stop.Turns count) (inl is) e = omega (arith, is, e)
   never_0 stop.Attach (inl is) e = omega (arith, is, e)
+  never_0 stop.Input (inl is) e = omega (arith, is, e)
+  never_0 (stop.Script line) (inl is) e = omega (arith, is, e)
 
 -- the command that the words are
 pub line_given : (line : Option CommandLine) (r : Option Command) (some command : Command) → option_map line_of r ≡ line → r ≡ Some some → some ≡ command → line ≡ Some (line_of command)

@@ -5,28 +5,16 @@ use Rattle.flash_traits.specs.declared.board.Board.{Ghosts}
 use Rattle.dirty_lines.specs.Lines.{Lines}
 use Rattle.dirty_lines.specs.Losses.{IsWornForNext}
 use Rattle.flash_traits.specs.Losses.{Received, SentFrame, Moment}
-use Rattle.storage_lines.specs.Lines.{after}
 use Rattle.sector_image.specs.FirstBad.{Place, FirstBad}
 use Rattle.sector_image.specs.Stands.{Stands, IsUsedUp}
 use Rattle.vehicle_core.specs.Acts.{Act}
 use Rattle.vehicle_node.specs.Arming.{is_armed_after_all, IsArmedOnce}
-use Rattle.vehicle_node.specs.Frames.{AreFramesOf}
 use Rattle.vehicle_node.specs.Reading.{Reads, no_rests}
-use Rattle.vehicle_node.specs.Runs.{run_of}
 use Rattle.flash_traits.specs.Counts.{counts}
+use Rattle.replay.specs.Histories.{IsWhole}
 use Rattle.session_boards.specs.Session.{HasNoEnd, EndsOnce}
 use Rattle.storage_cli.specs.declared.status.TheConstants.{DONE, TURNS_OVER}
 use Rattle.storage_cli.specs.Texts.{foreign_line, served_line}
-
--- The whole run over these events, from these bytes and with this arming budget: the frames are all
--- its answers, and the words stand for the bytes with all of its lines.
-pub record IsWhole (budget : ℕ) (b : List ℕ) (events : List Received) (frames : List SentFrame)
-    (words : Words) : Type 0 where
-  pub acts : List (List Act)
-  pub rests : List (List ℕ)
-  pub reads : Reads no_rests events acts rests
-  pub all_answers : AreFramesOf (run_of budget b acts).answers frames
-  pub all_lines : Stands words (after b (run_of budget b acts).issued)
 
 -- What a `serve` of so many turns has done that came to the end or to the last of its turns,
 -- between the words of its attach and those of its end. `has_lists` and `told` are what the board

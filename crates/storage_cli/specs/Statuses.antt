@@ -7,10 +7,10 @@ use Rattle.flash_traits.specs.Causes.{Rose}
 use Rattle.flash_traits.specs.declared.stream.Sink.{Ghosts}
 use Rattle.command_line.specs.Arguments.{Text}
 use Rattle.flash_traits.specs.Words.{Words}
-use Rattle.command_line.specs.Lines.{CommandLine, serve, format, dump, report, gen, line_of_words}
+use Rattle.command_line.specs.Lines.{CommandLine, serve, replay, format, dump, report, gen, line_of_words}
 use Rattle.image_report.specs.Dumps.{IsDump}
 use Rattle.image_report.specs.Reports.{IsReport}
-use Rattle.storage_cli.specs.declared.status.TheConstants.{ATTACH_FAILED, DONE, FLASH_FAILED, FOREIGN_WORD, LINK_FAILED, NO_COMMAND, NO_MEMORY, OUTPUT_FAILED, READ_FAILED, TURNS_OVER, WORN}
+use Rattle.storage_cli.specs.declared.status.TheConstants.{ATTACH_FAILED, DONE, FLASH_FAILED, FOREIGN_WORD, INPUT_FAILED, LINK_FAILED, NO_COMMAND, NO_MEMORY, OUTPUT_FAILED, READ_FAILED, SCRIPT_REFUSED, TURNS_OVER, WORN}
 use Rattle.storage_cli.specs.Texts.{words_line, memory_line, read_line, flash_line, link_line, worn_line, attach_line}
 
 -- the texts that words point to
@@ -22,6 +22,11 @@ abbrev pub IsServeStatus : ℕ → Type 0
 IsServeStatus n = (n ≡ DONE) ⊎ (n ≡ NO_MEMORY) ⊎ (n ≡ FOREIGN_WORD) ⊎ (n ≡ READ_FAILED)
     ⊎ (n ≡ FLASH_FAILED) ⊎ (n ≡ LINK_FAILED) ⊎ (n ≡ WORN) ⊎ (n ≡ TURNS_OVER)
     ⊎ (n ≡ OUTPUT_FAILED) ⊎ (n ≡ ATTACH_FAILED)
+
+abbrev pub IsReplayStatus : ℕ → Type 0
+IsReplayStatus n = (n ≡ DONE) ⊎ (n ≡ NO_MEMORY) ⊎ (n ≡ FOREIGN_WORD) ⊎ (n ≡ READ_FAILED)
+    ⊎ (n ≡ WORN) ⊎ (n ≡ INPUT_FAILED) ⊎ (n ≡ OUTPUT_FAILED) ⊎ (n ≡ SCRIPT_REFUSED)
+    ⊎ (n ≡ ATTACH_FAILED)
 
 abbrev pub IsFormatStatus : ℕ → Type 0
 IsFormatStatus n = (n ≡ DONE) ⊎ (n ≡ NO_MEMORY) ⊎ (n ≡ FLASH_FAILED) ⊎ (n ≡ OUTPUT_FAILED)
@@ -42,6 +47,7 @@ IsGenStatus n = (n ≡ DONE) ⊎ (n ≡ NO_MEMORY) ⊎ (n ≡ WORN) ⊎ (n ≡ O
 abbrev pub IsStatusOf : Option CommandLine → ℕ → Type 0
 IsStatusOf None n = (n ≡ NO_COMMAND) ⊎ (n ≡ NO_MEMORY) ⊎ (n ≡ OUTPUT_FAILED)
 IsStatusOf (Some (serve image port turns)) n = IsServeStatus n
+IsStatusOf (Some (replay image)) n = IsReplayStatus n
 IsStatusOf (Some (format image sector_bytes)) n = IsFormatStatus n
 IsStatusOf (Some (dump image)) n = IsDumpStatus n
 IsStatusOf (Some (report image)) n = IsReportStatus n
@@ -74,12 +80,22 @@ abbrev pub OnServe : List Text → Type 0 → (ℕ → Type 0) → Type 0
 OnServe words condition P = (image : Text) (port turns : ℕ)
     → line_of_words words ≡ Some (serve image port turns) → condition → P turns
 
+-- what holds of a `replay` on this condition
+abbrev pub OnReplay : List Text → Type 0 → Type 0 → Type 0
+OnReplay words condition P = (image : Text) → line_of_words words ≡ Some (replay image)
+    → condition → P
+
+-- what holds on this condition where the words are no `replay`
+abbrev pub OnOthers : List Text → Type 0 → Type 0 → Type 0
+OnOthers words condition P = ((image : Text) → line_of_words words ≡ Some (replay image) → ⊥)
+    → condition → P
+
 -- what holds of a `format` on this condition, by its sector size
 abbrev pub OnFormat : List Text → Type 0 → (ℕ → Type 0) → Type 0
 OnFormat words condition P = (image : Text) (sector_bytes : ℕ)
     → line_of_words words ≡ Some (format image sector_bytes) → condition → P sector_bytes
 
--- what holds of a `dump` on this condition, of a `report`, and of both
+-- what holds of a `dump` on this condition, and of a `report`
 abbrev pub OnDump : List Text → Type 0 → Type 0 → Type 0
 OnDump words condition P = (image : Text) → line_of_words words ≡ Some (dump image) → condition → P
 
@@ -87,8 +103,10 @@ abbrev pub OnReport : List Text → Type 0 → Type 0 → Type 0
 OnReport words condition P = (image : Text) → line_of_words words ≡ Some (report image)
     → condition → P
 
-abbrev pub OnDumpOrReport : List Text → Type 0 → Type 0 → Type 0
-OnDumpOrReport words condition P = OnDump words condition P × OnReport words condition P
+-- what holds on this condition of the commands that only read the image
+abbrev pub OnReading : List Text → Type 0 → Type 0 → Type 0
+OnReading words condition P =
+    OnDump words condition P × OnReport words condition P × OnReplay words condition P
 
 -- what holds of a `gen` on this condition, by its rounds
 abbrev pub OnGen : List Text → Type 0 → (ℕ → Type 0) → Type 0
@@ -107,7 +125,7 @@ pub record TellsFaults (status : ℕ) (before now : Fault → ℕ) : Type 0 wher
 abbrev pub Prints : {K : Type 0} → Ghosts K → K → K → List ℕ → Type 0
 Prints g old new text = g.tells_written new → g.written new ≡ g.written old ++ text
 
--- the line of each status that says no more than itself
+-- the line of each status that says no more than itself, where it is all that is printed
 pub record PrintsStatus (status : ℕ) (printed : List ℕ → Type 0) : Type 0 where
   pub words : status ≡ NO_COMMAND → printed words_line
   pub memory : status ≡ NO_MEMORY → printed memory_line
@@ -126,12 +144,14 @@ pub record IsCutShort (IsText : List ℕ → Type 0) (written_before written_now
   pub written : written_now ≡ written_before ++ take count text
 
 -- A `dump` or a `report` of these words was cut short in its text. It is known what that text is
--- where the words are told.
+-- where the words are told. A `replay` has printed some text when the output failed.
 abbrev pub IsTextCutShort : Option CommandLine → Type 0 → Words → List ℕ → List ℕ → Type 0
 IsTextCutShort (Some (dump image)) told words written_before written_now =
     told → IsCutShort (IsDump words) written_before written_now
 IsTextCutShort (Some (report image)) told words written_before written_now =
     told → IsCutShort (IsReport words) written_before written_now
+IsTextCutShort (Some (replay image)) told words written_before written_now =
+    (text : List ℕ) × (written_now ≡ written_before ++ text)
 IsTextCutShort _ told words written_before written_now = ⊥
 
 -- no call of the board or of the output failed: no count of failed calls rose

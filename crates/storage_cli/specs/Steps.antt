@@ -3,5 +3,6 @@ pub mod Endings
 pub mod Guard
 pub mod Printing
 pub mod Progress
+pub mod Replaying
 pub mod Sessions
 pub mod Stops

@@ -29,6 +29,10 @@ link_line = with_newline (codes "error 6 link")
 abbrev pub worn_line : List ℕ
 worn_line = with_newline (codes "error 7 worn 8192")
 
+-- where a read of the input failed
+abbrev pub input_line : List ℕ
+input_line = with_newline (codes "error 9 input")
+
 -- where the attach failed
 abbrev pub attach_line : List ℕ
 attach_line = with_newline (codes "error 13 attach")
@@ -42,6 +46,14 @@ foreign_line region offset word =
 -- where so many turns are over
 abbrev pub turns_line : ℕ → List ℕ
 turns_line turns = with_newline (codes "error 8 turns " ++ decimal turns)
+
+-- where the script's line of this number, from 1 on, is refused
+abbrev pub script_line : ℕ → List ℕ
+script_line line = with_newline (codes "error 11 line " ++ decimal line)
+
+-- the digest of the storage bytes at the end of a replay
+abbrev pub digest_line : List ℕ → List ℕ
+digest_line digest = with_newline (codes "bytes " ++ encode_lower digest)
 
 -- how many events came before the end, and how many frames were sent
 abbrev pub served_line : ℕ → ℕ → List ℕ
@@ -68,6 +80,8 @@ pub data Line : List ℕ → Type 0 where
   Worn : Line worn_line
   Turns : (turns : ℕ) → Line (turns_line turns)
   Attach : Line attach_line
+  Input : Line input_line
+  Script : (line : ℕ) → Line (script_line line)
   Served : (events frames : ℕ) → Line (served_line events frames)
   Session : (rounds events frames lines : ℕ) (digest : List ℕ)
       → Line (session_line rounds events frames lines digest)

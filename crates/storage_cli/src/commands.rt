@@ -13,9 +13,10 @@ ghost use Rattle.vehicle_node.specs.Safe.{Safe};
 ghost use Rattle.image_report.specs.Dumps.{IsDump};
 ghost use Rattle.image_report.specs.Reports.{IsReport};
 ghost use Rattle.image_report.specs.Writes.{WritesOne};
-ghost use Rattle.storage_cli.specs.Texts.{Line, turns_line};
+ghost use Rattle.storage_cli.specs.Texts.{Line, memory_line, turns_line};
 ghost use Rattle.storage_cli.specs.Fresh.{IsFreshImage};
-ghost use Rattle.storage_cli.specs.Statuses.{texts, IsStatusOf, IsServeStatus, IsFormatStatus, IsPastAttach, IsUnasked, OnServe, OnFormat, OnDump, OnReport, OnDumpOrReport, PrintsStatus, Prints, IsCutShort, IsTextCutShort, IsForeignStatus, IsWornStatus, IsGenStatus, IsDoneUnlessMemory, NothingFailed, OnGen};
+ghost use Rattle.storage_cli.specs.Statuses.{texts, IsStatusOf, IsServeStatus, IsReplayStatus, IsFormatStatus, IsPastAttach, IsUnasked, OnServe, OnReplay, OnOthers, OnFormat, OnDump, OnReport, OnReading, TellsFaults, PrintsStatus, Prints, IsCutShort, IsTextCutShort, IsForeignStatus, IsWornStatus, IsGenStatus, IsDoneUnlessMemory, NothingFailed, OnGen};
+ghost use Rattle.storage_cli.specs.Replays.{AllTell, PrintsWhole, PrintsPart, PrintsLast, PrintsReplayStatus};
 ghost use Rattle.storage_cli.specs.Steps.Endings.{Ends};
 ghost use Rattle.storage_cli.specs.Steps.Stops.{status_of_stop, line_of_stop};
 ghost use Rattle.storage_cli.specs.Steps.Printing.{IsTextOf, IsTextStatus};
@@ -25,13 +26,14 @@ ghost use Rattle.storage_cli.specs.Serving.{Serves, NamesForeign, HasToVoid, IsL
 use crate::format::format;
 use crate::generating::generate;
 use crate::printing::{ImageText, print_text, status_of_printed};
+use crate::replaying::{Replayed, replay_on};
 use crate::serving::serve;
 use crate::status::{
-    ATTACH_FAILED, DONE, FLASH_FAILED, FOREIGN_WORD, LINK_FAILED, NO_COMMAND, NO_MEMORY,
-    OUTPUT_FAILED, READ_FAILED, Status, TURNS_OVER, WORN,
+    ATTACH_FAILED, DONE, FLASH_FAILED, FOREIGN_WORD, INPUT_FAILED, LINK_FAILED, NO_COMMAND,
+    NO_MEMORY, OUTPUT_FAILED, READ_FAILED, SCRIPT_REFUSED, Status, TURNS_OVER, WORN,
 };
 use crate::stop::Stop;
-use crate::texts::{line_of_stop, served_line, session_line};
+use crate::texts::{digest_line, line_of_stop, served_line, session_line};
 use command_line::{Command, command_of};
 use flash_traits::{Board, Sink, Source};
 use std::alloc::{AllocError, Global};
@@ -44,6 +46,7 @@ fn print<K: Sink>(out: &mut K, line: &[u8], status: u8) -> Status
     ensures line { result.0 ≢ OUTPUT_FAILED → Prints K.Sink out.old out.new line.now }
     ensures cut { result.0 ≡ OUTPUT_FAILED → K.tells_written out.new
         → (count : ℕ) × (K.written out.new ≡ K.written out.old ++ take count line.now) }
+    ensures told { K.tells_written out.new → K.tells_written out.old }
 {
     match out.write_all(line) {
         Ok(()) => Status(status),
@@ -58,6 +61,7 @@ fn print_stop<K: Sink>(out: &mut K, stop: Stop) -> Status
     ensures line { result.0 ≢ OUTPUT_FAILED → Prints K.Sink out.old out.new (line_of_stop stop) }
     ensures cut { result.0 ≡ OUTPUT_FAILED → K.tells_written out.new
         → IsCutShort Line (K.written out.old) (K.written out.new) }
+    ensures told { K.tells_written out.new → K.tells_written out.old }
 {
     let line = line_of_stop(stop);
     print(out, line.as_slice(), stop.status())
@@ -110,6 +114,62 @@ fn run_serve<B: Board, K: Sink>(
             let line = served_line(served);
             print(out, line.as_slice(), DONE)
         }
+        Err(stop) => print_stop(out, stop),
+    }
+}
+
+/// `replay`.
+fn run_replay<B: Board, S: Source, K: Sink>(
+    alloc: Global,
+    board: &mut B,
+    input: &mut S,
+    out: &mut K,
+    image: &str,
+) -> Status
+    ensures known { IsReplayStatus result.0 }
+    ensures faults { TellsFaults result.0 (B.faults board.old) (B.faults board.new) }
+    ensures input_fault { result.0 ≡ INPUT_FAILED → Rose (S.faults input.old) (S.faults input.new) }
+    ensures output { result.0 ≡ OUTPUT_FAILED → Rose (K.faults out.old) (K.faults out.new) }
+    ensures lines { PrintsReplayStatus result.0 (Prints K.Sink out.old out.new)
+        (PrintsLast K.Sink out.old out.new) }
+    ensures cut_short { result.0 ≡ OUTPUT_FAILED → K.tells_written out.new
+        → (text : List ℕ) × (K.written out.new ≡ K.written out.old ++ text) }
+    ensures unread { (result.0 ≡ READ_FAILED) ⊎ (result.0 ≡ ATTACH_FAILED)
+        → input.new ≡ input.old }
+    ensures foreign { result.0 ≡ FOREIGN_WORD
+        → AllTell B.Board S.Source K.Sink board.new input.new out.new
+        → NamesForeign (B.tells board.new) (B.words board.old) (Prints K.Sink out.old out.new) }
+    ensures foreign_where { IsPastAttach result.0 (B.faults board.old) (B.faults board.new)
+        → B.tells board.new → (place : Place) → FirstBad (B.words board.old) place
+        → IsForeignStatus result.0 }
+    ensures same_words { IsPastAttach result.0 (B.faults board.old) (B.faults board.new)
+        → B.tells board.new → B.words board.new ≡ B.words board.old }
+    ensures moment { B.moment board.new ≡ B.moment board.old }
+    ensures replayed { result.0 ≡ DONE → AllTell B.Board S.Source K.Sink board.new input.new out.new
+        → PrintsWhole (budget_of (B.sector_bytes board.new)) (B.words board.old)
+        (S.rest input.old) (S.rest input.new) (K.written out.old) (K.written out.new) }
+    ensures stopped { (result.0 ≡ WORN) ⊎ (result.0 ≡ INPUT_FAILED) ⊎ (result.0 ≡ SCRIPT_REFUSED)
+        → AllTell B.Board S.Source K.Sink board.new input.new out.new
+        → PrintsPart (budget_of (B.sector_bytes board.new)) (B.words board.old)
+        (S.rest input.old) (S.rest input.new) (K.written out.old) (K.written out.new) result.0 }
+    ensures memory { result.0 ≡ NO_MEMORY
+        → AllTell B.Board S.Source K.Sink board.new input.new out.new
+        → ((input.new ≡ input.old) × (K.written out.new ≡ K.written out.old ++ memory_line))
+        ⊎ PrintsPart (budget_of (B.sector_bytes board.new)) (B.words board.old)
+        (S.rest input.old) (S.rest input.new) (K.written out.old) (K.written out.new) NO_MEMORY }
+    ensures complete { NothingFailed (B.faults board.old) (B.faults board.new)
+        (K.faults out.old) (K.faults out.new)
+        → (Rose (S.faults input.old) (S.faults input.new) → ⊥)
+        → AllTell B.Board S.Source K.Sink board.new input.new out.new
+        → (b : List ℕ) → Stands (B.words board.old) b
+        → result.0 ≢ WORN → result.0 ≢ SCRIPT_REFUSED → IsDoneUnlessMemory result.0 }
+{
+    match replay_on(alloc, board, image, input, out) {
+        Ok(Replayed::Whole(digest)) => {
+            let line = digest_line(digest);
+            print(out, line.as_slice(), DONE)
+        }
+        Ok(Replayed::Prefix) => Status(OUTPUT_FAILED),
         Err(stop) => print_stop(out, stop),
     }
 }
@@ -211,12 +271,15 @@ fn run_gen<K: Sink>(alloc: Global, out: &mut K, rounds: u16) -> Status
 ///
 /// `serve IMAGE [--port P] [--turns N]` attaches the image and serves it to up to eight ground
 /// stations, until the end comes or N events are finished; the lines that wait are then put.
+/// `replay IMAGE` runs the script of the input over a copy of the image in memory, and prints the
+/// frames, the losses and the digest of the storage bytes; the image itself is only read.
 /// `format IMAGE [--sector S]` makes a fresh image. `dump IMAGE` prints what an image stands for,
 /// and `report IMAGE` how each part of any image is. `gen N` runs a generated session of N rounds
-/// in memory, and asks nothing of the board. None reads the input.
+/// in memory, and asks nothing of the board. Only a replay reads the input.
 ///
-/// The words are tested first, then the attach, then the image, and then come the events. Memory is
-/// taken while the words are read and before an image is first read.
+/// The words are tested first, then the attach, then the image, and then come the events or the
+/// lines of the script. Memory is taken while the words are read, before an image is first read,
+/// and at each opening of a replay.
 pub fn run<'a, B: Board, S: Source, K: Sink>(
     alloc: Global,
     words: &'a [&'a str],
@@ -231,7 +294,9 @@ pub fn run<'a, B: Board, S: Source, K: Sink>(
         → (result.0 ≡ NO_COMMAND) ⊎ (result.0 ≡ NO_MEMORY) ⊎ (result.0 ≡ OUTPUT_FAILED) }
     ensures untouched { line_of_words (texts words.entry.now) ≡ None → board.new ≡ board.old }
     ensures gen_untouched { OnGen (texts words.entry.now) ⊤ (λ rounds. board.new ≡ board.old) }
-    ensures unread { input.new ≡ input.old }
+    ensures unread { OnOthers (texts words.entry.now) ⊤ (input.new ≡ input.old) }
+    ensures replay_unread { OnReplay (texts words.entry.now)
+        ((result.0 ≡ READ_FAILED) ⊎ (result.0 ≡ ATTACH_FAILED)) (input.new ≡ input.old) }
 
     // A fault is told only where the count of its kind rose.
     ensures attach_fault { result.0 ≡ ATTACH_FAILED
@@ -243,11 +308,16 @@ pub fn run<'a, B: Board, S: Source, K: Sink>(
     ensures link_fault { result.0 ≡ LINK_FAILED
         → Rose (B.faults board.old Fault.Recv) (B.faults board.new Fault.Recv)
         ⊎ Rose (B.faults board.old Fault.Send) (B.faults board.new Fault.Send) }
+    ensures input_fault { result.0 ≡ INPUT_FAILED → Rose (S.faults input.old) (S.faults input.new) }
     ensures output_fault { result.0 ≡ OUTPUT_FAILED → Rose (K.faults out.old) (K.faults out.new) }
 
-    // One line is printed, by the status, or the text of a dump or a report, and nothing more where
-    // that failed.
-    ensures lines { PrintsStatus result.0 (Prints K.Sink out.old out.new) }
+    // One line is printed, by the status, or the text of a dump or a report, or what a replay comes
+    // to and then its line, and nothing more where that failed.
+    ensures lines { OnOthers (texts words.entry.now) ⊤
+        (PrintsStatus result.0 (Prints K.Sink out.old out.new)) }
+    ensures replay_lines { OnReplay (texts words.entry.now) ⊤
+        (PrintsReplayStatus result.0 (Prints K.Sink out.old out.new)
+        (PrintsLast K.Sink out.old out.new)) }
     ensures cut_short { result.0 ≡ OUTPUT_FAILED → K.tells_written out.new
         → IsCutShort Line (K.written out.old) (K.written out.new)
         ⊎ IsTextCutShort (line_of_words (texts words.entry.now)) (B.tells board.new)
@@ -261,9 +331,13 @@ pub fn run<'a, B: Board, S: Source, K: Sink>(
 
     // A foreign halfword is told exactly where there is one, unless memory is wanting, or a call or
     // the output fails. Nothing is programmed, erased, received or sent then, and where a serve
-    // finds a foreign halfword the words are left alone, whatever the status.
-    ensures foreign { result.0 ≡ FOREIGN_WORD → NamesForeign (B.tells board.new) (B.words board.old)
-        (Prints K.Sink out.old out.new) }
+    // finds a foreign halfword the words are left alone, whatever the status. Of a replay it is told
+    // only where the source and the sink tell their bytes too.
+    ensures foreign { OnOthers (texts words.entry.now) (result.0 ≡ FOREIGN_WORD)
+        (NamesForeign (B.tells board.new) (B.words board.old) (Prints K.Sink out.old out.new)) }
+    ensures replay_foreign { OnReplay (texts words.entry.now) (result.0 ≡ FOREIGN_WORD)
+        (AllTell B.Board S.Source K.Sink board.new input.new out.new
+        → NamesForeign (B.tells board.new) (B.words board.old) (Prints K.Sink out.old out.new)) }
     ensures foreign_idle { result.0 ≡ FOREIGN_WORD → B.moment board.new ≡ B.moment board.old }
     ensures foreign_where { OnServe (texts words.entry.now)
         (IsPastAttach result.0 (B.faults board.old) (B.faults board.new)) (λ turns.
@@ -274,6 +348,10 @@ pub fn run<'a, B: Board, S: Source, K: Sink>(
         B.tells board.new → (place : Place) → FirstBad (B.words board.old) place
         → IsLeftAlone B.Board board.old board.new) }
     ensures dump_foreign_where { OnDump (texts words.entry.now)
+        (IsPastAttach result.0 (B.faults board.old) (B.faults board.new))
+        (B.tells board.new → (place : Place) → FirstBad (B.words board.old) place
+        → IsForeignStatus result.0) }
+    ensures replay_foreign_where { OnReplay (texts words.entry.now)
         (IsPastAttach result.0 (B.faults board.old) (B.faults board.new))
         (B.tells board.new → (place : Place) → FirstBad (B.words board.old) place
         → IsForeignStatus result.0) }
@@ -310,6 +388,25 @@ pub fn run<'a, B: Board, S: Source, K: Sink>(
     ensures turns { OnServe (texts words.entry.now) (result.0 ≡ TURNS_OVER) (λ turns.
         Prints K.Sink out.old out.new (turns_line turns)) }
 
+    // What a replay prints, where the board, the source and the sink tell: at status 0 the lines of
+    // a history of runs over all lines of the script, and the digest of the bytes that are left; at
+    // 7, 9 and 11 those of a history that is cut short, and the line of its stop; at 2 the same, or
+    // nothing but the line, before the script is read.
+    ensures replayed { OnReplay (texts words.entry.now) (result.0 ≡ DONE)
+        (AllTell B.Board S.Source K.Sink board.new input.new out.new
+        → PrintsWhole (budget_of (B.sector_bytes board.new)) (B.words board.old)
+        (S.rest input.old) (S.rest input.new) (K.written out.old) (K.written out.new)) }
+    ensures replay_stopped { OnReplay (texts words.entry.now)
+        ((result.0 ≡ WORN) ⊎ (result.0 ≡ INPUT_FAILED) ⊎ (result.0 ≡ SCRIPT_REFUSED))
+        (AllTell B.Board S.Source K.Sink board.new input.new out.new
+        → PrintsPart (budget_of (B.sector_bytes board.new)) (B.words board.old)
+        (S.rest input.old) (S.rest input.new) (K.written out.old) (K.written out.new) result.0) }
+    ensures replay_memory { OnReplay (texts words.entry.now) (result.0 ≡ NO_MEMORY)
+        (AllTell B.Board S.Source K.Sink board.new input.new out.new
+        → ((input.new ≡ input.old) × (K.written out.new ≡ K.written out.old ++ memory_line))
+        ⊎ PrintsPart (budget_of (B.sector_bytes board.new)) (B.words board.old)
+        (S.rest input.old) (S.rest input.new) (K.written out.old) (K.written out.new) NO_MEMORY) }
+
     // What a format has made, with no event received, no frame sent and nothing printed.
     ensures formatted { OnFormat (texts words.entry.now) (result.0 ≡ DONE) (λ sector_bytes.
         B.tells board.new → IsFreshImage sector_bytes (B.words board.new)) }
@@ -333,12 +430,12 @@ pub fn run<'a, B: Board, S: Source, K: Sink>(
         (B.tells board.new → K.tells_written out.new
         → WritesOne (IsReport (B.words board.old)) (K.written out.old) (K.written out.new)) }
 
-    // Both only read: whatever the status, the words after the attach are those of the start, and
-    // nothing was programmed, erased, received or sent.
-    ensures same_words { OnDumpOrReport (texts words.entry.now)
+    // Both only read, and so does a replay: whatever the status, the words after the attach are
+    // those of the start, and nothing was programmed, erased, received or sent.
+    ensures same_words { OnReading (texts words.entry.now)
         (IsPastAttach result.0 (B.faults board.old) (B.faults board.new))
         (B.tells board.new → B.words board.new ≡ B.words board.old) }
-    ensures only_reads { OnDumpOrReport (texts words.entry.now) ⊤
+    ensures only_reads { OnReading (texts words.entry.now) ⊤
         (B.moment board.new ≡ B.moment board.old) }
 
     // What a gen prints: the summary of its session, run from a fresh image on. There is one such
@@ -352,12 +449,20 @@ pub fn run<'a, B: Board, S: Source, K: Sink>(
         WearsOut rounds) }
 
     // Where no call failed, the words are told and the image stands, a command does all of its
-    // work, unless memory is wanting; a serve may also use up its turns or the guard row.
+    // work, unless memory is wanting; a serve may also use up its turns or the guard row, and of a
+    // replay the guard row may be used up, or a line of the script refused.
     ensures serve_complete { OnServe (texts words.entry.now)
         (NothingFailed (B.faults board.old) (B.faults board.new)
         (K.faults out.old) (K.faults out.new))
         (λ turns. B.tells board.new → (b : List ℕ) → Stands (B.words board.old) b → result.0 ≢ WORN
         → IsDoneUnlessMemory result.0 ⊎ (result.0 ≡ TURNS_OVER)) }
+    ensures replay_complete { OnReplay (texts words.entry.now)
+        (NothingFailed (B.faults board.old) (B.faults board.new)
+        (K.faults out.old) (K.faults out.new))
+        ((Rose (S.faults input.old) (S.faults input.new) → ⊥)
+        → AllTell B.Board S.Source K.Sink board.new input.new out.new
+        → (b : List ℕ) → Stands (B.words board.old) b
+        → result.0 ≢ WORN → result.0 ≢ SCRIPT_REFUSED → IsDoneUnlessMemory result.0) }
     ensures format_complete { OnFormat (texts words.entry.now)
         (NothingFailed (B.faults board.old) (B.faults board.new)
         (K.faults out.old) (K.faults out.new))
@@ -376,11 +481,11 @@ pub fn run<'a, B: Board, S: Source, K: Sink>(
         (K.faults out.old) (K.faults out.new))
         (λ rounds. result.0 ≢ WORN → IsDoneUnlessMemory result.0) }
 {
-    let _ = input;
     match command_of(alloc, words) {
         Ok(Some(Command::Serve { image, port, turns })) => {
             run_serve(alloc, board, out, image, port, turns)
         }
+        Ok(Some(Command::Replay { image })) => run_replay(alloc, board, input, out, image),
         Ok(Some(Command::Format { image, sector })) => run_format(board, out, image, sector),
         Ok(Some(Command::Dump { image })) => run_text(alloc, board, out, image, ImageText::Dump),
         Ok(Some(Command::Report { image })) => {

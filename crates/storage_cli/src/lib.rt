@@ -3,9 +3,11 @@
 #![tactic(auto)]
 
 mod commands;
+mod copying;
 mod format;
 mod generating;
 mod printing;
+mod replaying;
 mod serving;
 mod status;
 mod stop;
@@ -13,8 +15,8 @@ mod texts;
 
 pub use commands::run;
 pub use status::{
-    ATTACH_FAILED, DONE, FLASH_FAILED, FOREIGN_WORD, LINK_FAILED, NO_COMMAND, NO_MEMORY,
-    OUTPUT_FAILED, READ_FAILED, Status, TURNS_OVER, WORN,
+    ATTACH_FAILED, DONE, FLASH_FAILED, FOREIGN_WORD, INPUT_FAILED, LINK_FAILED, NO_COMMAND,
+    NO_MEMORY, OUTPUT_FAILED, READ_FAILED, SCRIPT_REFUSED, Status, TURNS_OVER, WORN,
 };
 
 #[cfg(test)]

@@ -31,8 +31,14 @@ pub const WORN: u8 = 7;
 /// All turns were taken, and no event was the end.
 pub const TURNS_OVER: u8 = 8;
 
+/// A read of the input failed.
+pub const INPUT_FAILED: u8 = 9;
+
 /// The output failed.
 pub const OUTPUT_FAILED: u8 = 10;
+
+/// A line of the script is refused.
+pub const SCRIPT_REFUSED: u8 = 11;
 
 /// The attach failed.
 pub const ATTACH_FAILED: u8 = 13;

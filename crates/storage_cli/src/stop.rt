@@ -1,12 +1,13 @@
 //! Why a command stops, and what one has done that doesn't.
 ghost use Rattle.std.specs.Prelude.{◌≡◌, ◌≢◌};
-ghost use Rattle.storage_cli.specs.Steps.Stops.{status_of_stop, stop_of, stop_of_fault};
+ghost use Rattle.storage_cli.specs.Steps.Stops.{status_of_stop, stop_of, stop_of_fault, stop_of_survey};
 
 use crate::status::{
-    ATTACH_FAILED, FLASH_FAILED, FOREIGN_WORD, LINK_FAILED, NO_COMMAND, NO_MEMORY, OUTPUT_FAILED,
-    READ_FAILED, TURNS_OVER, WORN,
+    ATTACH_FAILED, FLASH_FAILED, FOREIGN_WORD, INPUT_FAILED, LINK_FAILED, NO_COMMAND, NO_MEMORY,
+    OUTPUT_FAILED, READ_FAILED, SCRIPT_REFUSED, TURNS_OVER, WORN,
 };
 use flash_traits::{Fault, Region};
+use sector_image::SurveyError;
 use std::alloc::AllocError;
 use vehicle_node::NodeError;
 
@@ -60,6 +61,10 @@ pub(crate) enum Stop {
     /// So many events were finished, and none was the end.
     Turns(u32),
     Attach,
+    /// A read of the input failed.
+    Input,
+    /// The script's line of this number, from 1, is refused.
+    Script(u32),
 }
 
 impl Stop {
@@ -78,6 +83,8 @@ impl Stop {
             Stop::Worn => WORN,
             Stop::Turns(_) => TURNS_OVER,
             Stop::Attach => ATTACH_FAILED,
+            Stop::Input => INPUT_FAILED,
+            Stop::Script(_) => SCRIPT_REFUSED,
         }
     }
 }
@@ -101,6 +108,25 @@ impl From<Fault> for Stop {
             Fault::Read => Stop::Read,
             Fault::Flash => Stop::Flash,
             Fault::Recv | Fault::Send => Stop::Link,
+        }
+    }
+}
+
+impl From<SurveyError> for Stop {
+    ghost from_gives = { λ error stop. stop ≡ stop_of_survey error };
+
+    fn from(error: SurveyError) -> Stop {
+        match error {
+            SurveyError::Fault(kind) => Stop::from(kind),
+            SurveyError::Foreign {
+                region,
+                offset,
+                word,
+            } => Stop::Foreign(Foreign {
+                region,
+                offset,
+                word,
+            }),
         }
     }
 }

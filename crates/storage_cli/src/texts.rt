@@ -1,7 +1,7 @@
 //! The lines that a call prints.
 ghost use Rattle.std.specs.Prelude.{◌≡◌, ◌≤◌, ◌+◌, ◌++◌, length};
 ghost use Rattle.printed_text.specs.Pieces.{with_newline};
-ghost use Rattle.storage_cli.specs.Texts.{served_line, session_line, turns_line, foreign_line};
+ghost use Rattle.storage_cli.specs.Texts.{served_line, session_line, digest_line, turns_line, script_line, foreign_line};
 ghost use Rattle.storage_cli.specs.Steps.Stops.{line_of_stop};
 
 use crate::stop::{Foreign, Served, Stop, Summary};
@@ -78,6 +78,22 @@ pub(crate) fn session_line(summary: Summary) -> SessionLine
     line
 }
 
+/// The last line of a `replay`, by the SHA-256 of the storage bytes.
+pub(crate) fn digest_line(digest: [u8; 32]) -> Line
+    ensures { result.items ≡ digest_line digest }
+{
+    let mut digits = [0u8; 64];
+    match hex::encode_to_slice(digest, &mut digits) {
+        Ok(()) => {}
+        Err(_) => unreachable!(),
+    }
+    let mut line = Line::new();
+    push(&mut line, b"bytes ");
+    push(&mut line, &digits);
+    push(&mut line, b"\n");
+    line
+}
+
 /// The line of a `serve` whose turns are over.
 fn turns_line(turns: u32) -> Line
     ensures { result.items ≡ turns_line turns }
@@ -85,6 +101,17 @@ fn turns_line(turns: u32) -> Line
     let mut line = Line::new();
     push(&mut line, b"error 8 turns ");
     push_number(&mut line, turns);
+    push(&mut line, b"\n");
+    line
+}
+
+/// The line that names a refused line of a script.
+fn script_line(number: u32) -> Line
+    ensures { result.items ≡ script_line number }
+{
+    let mut line = Line::new();
+    push(&mut line, b"error 11 line ");
+    push_number(&mut line, number);
     push(&mut line, b"\n");
     line
 }
@@ -116,5 +143,7 @@ pub(crate) fn line_of_stop(stop: Stop) -> Line
         Stop::Worn => with_newline(b"error 7 worn 8192"),
         Stop::Turns(turns) => turns_line(turns),
         Stop::Attach => with_newline(b"error 13 attach"),
+        Stop::Input => with_newline(b"error 9 input"),
+        Stop::Script(line) => script_line(line),
     }
 }

@@ -16,7 +16,8 @@ use Rattle.storage_cli.specs.declared.stop.Stop.{Stop}
 use Rattle.storage_cli.specs.declared.stop.Stop.TheVariants as stop
 use Rattle.session_boards.specs.Session.{HasNoEnd, EndsOnce}
 use Rattle.vehicle_node.specs.Runs.{Run, run_of}
-use Rattle.storage_cli.specs.Serving.{IsWhole, is_armed_after_events}
+use Rattle.replay.specs.Histories.{IsWhole}
+use Rattle.storage_cli.specs.Serving.{is_armed_after_events}
 
 -- what has been added since an outcome is safe, with all events finished or all but one
 pub record IsSafe (budget : ℕ) (b : List ℕ) (events : List Received) (frames : List SentFrame)

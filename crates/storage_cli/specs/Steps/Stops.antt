@@ -5,13 +5,15 @@ use Rattle.flash_traits.specs.Causes.{Rose}
 use Rattle.flash_traits.specs.declared.board.Fault.{Fault}
 use Rattle.flash_traits.specs.declared.board.Fault.TheVariants as fault
 use Rattle.sector_image.specs.FirstBad.{FirstBad, place_of}
+use Rattle.sector_image.specs.declared.kept.SurveyError.{SurveyError}
+use Rattle.sector_image.specs.declared.kept.SurveyError.TheVariants as survey
 use Rattle.vehicle_node.specs.declared.NodeError.{NodeError}
 use Rattle.vehicle_node.specs.declared.NodeError.TheVariants as node_error
 use Rattle.storage_cli.specs.declared.stop.Served.{Served}
 use Rattle.storage_cli.specs.declared.stop.Stop.{Stop}
 use Rattle.storage_cli.specs.declared.stop.Stop.TheVariants as stop
-use Rattle.storage_cli.specs.declared.status.TheConstants.{ATTACH_FAILED, FLASH_FAILED, FOREIGN_WORD, LINK_FAILED, NO_COMMAND, NO_MEMORY, READ_FAILED, TURNS_OVER, WORN}
-use Rattle.storage_cli.specs.Texts.{words_line, memory_line, foreign_line, read_line, flash_line, link_line, worn_line, turns_line, attach_line}
+use Rattle.storage_cli.specs.declared.status.TheConstants.{ATTACH_FAILED, FLASH_FAILED, FOREIGN_WORD, INPUT_FAILED, LINK_FAILED, NO_COMMAND, NO_MEMORY, READ_FAILED, SCRIPT_REFUSED, TURNS_OVER, WORN}
+use Rattle.storage_cli.specs.Texts.{words_line, memory_line, foreign_line, read_line, flash_line, link_line, worn_line, turns_line, attach_line, input_line, script_line}
 
 -- the status of each stop
 abbrev pub status_of_stop : Stop → ℕ
@@ -24,6 +26,8 @@ status_of_stop stop.Link = LINK_FAILED
 status_of_stop stop.Worn = WORN
 status_of_stop (stop.Turns turns) = TURNS_OVER
 status_of_stop stop.Attach = ATTACH_FAILED
+status_of_stop stop.Input = INPUT_FAILED
+status_of_stop (stop.Script line) = SCRIPT_REFUSED
 
 -- the line of each stop
 abbrev pub line_of_stop : Stop → List ℕ
@@ -36,6 +40,8 @@ line_of_stop stop.Link = link_line
 line_of_stop stop.Worn = worn_line
 line_of_stop (stop.Turns turns) = turns_line turns
 line_of_stop stop.Attach = attach_line
+line_of_stop stop.Input = input_line
+line_of_stop (stop.Script line) = script_line line
 
 -- why a command stops where a call of the board failed
 abbrev pub stop_of_fault : Fault → Stop
@@ -53,7 +59,13 @@ stop_of (node_error.Foreign region offset word) =
     stop.Foreign (record { region = region; offset = offset; word = word })
 stop_of (node_error.Worn count) = stop.Worn
 
--- the fault that a stop tells has its cause
+-- why a command stops where its survey did
+abbrev pub stop_of_survey : SurveyError → Stop
+stop_of_survey (survey.Fault kind) = stop_of_fault kind
+stop_of_survey (survey.Foreign region offset word) =
+    stop.Foreign (record { region = region; offset = offset; word = word })
+
+-- the fault of the board that a stop tells has its cause
 abbrev pub IsCausedBy : Stop → (Fault → ℕ) → (Fault → ℕ) → Type 0
 IsCausedBy stop.Read before now = Rose (before fault.Read) (now fault.Read)
 IsCausedBy stop.Flash before now = Rose (before fault.Flash) (now fault.Flash)
@@ -92,6 +104,8 @@ OnWorn _ P = Unit {0}
 -- why a serve may stop
 abbrev pub IsServeStop : Stop → Type 0
 IsServeStop stop.Words = ⊥
+IsServeStop stop.Input = ⊥
+IsServeStop (stop.Script line) = ⊥
 IsServeStop _ = Unit {0}
 
 -- why an event may stop it: a failed call, or a guard row that is used up
@@ -100,6 +114,8 @@ IsEventStop stop.Words = ⊥
 IsEventStop stop.Memory = ⊥
 IsEventStop (stop.Foreign foreign) = ⊥
 IsEventStop (stop.Turns turns) = ⊥
+IsEventStop stop.Input = ⊥
+IsEventStop (stop.Script line) = ⊥
 IsEventStop _ = Unit {0}
 
 -- a failed program, or a failed attach

@@ -1,4 +1,4 @@
-use Rattle.std.proofs.Common.{◌≡◌, ◌∙◌, ℕ, sym, subst, refl, Option, Some}
+use Rattle.std.proofs.Common.{◌≡◌, ◌∙◌, ℕ, sym, subst, refl, inr, Option, Some}
 use Rattle.command_line.specs.Commands.{line_of}
 use Rattle.command_line.specs.Lines.{CommandLine, gen, line_of_words}
 use Rattle.command_line.specs.declared.Command.TheVariants as command
@@ -51,3 +51,29 @@ returns-in-Ok-Some-Gen-clause-gen_worn g c = λ rounds is worn.
     let line = line_of_words (texts c.args.words.now) in
     let given = line_given line a.field-0 a.field-0-0 (command.Gen a.rounds) a.ensures.value a.field-0-is a.field-0-0-is in
     subst WearsOut (gen_one a.rounds rounds (sym given ∙ is)) (c.run_gen.ensures.worn worn)
+
+pub returns-in-Ok-Some-Replay-clause-unread : goal.returns-in-Ok-Some-Replay-clause-unread
+returns-in-Ok-Some-Replay-clause-unread g c = λ other always.
+    let a = c.in-Ok-Some-Replay in
+    let line = line_of_words (texts c.args.words.now) in
+    absurd (other a.image.now (line_given line a.field-0 a.field-0-0 (command.Replay a.image) a.ensures.value a.field-0-is a.field-0-0-is))
+
+pub returns-in-Ok-Some-Replay-clause-lines : goal.returns-in-Ok-Some-Replay-clause-lines
+returns-in-Ok-Some-Replay-clause-lines g c = λ other always.
+    let a = c.in-Ok-Some-Replay in
+    let line = line_of_words (texts c.args.words.now) in
+    absurd (other a.image.now (line_given line a.field-0 a.field-0-0 (command.Replay a.image) a.ensures.value a.field-0-is a.field-0-0-is))
+
+pub returns-in-Ok-Some-Replay-clause-foreign : goal.returns-in-Ok-Some-Replay-clause-foreign
+returns-in-Ok-Some-Replay-clause-foreign g c = λ other is.
+    let a = c.in-Ok-Some-Replay in
+    let line = line_of_words (texts c.args.words.now) in
+    absurd (other a.image.now (line_given line a.field-0 a.field-0-0 (command.Replay a.image) a.ensures.value a.field-0-is a.field-0-0-is))
+
+pub returns-in-Ok-Some-Replay-clause-cut_short : goal.returns-in-Ok-Some-Replay-clause-cut_short
+returns-in-Ok-Some-Replay-clause-cut_short g c = λ failed told_out.
+    let a = c.in-Ok-Some-Replay in
+    let line = line_of_words (texts c.args.words.now) in
+    let ran = c.run_replay in
+    cut_short_of line (Some (line_of (command.Replay a.image))) (g.B.Board.tells ran.new.board) (g.B.Board.words c.args.board.now) (g.K.Sink.written c.args.out.now) (g.K.Sink.written ran.new.out)
+    (line_given line a.field-0 a.field-0-0 (command.Replay a.image) a.ensures.value a.field-0-is a.field-0-0-is) (inr (ran.ensures.cut_short failed told_out))

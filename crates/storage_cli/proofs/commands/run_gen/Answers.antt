@@ -1,4 +1,4 @@
-use Rattle.std.proofs.Common.{◌≡◌, ◌∙◌, ap, sym, subst, arith, ℕ, List, ◌++◌}
+use Rattle.std.proofs.Common.{◌∙◌, ap, sym, subst, arith, ℕ, List, ◌++◌}
 use Rattle.storage_cli.specs.Texts.{Line}
 use Rattle.storage_cli.specs.Texts as texts
 use Rattle.storage_cli.proofs.Outcomes.{gen_done, gen_others, gen_stopped, not_done, prints_none, prints_stopped, worn_told}

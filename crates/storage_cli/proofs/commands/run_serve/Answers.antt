@@ -75,7 +75,7 @@ returns-in-Err-clause-foreign g c =
 
 pub returns-in-Err-clause-foreign_where : goal.returns-in-Err-clause-foreign_where
 returns-in-Err-clause-foreign_where g c = λ past told place bad.
-    stops_early c.print_stop.result.0 c.in-Err.stop c.print_stop.ensures.status (c.in-Err.ensures.foreign_where told place bad) past.attach
+    stops_early Served c.print_stop.result.0 c.in-Err.stop c.print_stop.ensures.status (c.in-Err.ensures.foreign_where told place bad) past.attach
 
 pub returns-in-Err-clause-worn_where : goal.returns-in-Err-clause-worn_where
 returns-in-Err-clause-worn_where g c = λ past told used.
