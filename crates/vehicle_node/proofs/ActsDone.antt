@@ -191,7 +191,7 @@ module _ {B : Type 0} (g : Ghosts B) where
           next = λ unless. elim (cases_Bool (armed_in old)) [ inl is ↦ inr (inl is) | inr off ↦ inl (w.next (unless off)) ];
           lines = λ told limit b r sent s.
               let enough : GUARD_HALFWORDS ≤ limit + 2 * length (r.issued ++ (did_in old.budget b r act).writes) =
-                  omega (arith, w.reached told, s.ahead, length-append r.issued (did_in old.budget b r act).writes, ap (λ (d : Did). length d.writes) (did_is old b r sent s.at act)) in
+              omega (arith, w.reached told, s.ahead, length-append r.issued (did_in old.budget b r act).writes, ap (λ (d : Did). length d.writes) (did_is old b r sent s.at act)) in
               enough;
         }) worn
 

@@ -202,7 +202,8 @@ pub record AnsweredAs {B : Type 0} (g : Ghosts B) (need : Need) (armed : Bool)
 abbrev pub AnswerDone : {B : Type 0} → Ghosts B → Need → Bool → List LineWrite → List Delivery
     → Node → B → Result ⊤ NodeError → Node → B → Type 0
 AnswerDone g need armed writes ds old board result new after_board =
-    Call g (Answering need writes ds old) (WornAlone g armed (ceiling old + 2 * length writes) old new after_board)
+    Call g (Answering need writes ds old)
+    (WornAlone g armed (ceiling old + 2 * length writes) old new after_board)
     (AnsweredAs g need armed writes ds old board new after_board) board result after_board
 
 -- what the vehicle does at a node
