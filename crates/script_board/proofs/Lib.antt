@@ -2,6 +2,8 @@ pub mod Halfwords
 pub mod Odd
 pub mod Unread
 pub mod TakenLines
+pub mod Hearing
 pub mod Waits
 pub mod Listed
+pub mod FrameLines
 pub mod Leaving

@@ -11,7 +11,6 @@ use Rattle.script_lines.specs.Reading.{unread_of}
 use Rattle.std.specs.Prelude.{MatchResult, OnOk, OnErr}
 use Rattle.flash_traits.specs.declared.board.Event.{Event}
 use Rattle.flash_traits.specs.declared.board.Failed.{Failed}
-use Rattle.script_board.specs.Hearing.{HearsSo}
 use Rattle.script_board.specs.Taking.{Took, AreTaken, events_in, events_of}
 use Rattle.script_board.specs.Printing.{frame_line, frame_lines}
 use Rattle.script_board.specs.Marks.{marked}
@@ -21,7 +20,7 @@ use Rattle.script_board.specs.declared.board.ScriptMark.{ScriptMark}
 use Rattle.script_board.specs.declared.board.ScriptMark.TheVariants.{Lost, Refused, Input, Output}
 use Rattle.script_board.specs.declared.board.ScriptBoard.{ScriptBoard}
 use Rattle.script_board.proofs.TakenLines.{taken_join}
-use Rattle.script_board.proofs.Waits.{events-append}
+use Rattle.script_board.proofs.Hearing.{events-append}
 
 -- a mark of the sink stays
 pub still_output : (m : Option ScriptMark) (new : ScriptMark) → marked m new ≢ Some Output → m ≢ Some Output
@@ -141,10 +140,10 @@ unread_by x y m n same is = ap (λ (l : List ℕ). unread_of l m) same ∙ ap (u
 
 module _ {S K : Type 0} (g : source.Ghosts S) (h : sink.Ghosts K) (a b : ScriptBoard S K g h) where
   -- a reception
-  pub lists_heard : (r : Result Event Failed) (buffer : List ℕ) (lost : Type 0) (lines : List ScriptLine) (count : ℕ) → Took g a.input.now b.input.now (unread_in a) (unread_in b) lines count
-      → b.taken ≡ raised_by count a.taken → HearsSo r buffer lost lines → b.out ≡ a.out → b.given ≡ a.given → (a.mark ≡ Some Output → b.mark ≡ Some Output)
+  pub lists_heard : (r : Result Event Failed) (buffer : List ℕ) (lines : List ScriptLine) (count : ℕ) → Took g a.input.now b.input.now (unread_in a) (unread_in b) lines count
+      → b.taken ≡ raised_by count a.taken → MatchResult r (λ event. events_of lines ≡ link.received event buffer ∷ []) (λ x. events_of lines ≡ []) → b.out ≡ a.out → b.given ≡ a.given → (a.mark ≡ Some Output → b.mark ≡ Some Output)
       → (e : List Received) (f : List SentFrame) → HasLists g h a e f → MatchResult r (λ event. HasLists g h b (e ++ link.received event buffer ∷ []) f) (λ x. HasLists g h b e f)
-  lists_heard r buffer lost lines count took taken hears out given mark e f had = by_result r hears
+  lists_heard r buffer lines count took taken hears out given mark e f had = by_result r hears
     where
       more : (x : List Received) → events_of lines ≡ x → HasLists g h b (e ++ x) f
       more x events = record {
@@ -155,9 +154,9 @@ module _ {S K : Type 0} (g : source.Ghosts S) (h : sink.Ghosts K) (a b : ScriptB
             (had.printed (λ is. no_output (mark is)) (subst (λ o. h.tells_written o.now) out told) (subst (λ (n : ℕ). n < 2 ^ 64 - 1) given few)));
       }
 
-      by_result : (r : Result Event Failed) → HearsSo r buffer lost lines → MatchResult r (λ event. HasLists g h b (e ++ link.received event buffer ∷ []) f) (λ x. HasLists g h b e f)
-      by_result (Ok event) hears = more (link.received event buffer ∷ []) hears.0
-      by_result (Err x) hears = subst (λ (l : List Received). HasLists g h b l f) (append-nil e) (more [] hears.0)
+      by_result : (r : Result Event Failed) → MatchResult r (λ event. events_of lines ≡ link.received event buffer ∷ []) (λ x. events_of lines ≡ []) → MatchResult r (λ event. HasLists g h b (e ++ link.received event buffer ∷ []) f) (λ x. HasLists g h b e f)
+      by_result (Ok event) hears = more (link.received event buffer ∷ []) hears
+      by_result (Err x) hears = subst (λ (l : List Received). HasLists g h b l f) (append-nil e) (more [] hears)
 
   -- a sending
   pub lists_sent : (r : Result (Unit {0}) Failed) (x : SentFrame) → b.input ≡ a.input → unread_in b ≡ unread_in a → b.taken ≡ a.taken

@@ -88,7 +88,23 @@ taken_join ls ms x y v w f r0 r1 (inr a) b rest unread =
         )
     last a (inr b) none ending = absurd (no_line ms (subst (λ (l : List ℕ). AreLines ms (l ++ line_feed ∷ [])) none b.0))
 
+-- Lines that were taken, and lines that were taken after them, are all those lines.
+pub taken-append : (ls ms : List ScriptLine) (a x b y c : List ℕ) → a ≡ x ++ b → AreTaken ls x b → b ≡ y ++ c → AreTaken ms y c
+    → (a ≡ (x ++ y) ++ c) × AreTaken (ls ++ ms) (x ++ y) c
+taken-append ls ms a x b y c first are second more = (
+  first ∙ ap (λ (l : List ℕ). x ++ l) second ∙ sym (append_assoc x y c),
+  taken_join ls ms x y [] [] y b c are more second (sym (append-nil y)),
+)
+
 module _ {S : Type 0} (g : Ghosts S) where
+  -- what was unread and what the source had left: the bytes of the lines, and what is unread and left
+  pub took_lists : (old new : S) (before now : List ℕ) (lines : List ScriptLine) (count : ℕ) → (t : Took g old new before now lines count) → g.tells_rest new
+      → (before ++ g.rest old ≡ t.bytes ++ (now ++ g.rest new)) × AreTaken lines t.bytes (now ++ g.rest new)
+  took_lists old new before now lines count t told = (
+    ap (λ (l : List ℕ). before ++ l) (t.rest told) ∙ sym (append_assoc before t.fresh (g.rest new)) ∙ ap (λ (l : List ℕ). l ++ g.rest new) t.unread ∙ append_assoc t.bytes now (g.rest new),
+    t.whole told,
+  )
+
   pub took_nothing : (s : S) (unread : List ℕ) → Took g s s unread unread [] 0
   took_nothing s unread = record {
     fresh = [];

@@ -1,46 +1,17 @@
 -- Losses at later calls before the line of an event.
-use Rattle.std.proofs.Common.{◌≡◌, ◌≢◌, ℕ, ◌+◌, ◌<◌, List, [], ◌∷◌, ◌++◌, length, take, refl, sym, ◌∙◌, ap, subst, arith, append_assoc, append-nil, length-append}
+use Rattle.std.proofs.Common.{◌≡◌, ◌⊎◌, inl, inr, ℕ, ◌+◌, ◌≤◌, ◌<◌, List, [], ◌∷◌, ◌++◌, length, take, Option, refl, ◌∙◌, ap, subst, arith, length-append}
 use Rattle.flash_traits.specs.declared.numbers.TheConstants.{STATIONS}
 use Rattle.flash_traits.specs.declared.stream.Source as source
 use Rattle.flash_traits.specs.declared.stream.Sink as sink
-use Rattle.flash_traits.specs.Losses.{Received}
+use Rattle.flash_traits.specs.Causes.{Rose}
 use Rattle.script_lines.specs.Script.{ScriptLine, Datagram, Idle, LossNow, LossLater, End, Spells}
 use Rattle.script_lines.specs.declared.line.Waiting.{Waiting}
-use Rattle.script_board.specs.Taking.{events_in, events_of}
-use Rattle.script_board.specs.Hearing.{loses, loses_in, waiting_after, HasNoLossNow}
+use Rattle.script_board.specs.Hearing.{loses, loses_in, waiting_after, AreLosses, IsUnheard}
+use Rattle.script_board.specs.Marks.{marked}
 use Rattle.script_board.specs.Boards.{OnlyScript}
 use Rattle.script_board.specs.declared.board.ScriptBoard.{ScriptBoard}
-
--- each of these lines is a loss at a later call
-abbrev pub AreLater : List ScriptLine → Type 0
-AreLater [] = Unit {0}
-AreLater (line ∷ lines) = ((call : ℕ) × (how : ℕ) × (line ≡ LossLater call how)) × AreLater lines
-
-pub later-append : (a b : List ScriptLine) → AreLater a → AreLater b → AreLater (a ++ b)
-later-append [] b x y = y
-later-append (l ∷ a) b x y = (x.0, later-append a b x.1 y)
-
-pub no_events : (a : List ScriptLine) → AreLater a → events_of a ≡ []
-no_events [] x = refl
-no_events (l ∷ a) x = ap (λ (e : List Received). e ++ events_of a) (ap events_in x.0.2) ∙ no_events a x.1
-
-pub events-append : (a b : List ScriptLine) → events_of (a ++ b) ≡ events_of a ++ events_of b
-events-append [] b = refl
-events-append (l ∷ a) b = ap (λ (e : List Received). events_in l ++ e) (events-append a b) ∙ sym (append_assoc (events_in l) (events_of a) (events_of b))
-
-pub event_last : (a : List ScriptLine) (l : ScriptLine) → AreLater a → events_of (a ++ l ∷ []) ≡ events_in l
-event_last a l x = events-append a (l ∷ []) ∙ ap (λ (e : List Received). e ++ (events_in l ++ [])) (no_events a x) ∙ append-nil (events_in l)
-
-is_later : (call how : ℕ) → LossLater call how ≡ LossNow → ⊥
-is_later call how is = cc
-
-pub no_loss_now : (a : List ScriptLine) → AreLater a → HasNoLossNow a
-no_loss_now [] x = tt
-no_loss_now (l ∷ a) x = (λ is. is_later x.0.0 x.0.1 (sym x.0.2 ∙ is), no_loss_now a x.1)
-
-pub no_loss_then : (a : List ScriptLine) (l : ScriptLine) → AreLater a → l ≢ LossNow → HasNoLossNow (a ++ l ∷ [])
-no_loss_then [] l x other = (other, tt)
-no_loss_then (m ∷ a) l x other = (λ is. is_later x.0.0 x.0.1 (sym x.0.2 ∙ is), no_loss_then a l x.1 other)
+use Rattle.script_board.specs.declared.board.ScriptMark.{ScriptMark}
+use Rattle.script_board.specs.declared.board.ScriptMark.TheVariants.{Refused, Input}
 
 pub loses-append : (a b : List ScriptLine) → loses (a ++ b) ≡ loses a + loses b
 loses-append [] b = omega arith
@@ -59,15 +30,6 @@ waits_more Idle old new is = omega (arith, ap length is)
 waits_more LossNow old new is = omega (arith, ap length is)
 waits_more End old new is = omega (arith, ap length is)
 
-pub not_datagram : (station : ℕ) (bytes : List ℕ) → Datagram station bytes ≡ LossNow → ⊥
-not_datagram station bytes is = cc
-
-pub not_idle : Idle ≡ LossNow → ⊥
-not_idle is = cc
-
-pub not_end : End ≡ LossNow → ⊥
-not_end is = cc
-
 pub take_front : (n : ℕ) (xs ys : List ℕ) → n ≡ length xs → take n (xs ++ ys) ≡ xs
 take_front n xs ys is = ap (λ (k : ℕ). take k (xs ++ ys)) is ∙ front xs ys
   where
@@ -77,6 +39,15 @@ take_front n xs ys is = ap (λ (k : ℕ). take k (xs ++ ys)) is ∙ front xs ys
 
 pub station_fits : (line : ScriptLine) (station : ℕ) (bytes text : List ℕ) → line ≡ Datagram station bytes → Spells line text → station < STATIONS
 station_fits line station bytes text is spells = (subst (λ (l : ScriptLine). Spells l text) is spells).station_fits
+
+-- no event after losses at later calls, by why the next line wasn't taken
+pub unheard_then : (m0 m1 m2 : Option ScriptMark) (f0 f1 s0 s1 s2 : ℕ) (lines : List ScriptLine) (line : ℕ) (refused : Type 0) → m1 ≡ m0 → f1 ≡ f0 → s0 ≤ s1 → AreLosses lines
+    → (Rose s1 s2 × (f1 ≡ 0 → m2 ≡ marked m1 Input)) ⊎ (refused × (m2 ≡ marked m1 (Refused line)))
+    → IsUnheard m0 m2 f0 lines (Rose s0 s2) line refused
+unheard_then m0 m1 m2 f0 f1 s0 s1 s2 lines line refused mark same more losses (inl (rose, marks)) =
+    inr (inl (losses, omega (arith, rose, more), λ none. marks (same ∙ none) ∙ ap (λ (m : Option ScriptMark). marked m Input) mark))
+unheard_then m0 m1 m2 f0 f1 s0 s1 s2 lines line refused mark same more losses (inr (refusal, marks)) =
+    inr (inr (losses, refusal, marks ∙ ap (λ (m : Option ScriptMark). marked m (Refused line)) mark))
 
 module _ {S K : Type 0} {g : source.Ghosts S} {h : sink.Ghosts K} where
   pub only_none : (a : ScriptBoard S K g h) → OnlyScript a a

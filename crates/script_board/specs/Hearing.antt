@@ -1,14 +1,18 @@
 -- The event that comes next.
-use Rattle.std.specs.Prelude.{◌≡◌, ◌≢◌, ◌⊎◌, ℕ, ◌+◌, ◌≤◌, List, [], ◌∷◌, ◌++◌, length, Result, Ok, Err}
+use Rattle.std.specs.Prelude.{◌≡◌, ◌≢◌, ◌⊎◌, ℕ, ◌+◌, ◌≤◌, List, [], ◌∷◌, ◌++◌, length, Option, Result, Ok, Err}
 use Rattle.flash_traits.specs.Losses.{received}
 use Rattle.flash_traits.specs.declared.board.Event.{Event}
+use Rattle.flash_traits.specs.declared.board.Event.TheVariants as event
 use Rattle.flash_traits.specs.declared.board.Failed.{Failed}
 use Rattle.script_lines.specs.Script.{ScriptLine, Datagram, Idle, LossNow, LossLater, End}
 use Rattle.script_lines.specs.Seen.{line_of}
 use Rattle.script_lines.specs.declared.line.ScriptLine as lines
 use Rattle.script_lines.specs.declared.line.Waiting.{Waiting}
 use Rattle.script_lines.specs.declared.numbers.TheConstants.{SCRIPT_LINES}
-use Rattle.script_board.specs.Taking.{IsAhead, HasNoLine, events_of}
+use Rattle.script_board.specs.Taking.{IsAhead, HasNoLine, events_in}
+use Rattle.script_board.specs.Marks.{marked}
+use Rattle.script_board.specs.declared.board.ScriptMark.{ScriptMark}
+use Rattle.script_board.specs.declared.board.ScriptMark.TheVariants.{Lost, Refused, Input}
 use Rattle.script_board.specs.declared.waiting.TheConstants.{WAITING_LOSSES}
 
 -- the line that was taken, or none

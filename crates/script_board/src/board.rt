@@ -1,6 +1,7 @@
 //! The board's parts, and what a call does to them.
 ghost use Rattle.std.specs.Prelude.{◌≡◌, ◌≤◌, IsTrue, length};
 ghost use Rattle.flash_traits.specs.Words.{is_size};
+ghost use Rattle.script_lines.specs.declared.numbers.TheConstants.{SCRIPT_LINES};
 ghost use Rattle.script_board.specs.declared.image.TheConstants.{IMAGE_BYTES};
 ghost use Rattle.script_board.specs.Marks.{marked};
 
@@ -15,8 +16,8 @@ use script_lines::{READ_BYTES, Waiting};
 pub enum ScriptMark {
     /// Power was lost.
     Lost,
-    /// The line of this number isn't of the grammar, `e` is missing there, or one loss more than
-    /// sixteen would wait.
+    /// The line of this number, from 1, isn't of the grammar, `e` is missing there, or one loss
+    /// more than sixteen would wait.
     Refused { line: u32 },
     /// The source failed.
     Input,
@@ -49,7 +50,7 @@ pub struct ScriptBoard<'a, S: Source, K: Sink> {
     /// Its last `ahead` bytes were read and not taken.
     pub buffer: ArrayVec<u8, READ_BYTES>,
     pub ahead: u32,
-    /// How many lines of the script were taken.
+    /// How many lines of the script were taken, at most as many as a script has.
     pub line: u32,
     /// The bytes of the lines taken, and of the lines printed, since the lists began.
     pub taken: u64,
@@ -67,6 +68,7 @@ pub struct ScriptBoard<'a, S: Source, K: Sink> {
     ghost known: { IsTrue (is_size geometry.sector_bytes) },
     ghost whole: { length image.items ≡ IMAGE_BYTES },
     ghost within: { ahead ≤ length buffer.items },
+    ghost few: { line ≤ SCRIPT_LINES },
 }
 
 impl<'a, S: Source, K: Sink> ScriptBoard<'a, S, K> {

@@ -22,7 +22,7 @@ fn unheard(mark: Option<ScriptMark>, failures: u64) -> Option<ScriptMark>
 }
 
 impl<'a, S: Source, K: Sink> ScriptBoard<'a, S, K> {
-    ghost use Rattle.std.specs.Prelude.{◌≡◌, ◌⊎◌, ◌<◌, ◌≤◌, ◌+◌, ◌-◌, ◌^◌, ◌++◌, [], ◌∷◌, min, List, ℕ, length, slice_set, slice_index, Some, Ok, IsSome, OnOk, OnErr, IfOk};
+    ghost use Rattle.std.specs.Prelude.{◌≡◌, ◌⊎◌, ◌<◌, ◌≤◌, ◌+◌, ◌-◌, ◌^◌, [], min, List, ℕ, length, slice_set, slice_index, Some, Ok, IsSome, OnOk, OnErr, IfOk, MatchResult};
     ghost use Rattle.flash_traits.specs.Counts.{raised_by};
     ghost use Rattle.flash_traits.specs.Causes.{HasOneCause, Rose};
     ghost use Rattle.flash_traits.specs.declared.numbers.TheConstants.{DATAGRAM_BYTES};
@@ -31,14 +31,13 @@ impl<'a, S: Source, K: Sink> ScriptBoard<'a, S, K> {
     ghost use Rattle.script_lines.specs.Seen.{line_of};
     ghost use Rattle.script_board.specs.Marks.{marked};
     ghost use Rattle.script_board.specs.Taking.{Took};
-    ghost use Rattle.script_board.specs.Hearing.{lines_of, waiting_after, IsRefused, HearsSo, loses};
+    ghost use Rattle.script_board.specs.Hearing.{lines_of, waiting_after, waiting_behind, IsRefused, IsHeard, IsUnheard};
     ghost use Rattle.script_board.specs.Boards.{unread_in, hears, OnlyScript};
-    ghost use Rattle.script_board.specs.declared.board.ScriptMark.TheVariants.{Lost, Refused, Output};
+    ghost use Rattle.script_board.specs.declared.board.ScriptMark.TheVariants.{Lost, Refused, Input, Output};
 
     /// Refuses the next line.
     fn refuse(&mut self) -> Failed
-        ensures mark { self.new.mark ≡ marked self.old.mark
-            (Refused (min (self.old.line + 1) (2 ^ 32 - 1))) }
+        ensures mark { self.new.mark ≡ marked self.old.mark (Refused (self.old.line + 1)) }
         ensures faults { self.new.faults ≡ slice_set self.old.faults 3
             (min (slice_index self.old.faults 3 + 1) (2 ^ 64 - 1)) }
         ensures line { self.new.line ≡ self.old.line }
@@ -49,7 +48,7 @@ impl<'a, S: Source, K: Sink> ScriptBoard<'a, S, K> {
         ensures since { self.new.since ≡ self.old.since }
         ensures others { OnlyScript self.old self.new }
     {
-        let line = self.line.saturating_add(1);
+        let line = self.line + 1;
         self.mark = marked(self.mark, ScriptMark::Refused { line });
         self.faults[3] = self.faults[3].saturating_add(1);
         Failed
@@ -69,9 +68,13 @@ impl<'a, S: Source, K: Sink> ScriptBoard<'a, S, K> {
         ensures waits { IfOk result (λ line.
             self.new.waiting.items ≡ waiting_after self.old.waiting.items (line_of line)) }
         ensures no_more { OnErr result (self.new.waiting.items ≡ self.old.waiting.items) }
-        ensures why { OnErr result (Rose (S.faults self.old.input.now) (S.faults self.new.input.now)
-            ⊎ IsRefused self.old.line self.old.waiting.items (unread_in self.new)
-            (S.tells_rest self.new.input.now) (S.rest self.new.input.now)) }
+        ensures why { OnErr result
+            ((Rose (S.faults self.old.input.now) (S.faults self.new.input.now)
+            × (slice_index self.old.faults 3 ≡ 0 → self.new.mark ≡ marked self.old.mark Input))
+            ⊎ (IsRefused self.new.line self.new.waiting.items (unread_in self.new)
+            (S.tells_rest self.new.input.now) (S.rest self.new.input.now)
+            × (self.new.mark ≡ marked self.old.mark (Refused (self.new.line + 1))))) }
+        ensures source { S.faults self.old.input.now ≤ S.faults self.new.input.now }
         ensures unmarked { OnOk result (self.new.mark ≡ self.old.mark) }
         ensures marked { OnErr result (slice_index self.old.faults 3 ≡ 0 → IsSome self.new.mark) }
         ensures output { self.old.mark ≡ Some Output → self.new.mark ≡ Some Output }
@@ -130,10 +133,17 @@ impl<'a, S: Source, K: Sink> ScriptBoard<'a, S, K> {
             × Took S.Source self.old.input.now self.new.input.now
             (unread_in self.old) (unread_in self.new) lines count
             × (self.new.taken ≡ raised_by count self.old.taken)
-            × HearsSo result into.new (self.new.mark ≡ marked self.old.mark Lost) lines
-            × (length self.new.waiting.items ≤ length self.old.waiting.items + loses lines) }
-        ensures counted { OnOk result (self.old.line < self.new.line) }
-        ensures later { self.old.line ≤ self.new.line }
+            × (self.new.line ≡ self.old.line + length lines)
+            × (length self.new.waiting.items
+            ≡ waiting_behind result (length self.old.waiting.items) lines)
+            × MatchResult result (λ event. IsHeard event into.new lines)
+            (λ _. IsUnheard self.old.mark self.new.mark (slice_index self.old.faults 3) lines
+            (Rose (S.faults self.old.input.now) (S.faults self.new.input.now)) (self.new.line + 1)
+            (IsRefused self.new.line self.new.waiting.items (unread_in self.new)
+            (S.tells_rest self.new.input.now) (S.rest self.new.input.now))) }
+        ensures unfailed { OnOk result
+            (slice_index self.new.faults 3 ≡ slice_index self.old.faults 3) }
+        ensures source { S.faults self.old.input.now ≤ S.faults self.new.input.now }
         ensures last { result ≡ Ok Event.End → self.new.waiting.items ≡ [] }
         ensures unmarked { OnOk result (self.new.mark ≡ self.old.mark) }
         ensures marked { OnErr result (slice_index self.old.faults 3 ≡ 0 → IsSome self.new.mark) }

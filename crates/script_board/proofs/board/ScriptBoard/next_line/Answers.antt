@@ -1,9 +1,11 @@
-use Rattle.std.proofs.Common.{◌≡◌, inl, inr, ap, sym, ◌≤◌, subst, arith}
+use Rattle.std.proofs.Common.{◌≡◌, inl, inr, ap, sym, ◌∙◌, ◌+◌, ◌≤◌, subst, arith}
 use Rattle.std.specs.Prelude.{ℕ, List}
 use Rattle.script_lines.specs.Reading.{unread_of}
 use Rattle.script_lines.specs.Seen.{line_of}
 use Rattle.script_board.specs.Taking.{IsAhead, HasNoLine}
+use Rattle.script_board.specs.Marks.{marked}
 use Rattle.script_board.specs.declared.ahead.Ahead.{Ahead}
+use Rattle.script_board.specs.declared.board.ScriptMark.TheVariants.{Refused}
 use Rattle.script_board.proofs.Unread.{unread_drop}
 use Rattle.script_board.proofs.TakenLines.{at_some, at_none, took_same, took_refused, took_none, took_line}
 use Rattle.script_board.proofs.board.ScriptBoard.next_line.Goals as goal
@@ -27,8 +29,11 @@ returns-in-Ok-None-clause-why g c =
     let none = at_none c.in-Ok-None.field-0 (HasNoLine (unread_of c.line_ahead.new.buffer.items c.line_ahead.new.ahead) (g.S.Source.tells_rest c.line_ahead.new.input) (g.S.Source.rest c.line_ahead.new.input))
     c.in-Ok-None.field-0-is c.in-Ok-None.ensures.none in
     let same : c.refuse-in-Ok-None.new.self.input.now ≡ c.line_ahead.new.input = ap (λ i. i.now) c.refuse-in-Ok-None.ensures.input in
-    inr (inr (inl (subst (λ (u : List ℕ). HasNoLine u (g.S.Source.tells_rest c.refuse-in-Ok-None.new.self.input.now) (g.S.Source.rest c.refuse-in-Ok-None.new.self.input.now)) (sym c.refuse-in-Ok-None.ensures.unread)
-    (subst (λ s. HasNoLine (unread_of c.line_ahead.new.buffer.items c.line_ahead.new.ahead) (g.S.Source.tells_rest s) (g.S.Source.rest s)) (sym same) none))))
+    inr (
+      inr (inl (subst (λ (u : List ℕ). HasNoLine u (g.S.Source.tells_rest c.refuse-in-Ok-None.new.self.input.now) (g.S.Source.rest c.refuse-in-Ok-None.new.self.input.now)) (sym c.refuse-in-Ok-None.ensures.unread)
+          (subst (λ s. HasNoLine (unread_of c.line_ahead.new.buffer.items c.line_ahead.new.ahead) (g.S.Source.tells_rest s) (g.S.Source.rest s)) (sym same) none))),
+      c.refuse-in-Ok-None.ensures.mark ∙ ap (λ (n : ℕ). marked c.args.self.now.mark (Refused (n + 1))) (sym c.refuse-in-Ok-None.ensures.line),
+    )
 
 pub returns-then-len-ge-WAITING_LOSSES-clause-took : goal.returns-then-len-ge-WAITING_LOSSES-clause-took
 returns-then-len-ge-WAITING_LOSSES-clause-took g c = (

@@ -3,9 +3,8 @@ use Rattle.flash_traits.specs.Counts.{raised_by}
 use Rattle.script_lines.specs.Script.{ScriptLine}
 use Rattle.script_lines.specs.declared.numbers.TheConstants.{SCRIPT_LINES}
 use Rattle.script_board.specs.Taking.{Took}
-use Rattle.script_board.specs.Hearing.{loses}
+use Rattle.script_board.specs.Hearing.{loses, AreLosses}
 use Rattle.script_board.specs.Boards.{unread_in, hears, OnlyScript}
-use Rattle.script_board.proofs.Waits.{AreLater}
 use Rattle.script_board.proofs.board.ScriptBoard.take_event.Given as goal
 
 abbrev pub invariant-lines : goal.invariant-lines
@@ -13,10 +12,11 @@ invariant-lines g l = record {
   took : (lines : List ScriptLine) × (count : ℕ)
       × Took g.S.Source l.fn.self.input.now l.self.input.now (unread_in l.fn.self) (unread_in l.self) lines count
       × (l.self.taken ≡ raised_by count l.fn.self.taken)
-      × AreLater lines × (length l.self.waiting.items ≤ length l.fn.self.waiting.items + loses lines);
-  line : l.fn.self.line ≤ l.self.line;
+      × AreLosses lines × (l.self.line ≡ l.fn.self.line + length lines)
+      × (length l.self.waiting.items ≡ length l.fn.self.waiting.items + loses lines);
   mark : l.self.mark ≡ l.fn.self.mark;
   hears : hears g.S.Source l.fn.self ≤ hears g.S.Source l.self;
+  source : g.S.Source.faults l.fn.self.input.now ≤ g.S.Source.faults l.self.input.now;
   failures : slice_index l.self.faults 3 ≡ slice_index l.fn.self.faults 3;
   others : OnlyScript l.fn.self l.self;
   into : length l.into ≡ length l.fn.into;

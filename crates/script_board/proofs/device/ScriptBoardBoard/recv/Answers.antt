@@ -1,8 +1,10 @@
+use Rattle.script_board.proofs.Hearing.{events-result}
 use Rattle.script_board.proofs.Listed.{lists_heard}
 use Rattle.script_board.proofs.device.ScriptBoardBoard.recv.Goals as goal
 
 pub returns-clause-lists : goal.returns-clause-lists
 returns-clause-lists g c =
     let t = c.take_event.ensures.took in
-    lists_heard g.S.Source g.K.Sink c.args.self.now c.take_event.new.self c.take_event.result c.take_event.new.into _ t.0 t.1 t.2 t.3 t.4
+    lists_heard g.S.Source g.K.Sink c.args.self.now c.take_event.new.self c.take_event.result c.take_event.new.into t.0 t.1 t.2 t.3
+    (events-result _ _ _ t.0 _ _ _ c.take_event.result c.take_event.new.into t.6)
     c.take_event.ensures.others.out c.take_event.ensures.others.given c.take_event.ensures.output
