@@ -10,10 +10,13 @@ use Rattle.vehicle_node.specs.Runs.{Run, run_of}
 use Rattle.script_lines.specs.Script.{ScriptLine}
 use Rattle.script_board.specs.Taking.{events_of}
 use Rattle.script_board.specs.Printing.{frame_lines, loss_line}
-use Rattle.script_board.specs.Hearing.{loses}
+use Rattle.script_board.specs.Hearing.{loses, HasNoLossNow, HasNoEnd, EndsWithEnd}
 use Rattle.replay.specs.Histories.{Ran, IsRun, History, history_lines, lines_taken, EndsSo, by_call, losses_by_call, IsWhole, Ended, Replayed, CutShort}
-use Rattle.replay.specs.Playing.{Adds, CloseEnds, RunEnds, Falls}
-use Rattle.replay.proofs.Steps.{loses-append}
+use Rattle.replay.specs.Playing.{CloseEnds, RunEnds, StopsSo, BreaksSo}
+use Rattle.replay.specs.declared.Stop.{Stop}
+use Rattle.replay.specs.declared.Break.TheVariants.{Lost}
+use Rattle.replay.proofs.Causes.{refused_map}
+use Rattle.replay.proofs.Uses.{loses-append, no_end-append, end-append}
 
 pub history-push : (budget : ℕ) (rs : List Ran) (w v : Words) (r : Ran) → History budget w rs v → IsRun budget v r → History budget w (rs ++ r ∷ []) r.words
 history-push budget [] w v r is run = (subst (λ (u : Words). IsRun budget u r) is run, refl)
@@ -32,43 +35,48 @@ pub losses-push : (rs : List Ran) (r : Ran) → losses_by_call (rs ++ r ∷ []) 
 losses-push [] r = omega arith
 losses-push (x ∷ rs) r = let rest = losses-push rs r in omega (arith, rest)
 
-pub ended_none : (budget : ℕ) (w : Words) (ls : List ScriptLine) (p : List ℕ) (u : ℕ) → Ended budget w ls ls p p u u w
-ended_none budget w ls p u = record { runs = []; history = refl; enough = omega arith; lines_are = sym (append-nil ls); printed_are = sym (append-nil p) }
+pub no_end_in : (budget : ℕ) (rs : List Ran) (w v : Words) → History budget w rs v → HasNoEnd (lines_taken rs)
+no_end_in budget [] w v is = tt
+no_end_in budget (x ∷ rs) w v is = no_end-append x.lines (lines_taken rs) is.0.no_end (no_end_in budget rs x.words v is.1)
 
-module _ (budget : ℕ) (w v u : Words) (l0 l1 l2 : List ScriptLine) (p0 p1 p2 : List ℕ) (u0 u1 u2 : ℕ) (e : Ended budget w l0 l1 p0 p1 u0 u1 v) (ls : List ScriptLine) (fs : List SentFrame) (adds : Adds l1 l2 p1 p2 ls fs) (b : List ℕ) (began : Stands v b) where
-  lines_now : l2 ≡ l0 ++ (lines_taken e.runs ++ ls)
-  lines_now = adds.lines_are ∙ ap (λ (l : List ScriptLine). l ++ ls) e.lines_are ∙ append_assoc l0 (lines_taken e.runs) ls
+pub ended_none : (budget : ℕ) (w : Words) → Ended budget w [] [] 0 w
+ended_none budget w = record { runs = []; history = refl; lines_are = refl; text_is = refl; each_loses = omega arith }
 
-  printed_now : p2 ≡ p0 ++ (history_lines e.runs ++ frame_lines fs)
-  printed_now = adds.printed_are ∙ ap (λ (l : List ℕ). l ++ frame_lines fs) e.printed_are ∙ append_assoc p0 (history_lines e.runs) (frame_lines fs)
+-- a run after those that losses ended, from these bytes
+module _ (budget : ℕ) (w v u : Words) (l0 : List ScriptLine) (t0 : List ℕ) (u1 u2 : ℕ) (e : Ended budget w l0 t0 u1 v) (ls : List ScriptLine) (fs : List SentFrame) (b : List ℕ) (began : Stands v b) where
+  lines_now : l0 ++ ls ≡ lines_taken e.runs ++ ls
+  lines_now = ap (λ (l : List ScriptLine). l ++ ls) e.lines_are
 
-  enough_then : losses_by_call e.runs ≤ u0 + loses (lines_taken e.runs)
-  enough_then = let enough = e.enough in omega (arith, enough)
+  text_now : t0 ++ frame_lines fs ≡ history_lines e.runs ++ frame_lines fs
+  text_now = ap (λ (t : List ℕ). t ++ frame_lines fs) e.text_is
 
-  -- one run more that a loss ended, and `loss` behind it
-  ended_so : (cut : Bool) (n : ℕ) → EndsSo cut ls n → by_call cut + u2 ≤ u1 + loses ls → Safe budget b (events_of ls) fs n u → (l3 : List ScriptLine) (p3 : List ℕ) → l3 ≡ l2 → p3 ≡ p2 ++ loss_line → Ended budget w l0 l3 p0 p3 u0 u2 u
-  ended_so cut n ends uses safe l3 p3 same printed =
+  no_end_yet : HasNoEnd l0
+  no_end_yet = subst HasNoEnd (sym e.lines_are) (no_end_in budget e.runs w v e.history)
+
+  enough : losses_by_call e.runs ≤ loses (lines_taken e.runs)
+  enough = let each = e.each_loses in omega (arith, each, ap loses e.lines_are)
+
+  -- a loss ended it too
+  ended_so : (cut : Bool) (n : ℕ) → EndsSo cut ls n → HasNoEnd ls → by_call cut + u2 ≡ u1 + loses ls → Safe budget b (events_of ls) fs n u → Ended budget w (l0 ++ ls) (t0 ++ (frame_lines fs ++ loss_line)) u2 u
+  ended_so cut n ends no_end uses safe =
       let r : Ran = record { lines = ls; frames = fs; finished = n; words = u; between_calls = cut } in
-      let enough = e.enough in
-      let counts = ap loses (lines_taken-push e.runs r) ∙ loses-append (lines_taken e.runs) ls in
+      let each = e.each_loses in
       record {
         runs = e.runs ++ r ∷ [];
-        history = history-push budget e.runs w v r e.history (record { bytes = b; began = began; safe = safe; ends = ends });
-        enough = omega (arith, enough, uses, counts, losses-push e.runs r);
-        lines_are = same ∙ lines_now ∙ ap (λ (l : List ScriptLine). l0 ++ l) (sym (lines_taken-push e.runs r));
-        printed_are = printed ∙ ap (λ (l : List ℕ). l ++ loss_line) printed_now ∙ append_assoc p0 (history_lines e.runs ++ frame_lines fs) loss_line
-            ∙ ap (λ (l : List ℕ). p0 ++ l) (append_assoc (history_lines e.runs) (frame_lines fs) loss_line ∙ sym (history_lines-push e.runs r));
+        history = history-push budget e.runs w v r e.history (record { bytes = b; began = began; safe = safe; ends = ends; no_end = no_end });
+        lines_are = lines_now ∙ sym (lines_taken-push e.runs r);
+        text_is = ap (λ (t : List ℕ). t ++ (frame_lines fs ++ loss_line)) e.text_is ∙ sym (history_lines-push e.runs r);
+        each_loses = omega (arith, each, uses, losses-push e.runs r, loses-append l0 ls);
       }
 
-  pub ended_more : (n : ℕ) → Falls ls n u1 u2 → Safe budget b (events_of ls) fs n u → (l3 : List ScriptLine) (p3 : List ℕ) → l3 ≡ l2 → p3 ≡ p2 ++ loss_line → Ended budget w l0 l3 p0 p3 u0 u2 u
-  ended_more n (inl cut) safe l3 p3 same printed = let uses = cut.1 in ended_so true n cut.0 (omega (arith, uses)) safe l3 p3 same printed
-  ended_more n (inr call) safe l3 p3 same printed = let uses = call.1 in ended_so false n call.0 (omega (arith, uses)) safe l3 p3 same printed
+  pub ended_more : (n : ℕ) → BreaksSo Lost ls n u1 u2 → Safe budget b (events_of ls) fs n u → Ended budget w (l0 ++ ls) (t0 ++ (frame_lines fs ++ loss_line)) u2 u
+  ended_more n (no_end, inl cut) safe = let uses = cut.1 in ended_so true n cut.0 no_end (omega (arith, uses)) safe
+  ended_more n (no_end, inr call) safe = let uses = call.1 in ended_so false n call.0 no_end (omega (arith, uses)) safe
 
-  -- the last run is whole
-  pub replayed : IsWhole budget b (events_of ls) fs u → Replayed budget w l0 l2 p0 p2 u0 u
-  replayed whole = record {
+  -- it is whole, and the last one
+  pub replayed : IsWhole budget b (events_of ls) fs u → HasNoLossNow ls → EndsWithEnd ls → Replayed budget w (l0 ++ ls) (t0 ++ frame_lines fs) u
+  replayed whole none ends = record {
     runs = e.runs;
-    enough = enough_then;
     words = v;
     history = e.history;
     last_lines = ls;
@@ -77,25 +85,37 @@ module _ (budget : ℕ) (w v u : Words) (l0 l1 l2 : List ScriptLine) (p0 p1 p2 :
     began = began;
     whole = whole;
     lines_are = lines_now;
-    printed_are = printed_now;
+    text_is = text_now;
+    ends = end-append l0 ls no_end_yet ends;
+    no_loss_now = none;
+    enough = enough;
   }
 
-  -- the last run was cut short
-  pub cut_short : (n : ℕ) → Safe budget b (events_of ls) fs n u → CutShort budget w l0 l2 p0 p2 u0 u
-  cut_short n safe = record {
-    runs = e.runs;
-    enough = enough_then;
-    words = v;
-    history = e.history;
-    last_lines = ls;
-    last_frames = fs;
-    finished = n;
-    bytes = b;
-    began = began;
-    safe = safe;
-    lines_are = lines_now;
-    printed_are = printed_now;
-  }
+  -- it was cut short
+  pub cut_short : (why : Stop) (n : ℕ) → StopsSo why ls n u1 u2 → Safe budget b (events_of ls) fs n u → CutShort budget w (l0 ++ ls) (t0 ++ frame_lines fs) why u2 u
+  cut_short why n stops safe =
+      let each = e.each_loses in
+      record {
+        runs = e.runs;
+        words = v;
+        history = e.history;
+        last_lines = ls;
+        last_frames = fs;
+        finished = n;
+        bytes = b;
+        began = began;
+        safe = safe;
+        lines_are = lines_now;
+        text_is = text_now;
+        no_loss_now = stops.0;
+        between = stops.1;
+        enough = enough;
+        each_loses = refused_map why (λ line is. (no_end-append l0 ls no_end_yet is.0, let waits = is.1 in omega (arith, each, waits, loses-append l0 ls))) stops.2;
+      }
+
+-- what is printed after a text
+pub printed_then : (p0 p1 p2 a b : List ℕ) → p1 ≡ p0 ++ a → p2 ≡ p1 ++ b → p2 ≡ p0 ++ (a ++ b)
+printed_then p0 p1 p2 a b first second = second ∙ ap (λ (l : List ℕ). l ++ b) first ∙ append_assoc p0 a b
 
 -- a run whose lines are all put is whole
 pub whole_run : (budget : ℕ) (node : Node) (b : List ℕ) (ls : List ScriptLine) (fs : List SentFrame) (n : ℕ) (w : Words) → StandsForRun node b (events_of ls) fs n

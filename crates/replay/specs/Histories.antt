@@ -15,7 +15,6 @@ use Rattle.script_board.specs.Printing.{frame_lines, loss_line}
 use Rattle.script_board.specs.Hearing.{loses, HasNoLossNow, HasNoEnd, EndsWithEnd}
 use Rattle.replay.specs.Breaks.{OnRefused, BetweenEvents}
 use Rattle.replay.specs.declared.Stop.{Stop}
-use Rattle.replay.specs.declared.Break.TheVariants.{Stopped}
 
 -- whichever lines of the script were taken before, now these were taken too
 abbrev pub AreNext : (List ScriptLine → Type 0) → (List ScriptLine → Type 0) → List ScriptLine
@@ -83,8 +82,8 @@ pub record IsWhole (budget : ℕ) (b : List ℕ) (events : List Received) (frame
   pub all_answers : AreFramesOf (run_of budget b acts).answers frames
   pub all_lines : Stands words (after b (run_of budget b acts).issued)
 
--- Runs that losses ended: the lines that they took, what was printed, and how many losses wait. Each
--- line `l` ended one of them or waits.
+-- Runs that losses ended: the lines that they took, what was printed, and how many losses wait.
+-- Each line `l` ended one of them or waits.
 pub record Ended (budget : ℕ) (before : Words) (lines : List ScriptLine) (text : List ℕ)
     (waiting : ℕ) (now : Words) : Type 0 where
   pub runs : List Ran
@@ -133,4 +132,4 @@ pub record CutShort (budget : ℕ) (before : Words) (lines : List ScriptLine) (t
   pub between : BetweenEvents (finished ≡ length (events_of last_lines)) stop
   pub enough : losses_by_call runs ≤ loses (lines_taken runs)
   pub each_loses : OnRefused (λ line. HasNoEnd lines
-      × (losses_by_call runs + waiting ≡ loses lines)) (Stopped stop)
+      × (losses_by_call runs + waiting ≡ loses lines)) stop

@@ -8,6 +8,7 @@ use Rattle.vehicle_node.specs.Runs.{Run}
 use Rattle.vehicle_node.specs.Safe.{Safe}
 use Rattle.vehicle_node.specs.Standing.{Node, StandsAt, StandsForRun}
 use Rattle.script_lines.specs.Script.{ScriptLine}
+use Rattle.script_board.specs.Taking.{events_of}
 use Rattle.script_board.specs.Printing.{frame_lines}
 use Rattle.script_board.specs.Hearing.{loses, HasNoLossNow, HasNoEnd, EndsWithEnd}
 use Rattle.vehicle_node.specs.declared.Turn.{Turn}
@@ -81,7 +82,7 @@ abbrev pub StopsSo : Stop → List ScriptLine → ℕ → ℕ → ℕ → Type 0
 StopsSo why lines finished before now =
     HasNoLossNow lines
     × BetweenEvents (finished ≡ length (events_of lines)) why
-    × OnRefused (λ line. HasNoEnd lines × (now ≡ before + loses lines)) (Stopped why)
+    × OnRefused (λ line. HasNoEnd lines × (now ≡ before + loses lines)) why
 
 -- the same where it broke off
 abbrev pub BreaksSo : Break → List ScriptLine → ℕ → ℕ → ℕ → Type 0

@@ -15,7 +15,7 @@ ghost use Rattle.vehicle_node.specs.Standing as standing;
 ghost use Rattle.script_lines.specs.Script.{ScriptLine};
 ghost use Rattle.script_board.specs.Taking.{events_of};
 ghost use Rattle.script_board.specs.Printing.{loss_line};
-ghost use Rattle.replay.specs.Breaks.{OnLost, OnRefused, OnForeign, OnWorn, OnInput, OnOutput};
+ghost use Rattle.replay.specs.Breaks.{OnLost, OnStopped, OnRefused, OnForeign, OnWorn, OnInput, OnOutput};
 ghost use Rattle.replay.specs.Histories.{AreNext, Replayed, CutShort};
 ghost use Rattle.replay.specs.Playing.{Adds, OpenEnds, EventEnds, CloseEnds, RunEnds, TurnUses, PlayUses, QuietUses};
 
@@ -39,10 +39,14 @@ pub enum Stop {
         word: u16,
     },
     /// A sector is to be voided and the guard row is used up.
-    Worn { count: u16 },
+    Worn {
+        count: u16,
+    },
     /// The line of this number, from 1, isn't of the grammar, `e` is missing there, or one loss
     /// more than sixteen would wait.
-    Refused { line: u32 },
+    Refused {
+        line: u32,
+    },
     /// The source failed.
     Input,
     /// The sink failed.
@@ -107,13 +111,14 @@ pub trait Player {
         ensures lost { IfErr result
             (OnLost (remaining self.new + 1 ≤ remaining self.old)) }
         ensures foreign { IfErr result
-            (OnForeign (λ place. told self.new → FirstBad (words self.old) place)) }
-        ensures worn { IfErr result (OnWorn (λ count. count ≡ GUARD_HALFWORDS)) }
-        ensures refused { IfErr result (OnRefused (λ line. ⊥)) }
+            (OnStopped (OnForeign (λ place. told self.new → FirstBad (words self.old) place))) }
+        ensures worn { IfErr result
+            (OnStopped (OnWorn (λ count. count ≡ GUARD_HALFWORDS))) }
+        ensures refused { IfErr result (OnStopped (OnRefused (λ line. ⊥))) }
         ensures input { IfErr result
-            (OnInput (Rose (input_faults self.old) (input_faults self.new))) }
+            (OnStopped (OnInput (Rose (input_faults self.old) (input_faults self.new)))) }
         ensures output { IfErr result
-            (OnOutput (Rose (output_faults self.old) (output_faults self.new))) }
+            (OnStopped (OnOutput (Rose (output_faults self.old) (output_faults self.new)))) }
         ensures input_counts { input_faults self.old ≤ input_faults self.new }
         ensures output_counts { output_faults self.old ≤ output_faults self.new };
 
@@ -135,13 +140,14 @@ pub trait Player {
         ensures finished { OnOk result (remaining self.new + 1 ≤ remaining self.old) }
         ensures lost { IfErr result
             (OnLost (remaining self.new + 1 ≤ remaining self.old)) }
-        ensures foreign { IfErr result (OnForeign (λ place. ⊥)) }
-        ensures worn { IfErr result (OnWorn (λ count. count ≡ GUARD_HALFWORDS)) }
-        ensures refused { IfErr result (OnRefused (refuses self.new)) }
+        ensures foreign { IfErr result (OnStopped (OnForeign (λ place. ⊥))) }
+        ensures worn { IfErr result
+            (OnStopped (OnWorn (λ count. count ≡ GUARD_HALFWORDS))) }
+        ensures refused { IfErr result (OnStopped (OnRefused (refuses self.new))) }
         ensures input { IfErr result
-            (OnInput (Rose (input_faults self.old) (input_faults self.new))) }
+            (OnStopped (OnInput (Rose (input_faults self.old) (input_faults self.new)))) }
         ensures output { IfErr result
-            (OnOutput (Rose (output_faults self.old) (output_faults self.new))) }
+            (OnStopped (OnOutput (Rose (output_faults self.old) (output_faults self.new)))) }
         ensures input_counts { input_faults self.old ≤ input_faults self.new }
         ensures output_counts { output_faults self.old ≤ output_faults self.new };
 
@@ -158,13 +164,14 @@ pub trait Player {
         ensures remaining { remaining self.new ≤ remaining self.old }
         ensures lost { IfErr result
             (OnLost (remaining self.new + 1 ≤ remaining self.old)) }
-        ensures foreign { IfErr result (OnForeign (λ place. ⊥)) }
-        ensures worn { IfErr result (OnWorn (λ count. count ≡ GUARD_HALFWORDS)) }
-        ensures refused { IfErr result (OnRefused (λ line. ⊥)) }
+        ensures foreign { IfErr result (OnStopped (OnForeign (λ place. ⊥))) }
+        ensures worn { IfErr result
+            (OnStopped (OnWorn (λ count. count ≡ GUARD_HALFWORDS))) }
+        ensures refused { IfErr result (OnStopped (OnRefused (λ line. ⊥))) }
         ensures input { IfErr result
-            (OnInput (Rose (input_faults self.old) (input_faults self.new))) }
+            (OnStopped (OnInput (Rose (input_faults self.old) (input_faults self.new)))) }
         ensures output { IfErr result
-            (OnOutput (Rose (output_faults self.old) (output_faults self.new))) }
+            (OnStopped (OnOutput (Rose (output_faults self.old) (output_faults self.new)))) }
         ensures input_counts { input_faults self.old ≤ input_faults self.new }
         ensures output_counts { output_faults self.old ≤ output_faults self.new };
 
@@ -201,13 +208,14 @@ fn play<P: Player>(player: &mut P, node: &mut Node) -> Result<(), Break>
     ensures remaining { P.remaining player.new ≤ P.remaining player.old }
     ensures lost { IfErr result
         (OnLost (P.remaining player.new + 1 ≤ P.remaining player.old)) }
-    ensures foreign { IfErr result (OnForeign (λ place. ⊥)) }
-    ensures worn { IfErr result (OnWorn (λ count. count ≡ GUARD_HALFWORDS)) }
-    ensures refused { IfErr result (OnRefused (P.refuses player.new)) }
+    ensures foreign { IfErr result (OnStopped (OnForeign (λ place. ⊥))) }
+    ensures worn { IfErr result
+        (OnStopped (OnWorn (λ count. count ≡ GUARD_HALFWORDS))) }
+    ensures refused { IfErr result (OnStopped (OnRefused (P.refuses player.new))) }
     ensures input { IfErr result
-        (OnInput (Rose (P.input_faults player.old) (P.input_faults player.new))) }
+        (OnStopped (OnInput (Rose (P.input_faults player.old) (P.input_faults player.new)))) }
     ensures output { IfErr result
-        (OnOutput (Rose (P.output_faults player.old) (P.output_faults player.new))) }
+        (OnStopped (OnOutput (Rose (P.output_faults player.old) (P.output_faults player.new)))) }
     ensures input_counts { P.input_faults player.old ≤ P.input_faults player.new }
     ensures output_counts { P.output_faults player.old ≤ P.output_faults player.new }
 {
@@ -235,13 +243,14 @@ fn run_once<P: Player>(alloc: Global, player: &mut P) -> Result<(), Break>
     ensures lost { IfErr result
         (OnLost (P.remaining player.new + 1 ≤ P.remaining player.old)) }
     ensures foreign { IfErr result
-        (OnForeign (λ place. P.told player.new → FirstBad (P.words player.old) place)) }
-    ensures worn { IfErr result (OnWorn (λ count. count ≡ GUARD_HALFWORDS)) }
-    ensures refused { IfErr result (OnRefused (P.refuses player.new)) }
+        (OnStopped (OnForeign (λ place. P.told player.new → FirstBad (P.words player.old) place))) }
+    ensures worn { IfErr result
+        (OnStopped (OnWorn (λ count. count ≡ GUARD_HALFWORDS))) }
+    ensures refused { IfErr result (OnStopped (OnRefused (P.refuses player.new))) }
     ensures input { IfErr result
-        (OnInput (Rose (P.input_faults player.old) (P.input_faults player.new))) }
+        (OnStopped (OnInput (Rose (P.input_faults player.old) (P.input_faults player.new)))) }
     ensures output { IfErr result
-        (OnOutput (Rose (P.output_faults player.old) (P.output_faults player.new))) }
+        (OnStopped (OnOutput (Rose (P.output_faults player.old) (P.output_faults player.new)))) }
     ensures input_counts { P.input_faults player.old ≤ P.input_faults player.new }
     ensures output_counts { P.output_faults player.old ≤ P.output_faults player.new }
 {
@@ -272,19 +281,14 @@ pub fn replay<P: Player>(alloc: Global, player: &mut P) -> Result<(), Stop>
         × (P.printed player.new ≡ P.printed player.old ++ text)
         × CutShort P.arming (P.words player.old) lines text stop (P.waiting player.new)
         (P.words player.new)) }
-    ensures foreign { IfErr result (λ stop. OnForeign
-        (λ place. P.told player.new → (b : List ℕ) → Stands (P.words player.old) b → ⊥)
-        (Break.Stopped stop)) }
-    ensures worn { IfErr result
-        (λ stop. OnWorn (λ count. count ≡ GUARD_HALFWORDS) (Break.Stopped stop)) }
-    ensures refused { IfErr result
-        (λ stop. OnRefused (P.refuses player.new) (Break.Stopped stop)) }
-    ensures input { IfErr result (λ stop.
-        OnInput (Rose (P.input_faults player.old) (P.input_faults player.new))
-        (Break.Stopped stop)) }
-    ensures output { IfErr result (λ stop.
-        OnOutput (Rose (P.output_faults player.old) (P.output_faults player.new))
-        (Break.Stopped stop)) }
+    ensures foreign { IfErr result (OnForeign
+        (λ place. P.told player.new → (b : List ℕ) → Stands (P.words player.old) b → ⊥)) }
+    ensures worn { IfErr result (OnWorn (λ count. count ≡ GUARD_HALFWORDS)) }
+    ensures refused { IfErr result (OnRefused (P.refuses player.new)) }
+    ensures input { IfErr result
+        (OnInput (Rose (P.input_faults player.old) (P.input_faults player.new))) }
+    ensures output { IfErr result
+        (OnOutput (Rose (P.output_faults player.old) (P.output_faults player.new))) }
     ensures input_counts { P.input_faults player.old ≤ P.input_faults player.new }
     ensures output_counts { P.output_faults player.old ≤ P.output_faults player.new }
 {

@@ -2,7 +2,7 @@ use Rattle.std.proofs.Common.{◌≡◌, ◌≤◌, ◌+◌, List}
 use Rattle.flash_traits.specs.Losses.{SentFrame}
 use Rattle.script_lines.specs.Script.{ScriptLine}
 use Rattle.script_board.specs.Taking.{events_of}
-use Rattle.script_board.specs.Hearing.{loses, HasNoLossNow}
+use Rattle.script_board.specs.Hearing.{loses, HasNoLossNow, HasNoEnd}
 use Rattle.replay.specs.Playing.{Adds, GoesOn}
 use Rattle.replay.proofs.play.Given as goal
 
@@ -10,11 +10,15 @@ abbrev pub invariant-events : goal.invariant-events
 invariant-events g l =
     let p = g.P.Player in
     record {
+      holds : p.holds l.player;
       fits : p.fits l.player l.node;
       told : p.told l.player → p.told l.fn.player;
-      plays : p.told l.player → (ls : List ScriptLine) × (fs : List SentFrame) × Adds (p.lines l.fn.player) (p.lines l.player) (p.printed l.fn.player) (p.printed l.player) ls fs × GoesOn l.fn.node l.node (events_of ls) fs × (l.node.budget ≡ l.fn.node.budget)
-          × HasNoLossNow ls × (p.waiting l.player ≤ p.waiting l.fn.player + loses ls);
+      plays : p.told l.player → (lines : List ScriptLine) × (frames : List SentFrame) × Adds (p.took l.fn.player) (p.took l.player) (p.printed l.fn.player) (p.printed l.player) lines frames
+          × GoesOn l.fn.node l.node (events_of lines) frames × (l.node.budget ≡ l.fn.node.budget)
+          × HasNoLossNow lines × HasNoEnd lines × (p.waiting l.player ≡ p.waiting l.fn.player + loses lines);
       remaining : p.remaining l.player ≤ p.remaining l.fn.player;
+      input_counts : p.input_faults l.fn.player ≤ p.input_faults l.player;
+      output_counts : p.output_faults l.fn.player ≤ p.output_faults l.player;
     }
 
 abbrev pub decreases-events : goal.decreases-events
