@@ -18,7 +18,7 @@ import subprocess
 import sys
 
 TOP = os.path.join(os.path.dirname(os.path.abspath(__file__)), "..")
-COMMANDS = ("serve", "dump", "report", "format", "gen")
+COMMANDS = ("serve", "replay", "dump", "report", "format", "gen")
 RESULT = re.compile(r"^test memory::(\w+)_with_memory \.\.\. (ok|FAILED)(?:\n +error: \"(not begun|status 2)\")?", re.M)
 
 

@@ -23,7 +23,7 @@ fn prepare(alloc: Global) -> Result<Prepared, AllocError> {
     image.resize(49_152, 0xFF)?;
     Ok(Prepared {
         board: MemBoard::new(alloc, &image, &[Feed::Idle], &[])?,
-        input: SureSource::new(alloc, &[])?,
+        input: SureSource::new(alloc, b"e\n")?,
         out: SureSink::new(alloc, 20_000)?,
     })
 }
@@ -53,6 +53,11 @@ fn serve_with_memory(rt: HostRuntime) -> Result<(), Fail> {
         &["serve", "--turns=2", "a"],
         b"served 1 events 0 frames\n",
     )
+}
+
+#[test]
+fn replay_with_memory(rt: HostRuntime) -> Result<(), Fail> {
+    ends_well(rt.alloc(), &["replay", "a"], b"bytes ")
 }
 
 #[test]

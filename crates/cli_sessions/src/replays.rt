@@ -1,5 +1,5 @@
-//! Replays: what a script prints, what is told of a refused line and of a failing call, and that the
-//! image stays as it was.
+//! Replays: what a script prints, what is told of a refused line and of a failing call, and that
+//! the image stays as it was.
 use flash_board::{MemBoard, MemSink, MemSource, SureBoard, SureSink, SureSource};
 use std::alloc::Global;
 use std::test::Fail;
@@ -53,17 +53,29 @@ fn prints_a_loss_and_the_digest(rt: HostRuntime) -> Result<(), Fail> {
 fn names_the_refused_line(rt: HostRuntime) -> Result<(), Fail> {
     let alloc = rt.alloc();
     let (status, text) = replay(alloc, b"i\nz\n")?;
-    assert_eq!(rt; (status, text.as_slice()), (Status(11), b"error 11 line 2\n".as_slice()));
+    assert_eq!(rt;
+        (status, text.as_slice()),
+        (Status(11), b"error 11 line 2\n".as_slice())
+    );
     let (status, text) = replay(alloc, b"")?;
-    assert_eq!(rt; (status, text.as_slice()), (Status(11), b"error 11 line 1\n".as_slice()));
+    assert_eq!(rt;
+        (status, text.as_slice()),
+        (Status(11), b"error 11 line 1\n".as_slice())
+    );
     let (status, text) = replay(alloc, b"x\ni\n")?;
-    assert_eq!(rt; (status, text.as_slice()), (Status(11), b"loss\nerror 11 line 3\n".as_slice()));
+    assert_eq!(rt;
+        (status, text.as_slice()),
+        (Status(11), b"loss\nerror 11 line 3\n".as_slice())
+    );
     let mut losses = Vec::new(alloc);
     for _ in 0..17 {
         losses.extend_from_slice(b"l 1000000 0\n")?;
     }
     let (status, text) = replay(alloc, &losses)?;
-    assert_eq!(rt; (status, text.as_slice()), (Status(11), b"error 11 line 17\n".as_slice()));
+    assert_eq!(rt;
+        (status, text.as_slice()),
+        (Status(11), b"error 11 line 17\n".as_slice())
+    );
     Ok(())
 }
 
@@ -86,11 +98,20 @@ fn tells_which_call_failed(rt: HostRuntime) -> Result<(), Fail> {
     let alloc = rt.alloc();
     let none = u32::MAX;
     let (status, text) = failing(alloc, 0, none, none)?;
-    assert_eq!(rt; (status, text.as_slice()), (Status(13), b"error 13 attach\n".as_slice()));
+    assert_eq!(rt;
+        (status, text.as_slice()),
+        (Status(13), b"error 13 attach\n".as_slice())
+    );
     let (status, text) = failing(alloc, 1, none, none)?;
-    assert_eq!(rt; (status, text.as_slice()), (Status(4), b"error 4 read\n".as_slice()));
+    assert_eq!(rt;
+        (status, text.as_slice()),
+        (Status(4), b"error 4 read\n".as_slice())
+    );
     let (status, text) = failing(alloc, none, 0, none)?;
-    assert_eq!(rt; (status, text.as_slice()), (Status(9), b"error 9 input\n".as_slice()));
+    assert_eq!(rt;
+        (status, text.as_slice()),
+        (Status(9), b"error 9 input\n".as_slice())
+    );
     // the line of the loss fails, and then that of the digest
     let (status, text) = failing(alloc, none, none, 0)?;
     assert_eq!(rt; status, Status(10));

@@ -12,5 +12,6 @@ pub mod FreshImage
 pub mod Sessions
 pub mod Copies
 pub mod ReplayStops
+pub mod ScriptStops
 pub mod ReplayLines
 pub mod ReplayRuns

@@ -331,8 +331,8 @@ pub fn run<'a, B: Board, S: Source, K: Sink>(
 
     // A foreign halfword is told exactly where there is one, unless memory is wanting, or a call or
     // the output fails. Nothing is programmed, erased, received or sent then, and where a serve
-    // finds a foreign halfword the words are left alone, whatever the status. Of a replay it is told
-    // only where the source and the sink tell their bytes too.
+    // finds a foreign halfword the words are left alone, whatever the status. Which one a replay
+    // names is known only where the source and the sink tell their bytes too.
     ensures foreign { OnOthers (texts words.entry.now) (result.0 ≡ FOREIGN_WORD)
         (NamesForeign (B.tells board.new) (B.words board.old) (Prints K.Sink out.old out.new)) }
     ensures replay_foreign { OnReplay (texts words.entry.now) (result.0 ≡ FOREIGN_WORD)
