@@ -12,3 +12,4 @@ pub mod Played
 pub mod Remaining
 pub mod Places
 pub mod Returned
+pub mod Replays

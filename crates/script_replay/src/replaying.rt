@@ -40,8 +40,8 @@ fn placed<'a, S: Source, K: Sink>(
     ensures these { IfSome result (λ board. (board.input ≡ input.entry) × (board.out ≡ out.entry)) }
     ensures image { IfSome result (λ board. (board.geometry.sector_bytes ≡ sector_bytes)
         × (board.image.items ≡ image.items)) }
-    ensures anew { IfSome result (λ board. (board.line ≡ 0) × (board.ahead ≡ 0)
-        × (board.waiting.items ≡ [])) }
+    ensures anew { IfSome result (λ board. (board.buffer.items ≡ []) × (board.ahead ≡ 0)
+        × (board.line ≡ 0) × (board.waiting.items ≡ [])) }
     ensures some { IsSome result }
 {
     Some(ScriptBoard {
