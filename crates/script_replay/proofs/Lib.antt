@@ -13,3 +13,4 @@ pub mod Remaining
 pub mod Places
 pub mod Returned
 pub mod Replays
+pub mod Wholes

@@ -62,9 +62,10 @@ fn placed<'a, S: Source, K: Sink>(
     })
 }
 
-/// Ends the loan of what is handed in.
-fn end<T>(place: &mut T)
-    ensures { place.new ≡ place.old }
+/// Ends the loans of a source and of a sink.
+fn end<S, K>(input: &mut S, out: &mut K)
+    ensures input { input.new ≡ input.old }
+    ensures out { out.new ≡ out.old }
 {}
 
 /// The SHA-256 of the storage bytes that an image stands for.
@@ -204,8 +205,7 @@ pub fn replay_script<S: Source, K: Sink>(
         moment: _,
         faults: _,
     } = board;
-    end(input);
-    end(out);
+    end(input, out);
     match done {
         Ok(()) => digest_of(images, geometry.sector_bytes, image),
         Err(stop) => Err(stop),
