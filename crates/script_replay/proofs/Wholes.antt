@@ -134,3 +134,44 @@ module _ {S K : Type 0} {g : source.Ghosts S} {h : sink.Ghosts K} where
             refused = refused_so stop (length ran.lines) ran.count tells ran.is.1;
           },
         )
+
+    -- the same of what stands behind the references at last
+    module _ (i1 : S) (o1 : K) (same_input : i1 ≡ b.input.now) (same_out : o1 ≡ b.out.now) where
+      over_last : (P : S → K → Type 0) → P b.input.now b.out.now → P i1 o1
+      over_last P is = subst (λ (x : S). P x o1) (sym same_input) (subst (λ (y : K). P b.input.now y) (sym same_out) is)
+
+      module _ {M : Type 0} (replays : ReplaysAt (begins_at {M = M} first) (words_at first) (Some b)) (law : OneOfBoth) where
+        pub whole_by : (r : Result (List ℕ) Stop) → IfOk r (λ digest. (bytes : List ℕ) × Stands (words_in b) bytes × (digest ≡ sha256 bytes))
+            → IfOk r (λ digest. g.tells_rest i1 → h.tells_written o1 → (bs : List ℕ) → Stands (words_of size image) bs
+            → (text : List ℕ) × (h.written o1 ≡ h.written o.now ++ text) × ReplaysWhole (budget_of size) (words_of size image) (g.rest i.now) (g.rest i1) text digest)
+        whole_by (Ok digest) is = over_last (λ x y. g.tells_rest x → h.tells_written y → (bs : List ℕ) → Stands (words_of size image) bs
+            → (text : List ℕ) × (h.written y ≡ h.written o.now ++ text) × ReplaysWhole (budget_of size) (words_of size image) (g.rest i.now) (g.rest x) text digest) (whole_so replays digest is.0 is.1 is.2)
+        whole_by (Err stop) is = tt
+
+        never : (p : Place) → FirstBad (words_in b) p → g.tells_rest i1 → h.tells_written o1 → (bs : List ℕ) → Stands (words_of size image) bs → ⊥
+        never p bad = over_last (λ x y. g.tells_rest x → h.tells_written y → (bs : List ℕ) → Stands (words_of size image) bs → ⊥) (never_foreign replays law p bad)
+
+        pub part_never : (H : Stop → List ℕ → Type 0) (r : Result (List ℕ) Stop) → IfErr r (IsForeign (FirstBad (words_in b)))
+            → IfErr r (λ stop. stop ≢ stops.Output → g.tells_rest i1 → h.tells_written o1 → (bs : List ℕ) → Stands (words_of size image) bs → (text : List ℕ) × (h.written o1 ≡ h.written o.now ++ text) × H stop text)
+        part_never H (Ok digest) bad = tt
+        part_never H (Err stop) bad = λ other tells told bs stood. absurd (foreign_bad (FirstBad (words_in b)) ⊥ (λ p is. never p is tells told bs stood) stop bad)
+
+        pub foreign_never : (r : Result (List ℕ) Stop) → IfErr r (IsForeign (FirstBad (words_in b)))
+            → IfErr r (OnForeign (λ p. g.tells_rest i1 → h.tells_written o1 → (bs : List ℕ) → Stands (words_of size image) bs → ⊥))
+        foreign_never (Ok digest) bad = tt
+        foreign_never (Err stop) bad = on_foreign_bad (FirstBad (words_in b)) (λ p. g.tells_rest i1 → h.tells_written o1 → (bs : List ℕ) → Stands (words_of size image) bs → ⊥) never stop bad
+
+      pub part_by : {M : Type 0} (stop : Stop) → (stop ≢ stops.Output → StopsAt (begins_at {M = M} first) (words_at first) (Some b) stop) → stop ≢ stops.Output → g.tells_rest i1 → h.tells_written o1 → (bs : List ℕ)
+          → Stands (words_of size image) bs → (text : List ℕ) × (h.written o1 ≡ h.written o.now ++ text) × ReplaysPart (budget_of size) (words_of size image) (g.rest i.now) (g.rest i1) text stop
+      part_by stop stopped other = over_last (λ x y. g.tells_rest x → h.tells_written y → (bs : List ℕ) → Stands (words_of size image) bs
+          → (text : List ℕ) × (h.written y ≡ h.written o.now ++ text) × ReplaysPart (budget_of size) (words_of size image) (g.rest i.now) (g.rest x) text stop) (part_so stop (stopped other))
+
+      pub foreign_by : (stop : Stop) → OnForeign (λ p. g.tells_rest b.input.now → h.tells_written b.out.now → (bs : List ℕ) → Stands (words_at first) bs → ⊥) stop
+          → OnForeign (λ p. g.tells_rest i1 → h.tells_written o1 → (bs : List ℕ) → Stands (words_of size image) bs → ⊥) stop
+      foreign_by stops.Memory bad = tt
+      foreign_by (stops.Foreign region offset word) bad = over_last (λ x y. g.tells_rest x → h.tells_written y → (bs : List ℕ) → Stands (words_of size image) bs → ⊥)
+          (λ tells told bs stood. bad tells told bs (subst (λ (w : Words). Stands w bs) (sym made.words) stood))
+      foreign_by (stops.Worn count) bad = tt
+      foreign_by (stops.Refused line) bad = tt
+      foreign_by stops.Input bad = tt
+      foreign_by stops.Output bad = tt
