@@ -90,7 +90,8 @@ impl<'a, S: Source, K: Sink> ScriptBoard<'a, S, K> {
 
     /// Each word is a halfword.
     pub fn are_halfwords(&self)
-        ensures { (r : Region) (k : ℕ) → slice_index (halfwords_in (words_in self.now) r) k < 2 ^ 16 }
+        ensures { (r : Region) (k : ℕ)
+            → slice_index (halfwords_in (words_in self.now) r) k < 2 ^ 16 }
     {
         image::has_shape(&self.image, self.geometry.sector_bytes)
     }

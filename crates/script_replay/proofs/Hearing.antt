@@ -1,23 +1,21 @@
 -- The one reception of a call of a node.
-use Rattle.std.proofs.Common.{◌≡◌, ◌≢◌, ◌⊎◌, inl, inr, ℕ, ◌+◌, ◌≤◌, Bool, true, false, List, [], ◌∷◌, ◌++◌, length, slice_index, Option, Some, None, Result, Ok, Err, refl, sym, ◌∙◌, ap, subst, arith, append_assoc}
+use Rattle.std.proofs.Common.{◌≡◌, inl, inr, ℕ, ◌+◌, ◌≤◌, Bool, true, false, List, [], ◌∷◌, ◌++◌, length, Option, Some, None, Ok, sym, ◌∙◌, ap, subst, arith, append_assoc}
 use Rattle.std.specs.Option.{IsSome}
 use Rattle.flash_traits.specs.declared.stream.Source as source
 use Rattle.flash_traits.specs.declared.stream.Sink as sink
 use Rattle.flash_traits.specs.Causes.{Rose}
-use Rattle.flash_traits.specs.Losses.{Received, received, SentFrame, Outcome, After, Receives}
+use Rattle.flash_traits.specs.Losses.{Received, received, SentFrame}
 use Rattle.flash_traits.specs.declared.board.Event.{Event}
-use Rattle.flash_traits.specs.declared.board.Event.TheVariants as event
-use Rattle.flash_traits.specs.declared.board.Failed.{Failed}
-use Rattle.script_lines.specs.Script.{ScriptLine, AreLines, line_feed}
+use Rattle.script_lines.specs.Script.{ScriptLine}
 use Rattle.script_board.specs.Marks.{marked}
 use Rattle.script_board.specs.Taking.{AreTaken, Took}
-use Rattle.script_board.specs.Boards.{words_in, unread_in}
+use Rattle.script_board.specs.Boards.{unread_in}
 use Rattle.script_board.specs.Hearing.{IsHeard, IsUnheard, IsRefused, waiting_behind, loses}
 use Rattle.script_board.specs.declared.board.ScriptMark.{ScriptMark}
 use Rattle.script_board.specs.declared.board.ScriptMark.TheVariants.{Lost, Refused, Input, Output}
 use Rattle.script_board.specs.declared.board.ScriptBoard.{ScriptBoard}
-use Rattle.script_replay.specs.Calls.{Takes, ArePrinted, WaitsBy, HasHeard, events_heard}
-use Rattle.script_replay.specs.Held.{HasLists, HasLeft}
+use Rattle.script_replay.specs.Calls.{Takes, ArePrinted, WaitsBy, HasHeard}
+use Rattle.script_replay.specs.Held.{HasLists}
 use Rattle.script_replay.specs.declared.start.Start as start
 use Rattle.script_replay.proofs.Lists.{on_heard, none_no_output}
 

@@ -1,5 +1,5 @@
 -- The lists that a board stands for during a call of a node, from one of its calls to the next.
-use Rattle.std.proofs.Common.{◌≡◌, ◌≢◌, ◌⊎◌, inl, inr, ℕ, ◌+◌, ◌≤◌, ◌<◌, Bool, true, false, List, [], ◌∷◌, ◌++◌, length, drop, Option, Some, None, refl, sym, ◌∙◌, ap, subst, arith}
+use Rattle.std.proofs.Common.{◌≡◌, ◌≢◌, inl, inr, ℕ, ◌+◌, ◌≤◌, ◌<◌, Bool, true, false, List, [], ◌∷◌, ◌++◌, length, drop, Option, Some, None, refl, sym, ◌∙◌, ap, subst, arith}
 use Rattle.std.specs.Option.{is_some}
 use Rattle.flash_traits.specs.declared.stream.Source as source
 use Rattle.flash_traits.specs.declared.stream.Sink as sink
@@ -13,11 +13,11 @@ use Rattle.script_board.specs.Hearing.{IsUnheard, IsRefused}
 use Rattle.script_board.specs.Marks.{marked}
 use Rattle.script_board.specs.Waiting.{falls_now}
 use Rattle.script_board.specs.declared.board.ScriptMark.{ScriptMark}
-use Rattle.script_board.specs.declared.board.ScriptMark.TheVariants.{Lost, Refused, Input, Output}
+use Rattle.script_board.specs.declared.board.ScriptMark.TheVariants.{Lost, Output}
 use Rattle.script_board.specs.declared.board.ScriptBoard.{ScriptBoard}
 use Rattle.script_board.specs.Printing.{frame_line}
 use Rattle.script_board.proofs.Listed.{unread_by}
-use Rattle.script_replay.specs.Calls.{Takes, AreBytes, ArePrinted, WaitsBy, HasHeard, too_many}
+use Rattle.script_replay.specs.Calls.{Takes, AreBytes, ArePrinted, WaitsBy, HasHeard}
 use Rattle.script_replay.specs.Held.{HasLists, StandsFor}
 use Rattle.script_replay.specs.declared.start.Start as start
 use Rattle.script_replay.proofs.Frames.{printed_more}

@@ -1,5 +1,5 @@
 -- The clauses of a held board's calls.
-use Rattle.std.proofs.Common.{◌≡◌, ◌≢◌, ◌⊎◌, inl, inr, ℕ, ◌+◌, ◌≤◌, ◌^◌, ◌<◌, Bool, true, false, List, [], ◌∷◌, ◌++◌, length, slice_index, Option, Some, None, Err, refl, sym, ◌∙◌, ap, subst, arith}
+use Rattle.std.proofs.Common.{◌≡◌, inr, ℕ, ◌≤◌, List, Err, ap, arith}
 use Rattle.flash_traits.specs.declared.stream.Source as source
 use Rattle.flash_traits.specs.declared.stream.Sink as sink
 use Rattle.flash_traits.specs.Words.{Words}
@@ -10,7 +10,6 @@ use Rattle.flash_traits.specs.declared.board.Fault.TheVariants as fault
 use Rattle.flash_traits.specs.Losses.{Received, SentFrame, Moment, IsUpTo, Outcome, After, OnWords, ChangesWords, Elapses}
 use Rattle.script_board.specs.Boards.{words_in}
 use Rattle.script_board.specs.Lists.{moment_of}
-use Rattle.script_board.specs.declared.board.ScriptBoard.{ScriptBoard}
 use Rattle.script_replay.specs.Held.{StandsFor, HasLeft, failures}
 use Rattle.script_replay.specs.declared.start.Start as start
 use Rattle.script_replay.specs.declared.held.Held.{Held}

@@ -1,4 +1,4 @@
-use Rattle.std.proofs.Common.{ℕ, ◌<◌, ◌^◌, slice_index, rules, arith, refl, sym, ap, ◌∙◌, subst}
+use Rattle.std.proofs.Common.{rules, arith, refl, sym, ap, ◌∙◌, subst}
 use Rattle.flash_traits.specs.Words.{Erases, EraseMayLeave}
 use Rattle.script_board.specs.Waiting.{first_leaves}
 use Rattle.script_board.specs.declared.board.ScriptMark.TheVariants.{Lost}

@@ -1,5 +1,5 @@
-use Rattle.std.proofs.Common.{◌≡◌, ◌≤◌, ℕ, List, [], ◌∷◌, length, take, length-append, rules, arith, refl, sym, ap, ◌∙◌, subst}
-use Rattle.flash_traits.specs.Losses.{received, Either, Unchanged, Receives}
+use Rattle.std.proofs.Common.{◌≡◌, ◌≤◌, [], ◌∷◌, length, take, length-append, rules, arith, refl, sym, ap, ◌∙◌, subst}
+use Rattle.flash_traits.specs.Losses.{received, Unchanged}
 use Rattle.script_replay.proofs.Lists.{none_is, none_no_output, lists_same, stands_then}
 use Rattle.script_replay.proofs.Hearing.{not_on, unheard_mark, lists_heard, lists_unheard}
 use Rattle.script_replay.proofs.Left.{left_same, left_heard, after_either, same_words}

@@ -1,5 +1,5 @@
-use Rattle.std.proofs.Common.{inl, rules, arith, refl, ap}
-use Rattle.flash_traits.specs.Losses.{sent_frame, Either, Unchanged, Sends}
+use Rattle.std.proofs.Common.{inl, rules, arith, refl}
+use Rattle.flash_traits.specs.Losses.{sent_frame, Unchanged, Sends}
 use Rattle.script_replay.proofs.Frames.{are_bytes}
 use Rattle.script_replay.proofs.Lists.{none_is, lists_same, lists_sent, lists_unsent, stands_then}
 use Rattle.script_replay.proofs.Left.{left_same, left_sent, left_unsent, after_either, after_unchanged, same_words}
