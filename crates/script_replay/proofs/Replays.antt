@@ -13,8 +13,8 @@ use Rattle.replay.specs.declared.Stop.TheVariants as stops
 use Rattle.script_replay.specs.Calls.{Takes}
 use Rattle.script_lines.specs.Reading.{unread_of}
 use Rattle.script_board.proofs.Listed.{unread_none}
-use Rattle.script_replay.specs.Places.{input_of, out_of, size_of, input_faults_at, output_faults_at, words_at, unread_at, rest_at, written_at, waiting_at, TellsRest, TellsWritten, TookAt, HoldsAt, ToldAt, RefusesAt}
-use Rattle.script_replay.specs.Replaying.{Begins, RanSo, ReplaysAt, StopsAt}
+use Rattle.script_replay.specs.Steps.Places.{input_of, out_of, size_of, input_faults_at, output_faults_at, words_at, unread_at, rest_at, written_at, waiting_at, TellsRest, TellsWritten, TookAt, HoldsAt, ToldAt, RefusesAt}
+use Rattle.script_replay.specs.Steps.Replaying.{Begins, RanSo, ReplaysAt, StopsAt}
 use Rattle.script_replay.specs.declared.start.Beginning as beginning
 use Rattle.script_replay.proofs.Scripts.{takes_none}
 

@@ -18,10 +18,10 @@ use Rattle.replay.specs.Breaks.{OnForeign, OnRefused}
 use Rattle.replay.specs.Histories.{Replayed, CutShort}
 use Rattle.replay.specs.declared.Stop.{Stop}
 use Rattle.replay.specs.declared.Stop.TheVariants as stops
-use Rattle.script_replay.specs.Answers.{IsForeign}
+use Rattle.script_replay.specs.Steps.Answers.{IsForeign}
 use Rattle.script_replay.specs.Calls.{Takes}
-use Rattle.script_replay.specs.Places.{input_of, out_of, size_of, words_at, rest_at, written_at, RefusesAt}
-use Rattle.script_replay.specs.Replaying.{Ran, ReplaysAt, StopsAt}
+use Rattle.script_replay.specs.Steps.Places.{input_of, out_of, size_of, words_at, rest_at, written_at, RefusesAt}
+use Rattle.script_replay.specs.Steps.Replaying.{Ran, ReplaysAt, StopsAt}
 use Rattle.script_replay.specs.Replays.{ReplaysWhole, ReplaysPart}
 use Rattle.script_replay.proofs.Replays.{begins_at}
 use Rattle.script_replay.proofs.Scripts.{refused_told}

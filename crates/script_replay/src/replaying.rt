@@ -11,10 +11,10 @@ ghost use Rattle.replay.specs.Breaks.{OnForeign, OnWorn, OnInput, OnOutput};
 ghost use Rattle.replay.specs.declared.Stop.TheVariants as stops;
 ghost use Rattle.sha2.specs.Sha256.{sha256};
 ghost use Rattle.sector_image.specs.FirstBad.{FirstBad};
-ghost use Rattle.script_replay.specs.Answers.{IsForeign};
+ghost use Rattle.script_replay.specs.Steps.Answers.{IsForeign};
 ghost use Rattle.script_replay.specs.Replays.{ReplaysWhole, ReplaysPart};
-ghost use Rattle.script_replay.specs.Places.{HoldsAt, words_at, input_faults_at, output_faults_at, TellsRest, TellsWritten};
-ghost use Rattle.script_replay.specs.Replaying.{Begins, ReplaysAt, StopsAt};
+ghost use Rattle.script_replay.specs.Steps.Places.{HoldsAt, words_at, input_faults_at, output_faults_at, TellsRest, TellsWritten};
+ghost use Rattle.script_replay.specs.Steps.Replaying.{Begins, ReplaysAt, StopsAt};
 
 use crate::player::ScriptPlayer;
 use crate::start::Beginning;

@@ -2,8 +2,8 @@ use Rattle.std.proofs.Common.{◌≡◌, ◌≢◌, ℕ, Option, IfErr, OnOk, sy
 use Rattle.sector_image.specs.Stands.{Stands}
 use Rattle.replay.specs.Breaks.{OnForeign}
 use Rattle.replay.specs.declared.Stop.TheVariants as stops
-use Rattle.script_replay.specs.Places.{words_at, TellsRest, TellsWritten}
-use Rattle.script_replay.specs.Replaying.{Begins, ReplaysAt, StopsAt}
+use Rattle.script_replay.specs.Steps.Places.{words_at, TellsRest, TellsWritten}
+use Rattle.script_replay.specs.Steps.Replaying.{Begins, ReplaysAt, StopsAt}
 use Rattle.script_replay.proofs.Replays.{replays_so, stops_so, foreign_so}
 use Rattle.script_replay.proofs.replaying.replay_on.Given as given
 use Rattle.script_replay.proofs.replaying.replay_on.Goals as goal

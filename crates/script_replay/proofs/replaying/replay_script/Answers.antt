@@ -5,8 +5,8 @@ use Rattle.sector_image.specs.Stands.{Stands}
 use Rattle.script_board.specs.Image.{words_of}
 use Rattle.replay.specs.Breaks.{OnForeign}
 use Rattle.replay.specs.declared.Stop.TheVariants as stops
-use Rattle.script_replay.specs.Places.{input_of, out_of, words_at, TellsRest, TellsWritten}
-use Rattle.script_replay.specs.Replaying.{ReplaysAt, StopsAt}
+use Rattle.script_replay.specs.Steps.Places.{input_of, out_of, words_at, TellsRest, TellsWritten}
+use Rattle.script_replay.specs.Steps.Replaying.{ReplaysAt, StopsAt}
 use Rattle.script_replay.specs.Replays.{ReplaysPart}
 use Rattle.script_replay.proofs.Replays.{begins_now, begins_at}
 use Rattle.script_replay.proofs.Wholes.{placed_so, whole_by, part_never, foreign_never, part_by, foreign_by}
