@@ -20,7 +20,7 @@ use Rattle.replay.specs.Playing.{OpenEnds, CloseEnds, EventEnds, GoesOn, Breaks,
 use Rattle.replay.specs.declared.Break.{Break}
 use Rattle.replay.specs.declared.Break.TheVariants.{Stopped}
 use Rattle.replay.specs.declared.Stop.TheVariants as stops
-use Rattle.script_replay.specs.Answers.{ended}
+use Rattle.script_replay.specs.Steps.Answers.{ended}
 use Rattle.script_replay.specs.Calls.{WaitsBy}
 use Rattle.script_replay.specs.Held.{failures}
 

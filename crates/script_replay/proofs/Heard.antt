@@ -10,7 +10,7 @@ use Rattle.script_board.specs.Hearing.{IsUnheard}
 use Rattle.script_board.specs.declared.board.ScriptMark.{ScriptMark}
 use Rattle.script_board.specs.declared.board.ScriptMark.TheVariants.{Lost, Refused, Input, Output}
 use Rattle.script_board.proofs.Hearing.{length-heard}
-use Rattle.script_replay.specs.Answers.{ended}
+use Rattle.script_replay.specs.Steps.Answers.{ended}
 use Rattle.script_replay.specs.Calls.{HasHeard, WaitsBy, events_heard}
 use Rattle.script_replay.proofs.Uses.{CameBy}
 

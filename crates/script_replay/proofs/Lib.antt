@@ -12,3 +12,5 @@ pub mod Played
 pub mod Remaining
 pub mod Places
 pub mod Returned
+pub mod Replays
+pub mod Wholes

@@ -15,7 +15,7 @@ use Rattle.replay.specs.Playing.{Adds}
 use Rattle.replay.specs.declared.Break.{Break}
 use Rattle.replay.specs.declared.Break.TheVariants.{Lost, Stopped}
 use Rattle.replay.specs.declared.Stop.TheVariants as stops
-use Rattle.script_replay.specs.Places.{input_of, out_of, size_of, unread_at, rest_at, TellsRest, written_at, TellsWritten, line_at, waiting_at, input_faults_at, output_faults_at, TookAt, Starts, Returns, Added, Printed, HoldsAt, ToldAt}
+use Rattle.script_replay.specs.Steps.Places.{input_of, out_of, size_of, unread_at, rest_at, TellsRest, written_at, TellsWritten, line_at, waiting_at, input_faults_at, output_faults_at, TookAt, Starts, Returns, Added, Printed, HoldsAt, ToldAt}
 use Rattle.script_replay.specs.declared.start.Start as start
 use Rattle.script_replay.specs.declared.start.Beginning as beginning
 use Rattle.script_replay.proofs.Scripts.{takes_then}

@@ -18,10 +18,10 @@ use Rattle.script_board.specs.declared.board.ScriptBoard.{ScriptBoard}
 use Rattle.script_board.specs.declared.board.ScriptMark.TheVariants.{Output}
 use Rattle.replay.specs.Playing.{EventEnds, TurnUses, GoesOn, Breaks}
 use Rattle.replay.specs.declared.Break.{Break}
-use Rattle.script_replay.specs.Answers.{ended}
+use Rattle.script_replay.specs.Steps.Answers.{ended}
 use Rattle.script_replay.specs.Calls.{HasHeard, events_heard, too_many}
 use Rattle.script_replay.specs.Held.{HasLists, StandsFor, HasLeft}
-use Rattle.script_replay.specs.Places.{Plays}
+use Rattle.script_replay.specs.Steps.Places.{Plays}
 use Rattle.script_replay.specs.declared.held.Held.{Held}
 use Rattle.script_replay.specs.declared.start.Start as start
 use Rattle.script_replay.proofs.Boards.{events_same, within, by_result}

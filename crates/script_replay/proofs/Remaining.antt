@@ -12,7 +12,7 @@ use Rattle.replay.specs.Breaks.{OnLost}
 use Rattle.replay.specs.Playing.{Falls, TurnUses, QuietUses}
 use Rattle.replay.specs.declared.Break.{Break}
 use Rattle.replay.specs.declared.Break.TheVariants.{Lost, Stopped}
-use Rattle.script_replay.specs.Places.{line_at, waiting_at, remaining_at}
+use Rattle.script_replay.specs.Steps.Places.{line_at, waiting_at, remaining_at}
 use Rattle.script_replay.proofs.Scripts.{loses_most, loses_fewer}
 
 -- what is left after so many lines, and with so many waiting losses

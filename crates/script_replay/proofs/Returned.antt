@@ -18,8 +18,8 @@ use Rattle.script_board.specs.declared.board.ScriptBoard.{ScriptBoard}
 use Rattle.script_board.specs.declared.board.ScriptMark.TheVariants.{Output}
 use Rattle.script_replay.specs.Calls.{Takes, WaitsBy, events_heard, too_many}
 use Rattle.script_replay.specs.Held.{HasLists, StandsFor, HasLeft}
-use Rattle.script_replay.specs.Answers.{ended}
-use Rattle.script_replay.specs.Places.{Returns, Added, TellsWritten, words_at}
+use Rattle.script_replay.specs.Steps.Answers.{ended}
+use Rattle.script_replay.specs.Steps.Places.{Returns, Added, TellsWritten, words_at}
 use Rattle.replay.specs.Playing.{OpenEnds, CloseEnds}
 use Rattle.replay.specs.declared.Break.{Break}
 use Rattle.replay.specs.declared.Break.TheVariants.{Stopped}

@@ -15,7 +15,7 @@ use Rattle.script_board.specs.declared.board.ScriptMark.{ScriptMark}
 use Rattle.script_board.specs.declared.board.ScriptMark.TheVariants.{Lost, Refused, Input, Output}
 use Rattle.script_board.proofs.Hearing.{no_events-losses, no_loss_now-losses, no_end-losses, no_events-lost, no_end-lost, events-heard, no_loss_now-heard, no_end-heard, ends-heard}
 use Rattle.replay.specs.Playing.{TurnUses}
-use Rattle.script_replay.specs.Answers.{ended}
+use Rattle.script_replay.specs.Steps.Answers.{ended}
 use Rattle.script_replay.specs.Calls.{HasHeard, WaitsBy, events_heard}
 use Rattle.script_replay.proofs.Ended.{finished_by}
 

@@ -11,8 +11,8 @@ ghost use Rattle.replay.specs.Breaks.{OnStopped, OnRefused, OnForeign, OnWorn, O
 ghost use Rattle.replay.specs.Playing.{OpenEnds, CloseEnds, QuietUses};
 ghost use Rattle.replay.specs.declared.Break.TheVariants as breaks;
 ghost use Rattle.replay.specs.declared.Stop.TheVariants as stops;
-ghost use Rattle.script_replay.specs.Answers.{ended};
-ghost use Rattle.script_replay.specs.Places.{Starts, Returns, Added, Printed, Plays, FitsAt, RefusesAt, TellsWritten, written_at, words_at, line_at, waiting_at, remaining_at, input_faults_at, output_faults_at};
+ghost use Rattle.script_replay.specs.Steps.Answers.{ended};
+ghost use Rattle.script_replay.specs.Steps.Places.{Starts, Returns, Added, Printed, Plays, FitsAt, RefusesAt, TellsWritten, written_at, words_at, line_at, waiting_at, remaining_at, input_faults_at, output_faults_at};
 
 use crate::held::Held;
 use crate::start::{Beginning, Start};
@@ -258,7 +258,7 @@ pub(crate) struct ScriptPlayer<'a, S: Source, K: Sink, M: Beginning> {
 }
 
 impl<'a, S: Source, K: Sink, M: Beginning> Player for ScriptPlayer<'a, S, K, M> {
-    ghost use Rattle.script_replay.specs.Places.{HoldsAt, ToldAt, TookAt};
+    ghost use Rattle.script_replay.specs.Steps.Places.{HoldsAt, ToldAt, TookAt};
 
     ghost holds = { λ p. HoldsAt M.Beginning p.printed p.place };
 

@@ -11,10 +11,10 @@ ghost use Rattle.replay.specs.Breaks.{OnForeign, OnWorn, OnInput, OnOutput};
 ghost use Rattle.replay.specs.declared.Stop.TheVariants as stops;
 ghost use Rattle.sha2.specs.Sha256.{sha256};
 ghost use Rattle.sector_image.specs.FirstBad.{FirstBad};
-ghost use Rattle.script_replay.specs.Answers.{IsForeign};
+ghost use Rattle.script_replay.specs.Steps.Answers.{IsForeign};
 ghost use Rattle.script_replay.specs.Replays.{ReplaysWhole, ReplaysPart};
-ghost use Rattle.script_replay.specs.Places.{HoldsAt, words_at, input_faults_at, output_faults_at, TellsRest, TellsWritten};
-ghost use Rattle.script_replay.specs.Replaying.{Begins, ReplaysAt, StopsAt};
+ghost use Rattle.script_replay.specs.Steps.Places.{HoldsAt, words_at, input_faults_at, output_faults_at, TellsRest, TellsWritten};
+ghost use Rattle.script_replay.specs.Steps.Replaying.{Begins, ReplaysAt, StopsAt};
 
 use crate::player::ScriptPlayer;
 use crate::start::Beginning;
@@ -40,8 +40,8 @@ fn placed<'a, S: Source, K: Sink>(
     ensures these { IfSome result (λ board. (board.input ≡ input.entry) × (board.out ≡ out.entry)) }
     ensures image { IfSome result (λ board. (board.geometry.sector_bytes ≡ sector_bytes)
         × (board.image.items ≡ image.items)) }
-    ensures anew { IfSome result (λ board. (board.line ≡ 0) × (board.ahead ≡ 0)
-        × (board.waiting.items ≡ [])) }
+    ensures anew { IfSome result (λ board. (board.buffer.items ≡ []) × (board.ahead ≡ 0)
+        × (board.line ≡ 0) × (board.waiting.items ≡ [])) }
     ensures some { IsSome result }
 {
     Some(ScriptBoard {
@@ -62,9 +62,10 @@ fn placed<'a, S: Source, K: Sink>(
     })
 }
 
-/// Ends the loan of what is handed in.
-fn end<T>(place: &mut T)
-    ensures { place.new ≡ place.old }
+/// Ends the loans of a source and of a sink.
+fn end<S, K>(input: &mut S, out: &mut K)
+    ensures input { input.new ≡ input.old }
+    ensures out { out.new ≡ out.old }
 {}
 
 /// The SHA-256 of the storage bytes that an image stands for.
@@ -204,8 +205,7 @@ pub fn replay_script<S: Source, K: Sink>(
         moment: _,
         faults: _,
     } = board;
-    end(input);
-    end(out);
+    end(input, out);
     match done {
         Ok(()) => digest_of(images, geometry.sector_bytes, image),
         Err(stop) => Err(stop),

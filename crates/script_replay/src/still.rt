@@ -21,7 +21,7 @@ pub(crate) struct StillBoard {
 impl Board for StillBoard {
     ghost use Rattle.std.specs.Prelude.{true};
     ghost use Rattle.script_board.specs.Image.{words_of};
-    ghost use Rattle.script_replay.specs.Still.{last_moment, shape_of};
+    ghost use Rattle.script_replay.specs.Steps.Still.{last_moment, shape_of};
 
     ghost sector_bytes = { λ b. b.geometry.sector_bytes };
 

@@ -11,7 +11,7 @@ use Rattle.replay.specs.Playing.{OpenEnds, QuietUses}
 use Rattle.replay.specs.declared.Break.{Break}
 use Rattle.script_board.specs.declared.board.ScriptBoard.{ScriptBoard}
 use Rattle.script_replay.specs.Held.{HasLists, StandsFor}
-use Rattle.script_replay.specs.Places.{Starts, FitsAt, Returns, Added, Printed, TellsWritten, words_at, waiting_at, input_faults_at}
+use Rattle.script_replay.specs.Steps.Places.{Starts, FitsAt, Returns, Added, Printed, TellsWritten, words_at, waiting_at, input_faults_at}
 use Rattle.script_replay.proofs.Boards.{begins, anew}
 use Rattle.script_replay.proofs.Ended.{no_output, quiet_uses, on_refused, on_input}
 use Rattle.script_replay.proofs.Heard.{waits_refused, waits_input}

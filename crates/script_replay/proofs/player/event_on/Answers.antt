@@ -11,7 +11,7 @@ use Rattle.replay.specs.Playing.{GoesOn}
 use Rattle.replay.specs.declared.Break.{Break}
 use Rattle.script_board.specs.declared.board.ScriptBoard.{ScriptBoard}
 use Rattle.script_replay.specs.Held.{HasLists, StandsFor}
-use Rattle.script_replay.specs.Places.{Starts, FitsAt, Plays, RefusesAt, Returns, Added, Printed, TellsWritten, words_at, waiting_at, input_faults_at}
+use Rattle.script_replay.specs.Steps.Places.{Starts, FitsAt, Plays, RefusesAt, Returns, Added, Printed, TellsWritten, words_at, waiting_at, input_faults_at}
 use Rattle.script_replay.proofs.Boards.{begins, anew, listed}
 use Rattle.script_replay.proofs.Played.{event_within, event_end, fits_budget}
 use Rattle.script_replay.proofs.Uses.{CameBy}
