@@ -111,7 +111,7 @@ module _ {S K : Type 0} {g : source.Ghosts S} {h : sink.Ghosts K} where
     refused_so (stops.Refused line) count is tells why = (
       why.0 ∙ ap (λ (n : ℕ). n + 1) is,
       refused_told count b.waiting.items (unread_in b) (g.tells_rest b.input.now) (g.rest b.input.now) tells
-      (subst (λ (n : ℕ). IsRefused n b.waiting.items (unread_in b) (g.tells_rest b.input.now) (g.rest b.input.now)) is why.1),
+          (subst (λ (n : ℕ). IsRefused n b.waiting.items (unread_in b) (g.tells_rest b.input.now) (g.rest b.input.now)) is why.1),
     )
     refused_so stops.Input count is tells why = tt
     refused_so stops.Output count is tells why = tt

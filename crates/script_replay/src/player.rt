@@ -36,11 +36,13 @@ fn ended<T: Drop>(mark: Option<ScriptMark>, answer: Result<T, NodeError>) -> Res
         None => match answer {
             Ok(value) => Ok(value),
             Err(NodeError::Memory) => Err(Break::Stopped(Stop::Memory)),
-            Err(NodeError::Foreign {
-                region,
-                offset,
-                word,
-            }) => Err(Break::Stopped(Stop::Foreign {
+            Err(
+                NodeError::Foreign {
+                    region,
+                    offset,
+                    word,
+                },
+            ) => Err(Break::Stopped(Stop::Foreign {
                 region,
                 offset,
                 word,

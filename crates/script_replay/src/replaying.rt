@@ -83,11 +83,13 @@ fn digest_of(images: &mut Images, sector_bytes: u32, image: Vec<u8>) -> Result<[
     };
     match survey(&mut board, images) {
         Ok(_) => Ok(Sha256::digest(images.whole())),
-        Err(SurveyError::Foreign {
-            region,
-            offset,
-            word,
-        }) => Err(Stop::Foreign {
+        Err(
+            SurveyError::Foreign {
+                region,
+                offset,
+                word,
+            },
+        ) => Err(Stop::Foreign {
             region,
             offset,
             word,

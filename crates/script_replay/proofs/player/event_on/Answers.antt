@@ -39,7 +39,7 @@ heard : (g : given.Over) (c : goal.After-ended g) → Heard g c
 heard g c =
     let s = starts g c in
     let l = listed _ c.args.node.now c.event-answer.new.self _ c.event-answer.new.board c.event-answer.result c.event-answer.ensures.finished c.event-answer.ensures.cut_lists
-        (begins g.N.Start _ _ refl s.line s.waiting s.unread s.rest s.written s.tells_rest s.tells_written) in
+    (begins g.N.Start _ _ refl s.line s.waiting s.unread s.rest s.written s.tells_rest s.tells_written) in
     let w = event_within g.N.Start c.event-answer.new.board l.events l.frames c.requires.room l.few l.lists in
     record { events = l.events; frames = l.frames; came = l.came; goes = l.goes; in_room = w.0; lists = w.1 }
 
