@@ -1,6 +1,6 @@
 -- The whole replay, over an image and from the source to the sink.
-use Rattle.std.proofs.Common.{◌≡◌, ◌≢◌, ℕ, ◌+◌, false, true, List, [], ◌++◌, length, Option, Some, None, IsSome, IfSome, Result, Ok, Err, IfOk, IfErr, refl, sym, ◌∙◌, ap, subst}
-use Rattle.std.specs.Borrow.{MutBor, GName}
+use Rattle.std.proofs.Common.{◌≡◌, ◌≢◌, ℕ, ◌+◌, false, true, List, [], ◌++◌, length, Option, Some, None, IsSome, IfSome, Result, Ok, Err, IfOk, IfErr, sym, ◌∙◌, ap, subst}
+use Rattle.std.specs.Borrow.{MutBor}
 use Rattle.flash_traits.specs.Budget.{budget_of}
 use Rattle.flash_traits.specs.Words.{Words}
 use Rattle.flash_traits.specs.declared.stream.Source as source
@@ -111,7 +111,7 @@ module _ {S K : Type 0} {g : source.Ghosts S} {h : sink.Ghosts K} where
     refused_so (stops.Refused line) count is tells why = (
       why.0 ∙ ap (λ (n : ℕ). n + 1) is,
       refused_told count b.waiting.items (unread_in b) (g.tells_rest b.input.now) (g.rest b.input.now) tells
-      (subst (λ (n : ℕ). IsRefused n b.waiting.items (unread_in b) (g.tells_rest b.input.now) (g.rest b.input.now)) is why.1),
+          (subst (λ (n : ℕ). IsRefused n b.waiting.items (unread_in b) (g.tells_rest b.input.now) (g.rest b.input.now)) is why.1),
     )
     refused_so stops.Input count is tells why = tt
     refused_so stops.Output count is tells why = tt

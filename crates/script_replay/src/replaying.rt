@@ -37,7 +37,8 @@ fn placed<'a, S: Source, K: Sink>(
 ) -> Option<ScriptBoard<'a, S, K>>
     requires size { IsSectorSize sector_bytes }
     requires whole { length image.items ≡ IMAGE_BYTES }
-    ensures these { IfSome result (λ board. (board.input ≡ input.entry) × (board.out ≡ out.entry)) }
+    ensures these { IfSome result
+        (λ board. (board.input ≡ input.entry) × (board.out ≡ out.entry)) }
     ensures image { IfSome result (λ board. (board.geometry.sector_bytes ≡ sector_bytes)
         × (board.image.items ≡ image.items)) }
     ensures anew { IfSome result (λ board. (board.buffer.items ≡ []) × (board.ahead ≡ 0)
@@ -83,11 +84,13 @@ fn digest_of(images: &mut Images, sector_bytes: u32, image: Vec<u8>) -> Result<[
     };
     match survey(&mut board, images) {
         Ok(_) => Ok(Sha256::digest(images.whole())),
-        Err(SurveyError::Foreign {
-            region,
-            offset,
-            word,
-        }) => Err(Stop::Foreign {
+        Err(
+            SurveyError::Foreign {
+                region,
+                offset,
+                word,
+            },
+        ) => Err(Stop::Foreign {
             region,
             offset,
             word,
