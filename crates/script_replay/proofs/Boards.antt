@@ -1,27 +1,25 @@
 -- What the node's clauses tell of a board that is held for one call.
-use Rattle.std.proofs.Common.{◌≡◌, ◌≢◌, ◌⊎◌, inl, inr, ℕ, ◌+◌, ◌≤◌, Bool, true, false, List, [], ◌∷◌, ◌++◌, length, Option, Some, None, Result, Ok, Err, IfOk, OnErr, refl, sym, ◌∙◌, ap, subst, arith, append-nil}
+use Rattle.std.proofs.Common.{◌≡◌, ◌≢◌, inl, inr, ℕ, ◌+◌, ◌≤◌, Bool, true, false, List, [], ◌∷◌, ◌++◌, length, Option, Some, None, Result, Ok, Err, IfOk, OnErr, refl, sym, ◌∙◌, ap, subst, arith, append-nil}
 use Rattle.std.specs.Prelude.{option_to_list}
-use Rattle.flash_traits.specs.Words.{Words}
-use Rattle.flash_traits.specs.Losses.{Received, received, SentFrame, Outcome, After, ByResult}
+use Rattle.flash_traits.specs.Losses.{Received, SentFrame, Outcome, After, ByResult}
 use Rattle.flash_traits.specs.declared.board.Board as board
 use Rattle.flash_traits.specs.declared.board.Event.{Event}
 use Rattle.flash_traits.specs.declared.stream.Source as source
 use Rattle.flash_traits.specs.declared.stream.Sink as sink
 use Rattle.vehicle_node.specs.Safe.{Safe, SafeSince}
-use Rattle.vehicle_node.specs.Standing.{Node, Finished, StandsForRun}
+use Rattle.vehicle_node.specs.Standing.{Node, Finished}
 use Rattle.vehicle_node.specs.declared.NodeError.{NodeError}
 use Rattle.vehicle_node.specs.declared.Turn.{Turn}
 use Rattle.script_lines.specs.Script.{ScriptLine}
 use Rattle.script_board.specs.Boards.{words_in, unread_in}
-use Rattle.script_board.specs.Printing.{frame_lines}
 use Rattle.script_board.specs.Taking.{events_of}
 use Rattle.script_board.specs.declared.board.ScriptBoard.{ScriptBoard}
 use Rattle.script_board.specs.declared.board.ScriptMark.{ScriptMark}
 use Rattle.script_board.specs.declared.board.ScriptMark.TheVariants.{Output}
 use Rattle.script_board.proofs.FrameLines.{frame_lines-none}
 use Rattle.script_board.proofs.Hearing.{events-heard, no_events-unheard}
-use Rattle.replay.specs.Playing.{GoesOn, Breaks}
-use Rattle.script_replay.specs.Calls.{Takes, ArePrinted, HasHeard, WaitsBy, events_heard, too_many}
+use Rattle.replay.specs.Playing.{GoesOn}
+use Rattle.script_replay.specs.Calls.{Takes, HasHeard, WaitsBy, events_heard, too_many}
 use Rattle.script_replay.specs.Held.{HasLists, StandsFor, HasLeft}
 use Rattle.script_replay.specs.declared.start.Start as start
 use Rattle.script_replay.proofs.Ended.{finished_by}

@@ -1,5 +1,5 @@
 -- How a call ended, by the mark and by the node's answer.
-use Rattle.std.proofs.Common.{◌≡◌, ◌≢◌, ◌⊎◌, inl, inr, ℕ, ◌+◌, ◌≤◌, List, [], Option, Some, None, Result, Ok, Err, IfOk, IfErr, refl, sym, ◌∙◌, ap, subst, arith}
+use Rattle.std.proofs.Common.{◌≡◌, ◌≢◌, ℕ, List, [], Option, Some, None, Result, Ok, Err, IfOk, IfErr, refl, ◌∙◌, ap, arith}
 use Rattle.flash_traits.specs.Words.{Words}
 use Rattle.flash_traits.specs.Causes.{Rose}
 use Rattle.flash_traits.specs.Losses.{Received, SentFrame}

@@ -1,6 +1,6 @@
 -- What was heard in a call, by its mark.
-use Rattle.std.proofs.Common.{◌≡◌, ◌≢◌, ◌⊎◌, inl, inr, ℕ, ◌+◌, ◌≤◌, Bool, true, false, List, [], ◌∷◌, ◌++◌, length, Option, Some, None, Result, Ok, Err, OnOk, refl, sym, ◌∙◌, ap, subst, arith}
-use Rattle.flash_traits.specs.Losses.{Received, received}
+use Rattle.std.proofs.Common.{◌≡◌, inl, inr, ℕ, ◌≤◌, Bool, true, false, List, [], ◌∷◌, length, Option, Some, None, Result, Ok, Err, OnOk, refl, sym, ◌∙◌, subst}
+use Rattle.flash_traits.specs.Losses.{Received}
 use Rattle.flash_traits.specs.declared.board.Event.{Event}
 use Rattle.vehicle_node.specs.declared.NodeError.{NodeError}
 use Rattle.vehicle_node.specs.declared.NodeError.TheVariants.{Memory, Fault as Failing, Foreign, Worn}

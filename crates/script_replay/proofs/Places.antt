@@ -1,5 +1,5 @@
 -- From one place of the board to the next.
-use Rattle.std.proofs.Common.{◌≡◌, ◌≢◌, ◌⊎◌, inl, inr, ℕ, ◌+◌, ◌≤◌, Bool, true, false, List, [], ◌++◌, length, take, drop, Option, Some, None, IsSome, Result, Ok, Err, IfErr, refl, sym, ◌∙◌, ap, subst, arith, length-append, append_assoc}
+use Rattle.std.proofs.Common.{◌≡◌, ◌⊎◌, inl, inr, ℕ, Bool, true, false, List, [], ◌++◌, length, drop, Option, IsSome, Result, Ok, Err, IfErr, refl, sym, ◌∙◌, ap, subst, arith, length-append, append_assoc}
 use Rattle.std.proofs.lemmas.List.{take-append-drop}
 use Rattle.flash_traits.specs.Causes.{Rose}
 use Rattle.flash_traits.specs.Losses.{SentFrame}
@@ -7,7 +7,6 @@ use Rattle.flash_traits.specs.declared.stream.Source as source
 use Rattle.flash_traits.specs.declared.stream.Sink as sink
 use Rattle.sector_image.specs.FirstBad.{Place}
 use Rattle.script_lines.specs.Script.{ScriptLine}
-use Rattle.script_board.specs.Printing.{frame_lines}
 use Rattle.script_board.specs.declared.board.ScriptBoard.{ScriptBoard}
 use Rattle.replay.specs.Breaks.{OnStopped, OnForeign, OnOutput}
 use Rattle.replay.specs.Histories.{AreNext}

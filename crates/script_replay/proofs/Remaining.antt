@@ -1,9 +1,8 @@
 -- How much of the script and of the waiting losses a call uses up.
-use Rattle.std.proofs.Common.{◌≡◌, ◌⊎◌, inl, inr, ℕ, ◌+◌, ◌*◌, ◌-◌, ◌≤◌, List, [], ◌∷◌, length, Option, Some, None, Result, Ok, Err, OnOk, IfErr, refl, arith}
+use Rattle.std.proofs.Common.{◌≡◌, inl, inr, ℕ, ◌+◌, ◌*◌, ◌-◌, ◌≤◌, List, length, Option, Some, None, Result, Ok, Err, OnOk, IfErr, arith}
 use Rattle.flash_traits.specs.declared.stream.Source as source
 use Rattle.flash_traits.specs.declared.stream.Sink as sink
 use Rattle.vehicle_node.specs.declared.Turn.{Turn}
-use Rattle.vehicle_node.specs.declared.Turn.TheVariants as turn
 use Rattle.script_lines.specs.Script.{ScriptLine}
 use Rattle.script_lines.specs.declared.numbers.TheConstants.{SCRIPT_LINES}
 use Rattle.script_board.specs.Hearing.{loses}

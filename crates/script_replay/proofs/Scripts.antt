@@ -1,15 +1,13 @@
 -- Lines of a script that were taken, one call after another.
-use Rattle.std.proofs.Common.{◌≡◌, ◌⊎◌, inl, inr, ℕ, ◌+◌, ◌*◌, ◌-◌, ◌≤◌, Bool, List, [], ◌∷◌, ◌++◌, length, Option, Some, None, Result, Ok, refl, sym, ◌∙◌, ap, subst, arith, length-append}
+use Rattle.std.proofs.Common.{◌≡◌, ◌⊎◌, inl, inr, ℕ, ◌+◌, ◌≤◌, Bool, List, [], ◌∷◌, ◌++◌, length, Option, Some, None, Ok, refl, ap, arith, length-append}
 use Rattle.flash_traits.specs.declared.board.Event.{Event}
 use Rattle.flash_traits.specs.declared.board.Event.TheVariants as event
 use Rattle.script_lines.specs.Script.{ScriptLine, Datagram, Idle, LossNow, LossLater, End}
 use Rattle.script_lines.specs.declared.line.Waiting.{Waiting}
-use Rattle.script_lines.specs.declared.numbers.TheConstants.{SCRIPT_LINES}
-use Rattle.script_board.specs.Hearing.{loses, loses_in, IsHeard, IsRefused, waiting_behind}
+use Rattle.script_board.specs.Hearing.{loses, loses_in, IsRefused, waiting_behind}
 use Rattle.script_board.specs.Taking.{IsAhead, HasNoLine}
 use Rattle.script_board.specs.declared.board.ScriptMark.{ScriptMark}
 use Rattle.script_board.specs.declared.board.ScriptMark.TheVariants.{Lost, Refused, Input, Output}
-use Rattle.script_board.proofs.Hearing.{length-heard}
 use Rattle.script_board.proofs.TakenLines.{taken-append}
 use Rattle.script_replay.specs.Calls.{Takes, HasHeard, WaitsBy}
 

@@ -1,5 +1,5 @@
 -- What an event did with the lines of the script and with the waiting losses.
-use Rattle.std.proofs.Common.{◌≡◌, ◌≢◌, ◌⊎◌, ◌↔◌, inl, inr, ℕ, ◌+◌, ◌≤◌, List, [], ◌∷◌, ◌++◌, length, true, Option, Some, None, Result, Ok, Err, refl, sym, ◌∙◌, ap, subst, arith}
+use Rattle.std.proofs.Common.{◌≡◌, ◌≢◌, ◌↔◌, inl, inr, ℕ, ◌+◌, List, [], ◌∷◌, ◌++◌, length, true, Option, Some, None, Result, Ok, Err, refl, sym, ◌∙◌, ap, subst, arith}
 use Rattle.flash_traits.specs.Losses as link
 use Rattle.flash_traits.specs.Losses.{Received, received}
 use Rattle.flash_traits.specs.declared.board.Event.{Event}
@@ -9,11 +9,10 @@ use Rattle.vehicle_node.specs.declared.NodeError.TheVariants.{Memory, Fault as F
 use Rattle.vehicle_node.specs.declared.Turn.{Turn}
 use Rattle.vehicle_node.specs.declared.Turn.TheVariants as turn
 use Rattle.script_lines.specs.Script.{ScriptLine, LossNow}
-use Rattle.script_board.specs.Hearing.{loses, HasNoLossNow, HasNoEnd, AreLosses, IsHeard, IsUnheard, waiting_behind}
-use Rattle.script_board.specs.Taking.{events_of}
+use Rattle.script_board.specs.Hearing.{loses, AreLosses, IsHeard, IsUnheard, waiting_behind}
 use Rattle.script_board.specs.declared.board.ScriptMark.{ScriptMark}
 use Rattle.script_board.specs.declared.board.ScriptMark.TheVariants.{Lost, Refused, Input, Output}
-use Rattle.script_board.proofs.Hearing.{no_events-losses, no_loss_now-losses, no_end-losses, no_events-lost, no_end-lost, events-heard, no_loss_now-heard, no_end-heard, ends-heard}
+use Rattle.script_board.proofs.Hearing.{no_events-losses, no_loss_now-losses, no_end-losses, no_events-lost, no_end-lost, no_loss_now-heard, no_end-heard, ends-heard}
 use Rattle.replay.specs.Playing.{TurnUses}
 use Rattle.script_replay.specs.Steps.Answers.{ended}
 use Rattle.script_replay.specs.Calls.{HasHeard, WaitsBy, events_heard}

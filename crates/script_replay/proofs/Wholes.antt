@@ -1,6 +1,6 @@
 -- The whole replay, over an image and from the source to the sink.
-use Rattle.std.proofs.Common.{◌≡◌, ◌≢◌, ℕ, ◌+◌, false, true, List, [], ◌++◌, length, Option, Some, None, IsSome, IfSome, Result, Ok, Err, IfOk, IfErr, refl, sym, ◌∙◌, ap, subst}
-use Rattle.std.specs.Borrow.{MutBor, GName}
+use Rattle.std.proofs.Common.{◌≡◌, ◌≢◌, ℕ, ◌+◌, false, true, List, [], ◌++◌, length, Option, Some, None, IsSome, IfSome, Result, Ok, Err, IfOk, IfErr, sym, ◌∙◌, ap, subst}
+use Rattle.std.specs.Borrow.{MutBor}
 use Rattle.flash_traits.specs.Budget.{budget_of}
 use Rattle.flash_traits.specs.Words.{Words}
 use Rattle.flash_traits.specs.declared.stream.Source as source

@@ -67,8 +67,10 @@ fn open_on<'a, S: Source, K: Sink, N: Start>(
     requires no_room { N.room ≡ false }
     ensures back { Returns N.Start place.new }
     ensures added { Added N.Start place.new [] }
-    ensures fits { IfOk result (λ node. FitsAt ⟦<ScriptBoard<'a, S, K> as Board>⟧ place.new node) }
-    ensures printed { result ≢ Err (breaks.Stopped stops.Output) → Printed N.Start place.new [] }
+    ensures fits { IfOk result
+        (λ node. FitsAt ⟦<ScriptBoard<'a, S, K> as Board>⟧ place.new node) }
+    ensures printed { result ≢ Err (breaks.Stopped stops.Output)
+        → Printed N.Start place.new [] }
     ensures ends { result ≢ Err (breaks.Stopped stops.Output) → TellsWritten place.new
         → OpenEnds (budget_of N.sector_bytes) result (words_at place.old) (words_at place.new) }
     ensures uses { QuietUses result N.waiting (waiting_at place.new) }
@@ -173,7 +175,8 @@ fn close_on<'a, S: Source, K: Sink, N: Start>(
     requires fits { FitsAt ⟦<ScriptBoard<'a, S, K> as Board>⟧ place.old node }
     ensures back { Returns N.Start place.new }
     ensures added { Added N.Start place.new [] }
-    ensures printed { result ≢ Err (breaks.Stopped stops.Output) → Printed N.Start place.new [] }
+    ensures printed { result ≢ Err (breaks.Stopped stops.Output)
+        → Printed N.Start place.new [] }
     ensures ends { result ≢ Err (breaks.Stopped stops.Output) → TellsWritten place.new
         → CloseEnds (budget_of N.sector_bytes) result node (words_at place.new) }
     ensures uses { QuietUses result N.waiting (waiting_at place.new) }

@@ -37,7 +37,8 @@ fn placed<'a, S: Source, K: Sink>(
 ) -> Option<ScriptBoard<'a, S, K>>
     requires size { IsSectorSize sector_bytes }
     requires whole { length image.items ≡ IMAGE_BYTES }
-    ensures these { IfSome result (λ board. (board.input ≡ input.entry) × (board.out ≡ out.entry)) }
+    ensures these { IfSome result
+        (λ board. (board.input ≡ input.entry) × (board.out ≡ out.entry)) }
     ensures image { IfSome result (λ board. (board.geometry.sector_bytes ≡ sector_bytes)
         × (board.image.items ≡ image.items)) }
     ensures anew { IfSome result (λ board. (board.buffer.items ≡ []) × (board.ahead ≡ 0)

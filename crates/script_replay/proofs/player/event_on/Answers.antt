@@ -1,23 +1,17 @@
-use Rattle.std.proofs.Common.{◌≡◌, ◌≢◌, false, List, [], Option, Some, None, Result, IfOk, IfErr, refl, sym, ◌∙◌, ap, subst}
-use Rattle.flash_traits.specs.Words.{Words}
+use Rattle.std.proofs.Common.{◌≡◌, false, List, Some, Result, IfOk, IfErr, refl, sym, ◌∙◌, ap, subst}
 use Rattle.flash_traits.specs.Budget.{budget_of}
 use Rattle.flash_traits.specs.Causes.{Rose}
-use Rattle.sector_image.specs.Stands.{Stands}
-use Rattle.vehicle_node.specs.Safe.{Safe}
-use Rattle.vehicle_node.specs.Standing.{Node}
-use Rattle.replay.specs.Breaks.{OnStopped, OnForeign, OnRefused, OnInput}
-use Rattle.sector_image.specs.FirstBad.{FirstBad}
+use Rattle.replay.specs.Breaks.{OnStopped, OnRefused, OnInput}
 use Rattle.replay.specs.Playing.{GoesOn}
 use Rattle.replay.specs.declared.Break.{Break}
-use Rattle.script_board.specs.declared.board.ScriptBoard.{ScriptBoard}
-use Rattle.script_replay.specs.Held.{HasLists, StandsFor}
-use Rattle.script_replay.specs.Steps.Places.{Starts, FitsAt, Plays, RefusesAt, Returns, Added, Printed, TellsWritten, words_at, waiting_at, input_faults_at}
+use Rattle.script_replay.specs.Held.{HasLists}
+use Rattle.script_replay.specs.Steps.Places.{Starts, FitsAt, Plays, RefusesAt, Returns, input_faults_at}
 use Rattle.script_replay.proofs.Boards.{begins, anew, listed}
 use Rattle.script_replay.proofs.Played.{event_within, event_end, fits_budget}
 use Rattle.script_replay.proofs.Uses.{CameBy}
 use Rattle.flash_traits.specs.Losses.{Received, SentFrame}
 use Rattle.vehicle_node.specs.declared.Turn.{Turn}
-use Rattle.script_replay.proofs.Ended.{no_output, quiet_uses, on_foreign, on_refused, on_input}
+use Rattle.script_replay.proofs.Ended.{on_refused, on_input}
 use Rattle.script_replay.proofs.Heard.{refused_so, input_so}
 use Rattle.script_replay.proofs.Returned.{returned}
 use Rattle.script_replay.proofs.player.event_on.Given as given

@@ -1,17 +1,12 @@
-use Rattle.std.proofs.Common.{◌≡◌, ◌≢◌, false, List, [], Option, Some, None, Result, IfErr, refl, sym, ◌∙◌, ap, subst}
-use Rattle.flash_traits.specs.Words.{Words}
-use Rattle.flash_traits.specs.Budget.{budget_of}
+use Rattle.std.proofs.Common.{◌≡◌, false, [], Some, Result, IfErr, refl, sym, subst}
 use Rattle.flash_traits.specs.Causes.{Rose}
-use Rattle.sector_image.specs.Stands.{Stands}
-use Rattle.vehicle_node.specs.Safe.{Safe}
 use Rattle.vehicle_node.specs.Standing.{Node}
 use Rattle.replay.specs.Breaks.{OnStopped, OnForeign, OnRefused, OnInput}
 use Rattle.sector_image.specs.FirstBad.{FirstBad}
-use Rattle.replay.specs.Playing.{OpenEnds, QuietUses}
+use Rattle.replay.specs.Playing.{QuietUses}
 use Rattle.replay.specs.declared.Break.{Break}
-use Rattle.script_board.specs.declared.board.ScriptBoard.{ScriptBoard}
-use Rattle.script_replay.specs.Held.{HasLists, StandsFor}
-use Rattle.script_replay.specs.Steps.Places.{Starts, Returns, Added, Printed, TellsWritten, words_at, waiting_at, input_faults_at}
+use Rattle.script_replay.specs.Held.{HasLists}
+use Rattle.script_replay.specs.Steps.Places.{Starts, Returns, Added, Printed, words_at, waiting_at, input_faults_at}
 use Rattle.script_replay.proofs.Boards.{begins, anew}
 use Rattle.script_replay.proofs.Ended.{no_output, quiet_uses, on_foreign, on_refused, on_input}
 use Rattle.script_replay.proofs.Heard.{waits_refused, waits_input}

@@ -1,4 +1,4 @@
-use Rattle.std.proofs.Common.{◌≡◌, ◌≢◌, ℕ, Option, IfErr, OnOk, sym, ◌∙◌, subst, List}
+use Rattle.std.proofs.Common.{◌≢◌, ℕ, IfErr, OnOk, sym, ◌∙◌, subst, List}
 use Rattle.sector_image.specs.Stands.{Stands}
 use Rattle.replay.specs.Breaks.{OnForeign}
 use Rattle.replay.specs.declared.Stop.TheVariants as stops

@@ -1,4 +1,4 @@
-use Rattle.std.proofs.Common.{◌≡◌, ◌≢◌, ℕ, List, ◌++◌, IfErr, sym, ◌∙◌, ap, subst, rules}
+use Rattle.std.proofs.Common.{◌≢◌, ℕ, List, sym, ◌∙◌, ap, subst, rules}
 use Rattle.std.specs.declared.marker.Brand.{Brand}
 use Rattle.flash_traits.specs.Budget.{budget_of}
 use Rattle.sector_image.specs.Stands.{Stands}

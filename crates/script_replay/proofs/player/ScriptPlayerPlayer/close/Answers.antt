@@ -1,10 +1,9 @@
-use Rattle.std.proofs.Common.{◌≡◌, ◌+◌, true, false, [], ℕ, subst, arith, refl, sym}
+use Rattle.std.proofs.Common.{false, [], ℕ, subst}
 use Rattle.flash_traits.specs.Budget.{budget_of}
-use Rattle.sector_image.specs.FirstBad.{FirstBad}
-use Rattle.replay.specs.Playing.{OpenEnds, EventEnds, CloseEnds}
-use Rattle.script_replay.specs.Steps.Places.{ToldAt, words_at, output_faults_at}
-use Rattle.script_replay.proofs.Places.{starts_now, holds_then, told_then, next_then, adds_then, foreign_less, fails_by}
-use Rattle.script_replay.proofs.Remaining.{remains_less, remains_fewer, lost_fewer, quiet_less, quiet_fewer}
+use Rattle.replay.specs.Playing.{CloseEnds}
+use Rattle.script_replay.specs.Steps.Places.{words_at}
+use Rattle.script_replay.proofs.Places.{starts_now, holds_then, told_then, adds_then, fails_by}
+use Rattle.script_replay.proofs.Remaining.{quiet_less, quiet_fewer}
 use Rattle.script_replay.proofs.player.ScriptPlayerPlayer.close.Goals as goal
 
 pub close_on-closed-requires-clause-starts : goal.close_on-closed-requires-clause-starts

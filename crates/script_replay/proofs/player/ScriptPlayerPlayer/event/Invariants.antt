@@ -1,4 +1,4 @@
-use Rattle.std.proofs.Common.{true, false}
+use Rattle.std.proofs.Common.{true}
 use Rattle.script_replay.proofs.Places.{now_at}
 use Rattle.script_replay.proofs.player.ScriptPlayerPlayer.event.Given as goal
 
