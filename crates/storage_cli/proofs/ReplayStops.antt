@@ -5,20 +5,19 @@ use Rattle.flash_traits.specs.Words.{Words}
 use Rattle.flash_traits.specs.declared.board.Fault.{Fault}
 use Rattle.flash_traits.specs.declared.board.Fault.TheVariants as fault
 use Rattle.flash_traits.specs.Causes.{Rose}
-use Rattle.sector_image.specs.FirstBad.{FirstBad}
+use Rattle.sector_image.specs.FirstBad.{FirstBad, Place, place_of}
 use Rattle.sector_image.specs.Refusals as image
 use Rattle.sector_image.specs.declared.kept.SurveyError.{SurveyError}
 use Rattle.sector_image.specs.declared.kept.SurveyError.TheVariants as survey
-use Rattle.replay.specs.Breaks as breaks
+use Rattle.replay.specs.Breaks.{OnForeign, OnInput, OnOutput}
 use Rattle.replay.specs.declared.Stop as script
 use Rattle.replay.specs.declared.Stop.TheVariants as script_stop
-use Rattle.replay.specs.declared.Break.TheVariants.{Stopped}
 use Rattle.storage_cli.specs.declared.stop.Stop.{Stop}
 use Rattle.storage_cli.specs.declared.stop.Stop.TheVariants as stop
 use Rattle.storage_cli.specs.declared.replaying.Replayed.{Replayed}
 use Rattle.storage_cli.specs.declared.replaying.Replayed.TheVariants as replayed
 use Rattle.storage_cli.specs.Steps.Stops.{stop_of_fault, stop_of_survey, IsFirst, IsCausedBy, StopsByCause, StopsEarly}
-use Rattle.storage_cli.specs.Steps.Replaying.{ending_of, OnWhole, OnPrefix, OnForeign, OnInput, HasPart, IsReadStop, IsEarly, StopsBefore, StopsInside}
+use Rattle.storage_cli.specs.Steps.Replaying.{ending_of, OnWhole, OnPrefix, HasPart, IsReadStop, IsEarly, StopsBefore, StopsInside}
 use Rattle.storage_cli.proofs.Causes.{first_fault, fault_cause}
 
 -- the stop of a survey
@@ -75,7 +74,7 @@ never_whole_in (script_stop.Refused line) P = tt
 never_whole_in script_stop.Input P = tt
 never_whole_in script_stop.Output P = tt
 
-output_in : (why : script.Stop) (P : Type 0) → breaks.OnOutput P (Stopped why) → IfOk (ending_of why) (λ r. OnPrefix r P)
+output_in : (why : script.Stop) (P : Type 0) → OnOutput P why → IfOk (ending_of why) (λ r. OnPrefix r P)
 output_in script_stop.Memory P p = tt
 output_in (script_stop.Foreign region offset word) P p = tt
 output_in (script_stop.Worn count) P p = tt
@@ -83,29 +82,13 @@ output_in (script_stop.Refused line) P p = tt
 output_in script_stop.Input P p = tt
 output_in script_stop.Output P p = p
 
-pub on_foreign : (why : script.Stop) (P : Type 0) → breaks.OnForeign (λ place. P) (Stopped why) → OnForeign why P
-on_foreign script_stop.Memory P p = tt
-on_foreign (script_stop.Foreign region offset word) P p = p
-on_foreign (script_stop.Worn count) P p = tt
-on_foreign (script_stop.Refused line) P p = tt
-on_foreign script_stop.Input P p = tt
-on_foreign script_stop.Output P p = tt
-
-pub foreign_map : (why : script.Stop) (P Q : Type 0) → (P → Q) → OnForeign why P → OnForeign why Q
+pub foreign_map : (why : script.Stop) (P : Place → Type 0) (Q : Type 0) → ((place : Place) → P place → Q) → OnForeign P why → OnForeign (λ place. Q) why
 foreign_map script_stop.Memory P Q f p = tt
-foreign_map (script_stop.Foreign region offset word) P Q f p = f p
+foreign_map (script_stop.Foreign region offset word) P Q f p = f (place_of region offset word) p
 foreign_map (script_stop.Worn count) P Q f p = tt
 foreign_map (script_stop.Refused line) P Q f p = tt
 foreign_map script_stop.Input P Q f p = tt
 foreign_map script_stop.Output P Q f p = tt
-
-pub on_input : (why : script.Stop) (P : Type 0) → breaks.OnInput P (Stopped why) → OnInput why P
-on_input script_stop.Memory P p = tt
-on_input (script_stop.Foreign region offset word) P p = tt
-on_input (script_stop.Worn count) P p = tt
-on_input (script_stop.Refused line) P p = tt
-on_input script_stop.Input P p = p
-on_input script_stop.Output P p = tt
 
 -- an error of an ending
 if_err : (r : Result Replayed Stop) (P : Stop → Type 0) → ((own : Stop) → r ≡ Err own → P own) → IfErr r P
@@ -119,7 +102,7 @@ module _ (why : script.Stop) (result : Result Replayed Stop) (is : result ≡ en
   pub never_whole : (P : List ℕ → Type 0) → IfOk result (λ r. OnWhole r P)
   never_whole P = subst (λ (r : Result Replayed Stop). IfOk r (λ x. OnWhole x P)) (sym is) (never_whole_in why P)
 
-  pub output_failed : (P : Type 0) → breaks.OnOutput P (Stopped why) → IfOk result (λ r. OnPrefix r P)
+  pub output_failed : (P : Type 0) → OnOutput P why → IfOk result (λ r. OnPrefix r P)
   output_failed P p = subst (λ (r : Result Replayed Stop). IfOk r (λ x. OnPrefix x P)) (sym is) (output_in why P p)
 
   pub ending_causes : (before now : Fault → ℕ) → ((k : Fault) → before k ≤ now k) → StopsByCause before now result
@@ -127,7 +110,7 @@ module _ (why : script.Stop) (result : Result Replayed Stop) (is : result ≡ en
 
   pub stops_inside : (told : Type 0) (budget : ℕ) (words : Words) (same : Type 0) (rest_before rest_now written_before written_now : List ℕ) (faults_before faults_now : ℕ)
       → (why ≢ script_stop.Output → told → HasPart budget words rest_before rest_now written_before written_now why)
-      → OnForeign why (told → ⊥) → OnInput why (Rose faults_before faults_now)
+      → OnForeign (λ place. told → ⊥) why → OnInput (Rose faults_before faults_now) why
       → (told_words : Type 0) → IfErr result (λ own. StopsBefore told_words words same own ⊎ StopsInside told budget words rest_before rest_now written_before written_now faults_before faults_now own)
   stops_inside told budget words same rest_before rest_now written_before written_now faults_before faults_now has foreign input told_words =
       if_err result _ (λ own ends. inr (record {

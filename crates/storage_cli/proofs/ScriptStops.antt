@@ -1,5 +1,6 @@
 -- The stops of a script, as the command tells them: status, line, and when each comes.
 use Rattle.std.proofs.Common.{◌≡◌, ◌⊎◌, inl, inr, ℕ, refl, subst, arith, Result, Ok, Err}
+use Rattle.replay.specs.Breaks.{OnForeign, OnInput}
 use Rattle.replay.specs.declared.Stop as script
 use Rattle.replay.specs.declared.Stop.TheVariants as script_stop
 use Rattle.storage_cli.specs.declared.stop.Stop.{Stop}
@@ -8,7 +9,7 @@ use Rattle.storage_cli.specs.declared.replaying.Replayed.{Replayed}
 use Rattle.storage_cli.specs.declared.replaying.Replayed.TheVariants as replayed
 use Rattle.storage_cli.specs.Replays.{status_of_script, line_of_script}
 use Rattle.storage_cli.specs.Steps.Stops.{status_of_stop, line_of_stop}
-use Rattle.storage_cli.specs.Steps.Replaying.{ending_of, OnForeign, OnInput, IsEarly}
+use Rattle.storage_cli.specs.Steps.Replaying.{ending_of, IsEarly}
 
 never_ok : (r : Replayed) (a : Stop) → (let x : Result Replayed Stop = Ok r in x ≡ Err a) → ⊥
 never_ok r a e = cc
@@ -38,7 +39,7 @@ ending_line script_stop.Input why is = at_one (λ w. line_of_stop w ≡ line_of_
 ending_line script_stop.Output why is = absurd (never_ok replayed.Prefix why is)
 
 -- a foreign halfword that the script met, and a failed read of the input
-pub foreign_at : (s : script.Stop) (P : Type 0) → OnForeign s P → status_of_script s ≡ 3 → P
+pub foreign_at : (s : script.Stop) (P : Type 0) → OnForeign (λ place. P) s → status_of_script s ≡ 3 → P
 foreign_at script_stop.Memory P p e = absurd (omega (arith, e))
 foreign_at (script_stop.Foreign region offset word) P p e = p
 foreign_at (script_stop.Worn count) P p e = absurd (omega (arith, e))
@@ -46,7 +47,7 @@ foreign_at (script_stop.Refused line) P p e = absurd (omega (arith, e))
 foreign_at script_stop.Input P p e = absurd (omega (arith, e))
 foreign_at script_stop.Output P p e = absurd (omega (arith, e))
 
-pub input_at : (s : script.Stop) (P : Type 0) → OnInput s P → status_of_script s ≡ 9 → P
+pub input_at : (s : script.Stop) (P : Type 0) → OnInput P s → status_of_script s ≡ 9 → P
 input_at script_stop.Memory P p e = absurd (omega (arith, e))
 input_at (script_stop.Foreign region offset word) P p e = absurd (omega (arith, e))
 input_at (script_stop.Worn count) P p e = absurd (omega (arith, e))

@@ -2,6 +2,7 @@
 use Rattle.std.specs.Prelude.{◌≡◌, ℕ, List, ◌++◌, Result, Ok, Err}
 use Rattle.flash_traits.specs.Words.{Words}
 use Rattle.flash_traits.specs.Causes.{Rose}
+use Rattle.replay.specs.Breaks.{OnForeign, OnInput}
 use Rattle.replay.specs.declared.Stop as script
 use Rattle.replay.specs.declared.Stop.TheVariants as script_stop
 use Rattle.script_replay.specs.Replays.{ReplaysPart}
@@ -30,16 +31,6 @@ OnWhole replayed.Prefix P = Unit {0}
 abbrev pub OnPrefix : Replayed → Type 0 → Type 0
 OnPrefix (replayed.Whole digest) P = Unit {0}
 OnPrefix replayed.Prefix P = P
-
--- what holds where the words are no image
-abbrev pub OnForeign : script.Stop → Type 0 → Type 0
-OnForeign (script_stop.Foreign region offset word) P = P
-OnForeign _ P = Unit {0}
-
--- what holds where the input failed
-abbrev pub OnInput : script.Stop → Type 0 → Type 0
-OnInput script_stop.Input P = P
-OnInput _ P = Unit {0}
 
 -- a text was printed of lines of the script
 pub record HasPart (budget : ℕ) (before : Words) (rest_before rest_now : List ℕ)
@@ -77,5 +68,5 @@ pub record StopsInside (told : Type 0) (budget : ℕ) (words : Words)
   pub script_why : script.Stop
   pub ends : ending_of script_why ≡ Err why
   pub has : told → HasPart budget words rest_before rest_now written_before written_now script_why
-  pub never_foreign : OnForeign script_why (told → ⊥)
-  pub input : OnInput script_why (Rose faults_before faults_now)
+  pub never_foreign : OnForeign (λ place. told → ⊥) script_why
+  pub input : OnInput (Rose faults_before faults_now) script_why

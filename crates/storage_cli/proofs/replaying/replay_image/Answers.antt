@@ -2,13 +2,14 @@ use Rattle.std.proofs.Common.{◌≡◌, ◌∙◌, inl, [], ◌++◌, refl, sym
 use Rattle.std.proofs.lemmas.List.{take_at}
 use Rattle.flash_traits.specs.Words.{IsSectorSize}
 use Rattle.flash_traits.specs.Budget.{budget_of}
+use Rattle.sector_image.specs.Stands.{Stands}
 use Rattle.script_board.specs.Image.{words_of}
 use Rattle.storage_cli.specs.Replays.{AllTell}
 use Rattle.storage_cli.specs.declared.stop.Stop.TheVariants as stop
 use Rattle.storage_cli.specs.declared.replaying.Replayed.{Replayed}
 use Rattle.storage_cli.specs.Steps.Stops.{StopsEarly}
 use Rattle.storage_cli.proofs.Causes.{on_stop, on_result, caused, never_both}
-use Rattle.storage_cli.proofs.ReplayStops.{early_read, read_early, never_whole, output_failed, ending_causes, stops_inside, on_foreign, on_input, foreign_map}
+use Rattle.storage_cli.proofs.ReplayStops.{early_read, read_early, never_whole, output_failed, ending_causes, stops_inside, foreign_map}
 use Rattle.storage_cli.proofs.ReplayRuns.{whole_run, part_run, no_foreign}
 use Rattle.storage_cli.proofs.replaying.replay_image.Goals as goal
 
@@ -96,7 +97,6 @@ returns-clause-stops g c =
     let written_now = g.K.Sink.written c.replay_script.new.out in
     stops_inside c.in-Err.why c.ending_of.result c.ending_of.ensures tell (budget_of size) w _ rest_before rest_now written_before written_now _ _
     (λ other (t : tell). part_run told w copy size sector_bytes c.geometry-sector_bytes.ensures copied c.in_ok-read_image.ensures.stands rest_before rest_now written_before written_now c.in-Err.why t.0 (c.in-Err.ensures.cut_short other t.1 t.2))
-    (foreign_map c.in-Err.why _ _
-    (λ never (t : tell). no_foreign told w copy size sector_bytes c.geometry-sector_bytes.ensures copied c.in_ok-read_image.ensures.stands rest_before rest_now written_before written_now t.0 (never t.1 t.2))
-    (on_foreign c.in-Err.why _ c.in-Err.ensures.foreign))
-    (on_input c.in-Err.why _ c.in-Err.ensures.input) told
+    (foreign_map c.in-Err.why (λ place. g.S.Source.tells_rest c.replay_script.new.input → g.K.Sink.tells_written c.replay_script.new.out → (b : List ℕ) → Stands (words_of sector_bytes copy) b → ⊥) (tell → ⊥)
+    (λ place never t. no_foreign told w copy size sector_bytes c.geometry-sector_bytes.ensures copied c.in_ok-read_image.ensures.stands rest_before rest_now written_before written_now t.0 (never t.1 t.2)) c.in-Err.ensures.foreign)
+    c.in-Err.ensures.input told
