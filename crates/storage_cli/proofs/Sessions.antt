@@ -125,4 +125,6 @@ wears_out g rounds n before board stop.Worn size shape is session told w =
       enough = subst (λ (k : ℕ). GUARD_HALFWORDS ≤ 2 + 2 * length (run_of (budget_of k) fresh_bytes m.acts).issued) same (omega (arith, m.enough));
     }
 wears_out g rounds n before board (stop.Turns k) size shape is session told w = tt
+wears_out g rounds n before board stop.Input size shape is session told w = tt
+wears_out g rounds n before board (stop.Script line) size shape is session told w = tt
 wears_out g rounds n before board stop.Attach size shape is session told w = tt
