@@ -15,6 +15,4 @@ mod memory;
 #[cfg(test)]
 mod realistic;
 #[cfg(test)]
-mod replays;
-#[cfg(test)]
 mod texts;
