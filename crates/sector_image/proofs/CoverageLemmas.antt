@@ -1,7 +1,7 @@
 -- What the marks of a comparison say of the chunks that are left to copy.
 use Rattle.std.proofs.Common.{◌≡◌, ◌≢◌, ◌⊎◌, inl, inr, ℕ, zero, suc, ◌+◌, ◌*◌, ◌<◌, ◌≤◌, Bool, true, false, not, ltb, List, [], ◌∷◌, ◌++◌, length, take, drop, get_or, set, Option, Some, None, refl, sym, ◌∙◌, ap, arith, add-zero}
 use mir.Val.{bool_byte}
-use Rattle.std.specs.Prelude.{if◌then◌else◌, ◌||◌, ◌↔◌, IsTrue, IfSome, IfNone, All}
+use Rattle.std.specs.Prelude.{◌||◌, ◌↔◌, IsTrue, IfSome, IfNone, All}
 use Rattle.std.proofs.lemmas.List.{get_or-set_same, get_or-set_other, ext_get_or}
 use Rattle.std.specs.List.{position, position_or_len, list_all}
 use Rattle.std.proofs.lemmas.List.Quantifiers.{position-Some}
@@ -15,7 +15,7 @@ use Rattle.sector_image.specs.Images.{Bytes, IsFirstLeft}
 use Rattle.sector_image.proofs.ChunkLemmas.{length_chunk, same_chunk, put_chunk_here, put_chunk_other}
 use Rattle.std.proofs.lemmas.List.Sums.{prefix_len_passes}
 use Rattle.std.proofs.lemmas.Bool.{cases_eq, cases_lt, both_ways, ne_eqb, and_parts, not-true, not-false, not_from_true, not_from_false, true_from_ne_false, cond-true, lt-ltb}
-use Rattle.sector_image.specs.Room.{chunk_at, is_covered, is_left, count_below, left_below}
+use Rattle.sector_image.specs.Room.{chunk_at, is_covered, is_left, left_below}
 use Rattle.sector_image.specs.Coverage.{is_marked, unmarked_below, IsComparison, AreCompared}
 use Rattle.sector_image.proofs.Counts.{one_if, count_same, count_change, count_most, count_none, count_of_none}
 use Rattle.sector_image.proofs.Rooms.{finished_not_left}

@@ -3,7 +3,6 @@
 ghost use Rattle.std.specs.Prelude.{◌≡◌, ◌%◌, ◌/◌, ◌≤◌, IsTrue, length, IfOk, OnOk, IfErr};
 ghost use Rattle.flash_traits.specs.declared.board.Fault.TheVariants.{Read};
 ghost use Rattle.flash_traits.specs.declared.board.Mark.TheVariants.{Available, InUse, Full};
-ghost use Rattle.flash_traits.specs.declared.numbers.TheConstants.{GUARD_HALFWORDS};
 ghost use Rattle.flash_traits.specs.Words.{IsSectorSize};
 ghost use Rattle.flash_traits.specs.Causes.{Rose};
 ghost use Rattle.guard_row.specs.Row.{IsGuardRow};
@@ -17,7 +16,7 @@ ghost use Rattle.sector_image.specs.FirstBad.{Place, FirstBad, AreHeads};
 ghost use Rattle.sector_image.specs.Fits.{FitsShape, mark_of, other_mark_of, parity_of};
 ghost use Rattle.sector_image.specs.Surveys.{AreLogs};
 ghost use Rattle.sector_image.specs.Refusals.{OnForeign, OnSurveyFault};
-ghost use Rattle.sector_image.specs.Steps.Calls.{ReadsOrRefuses, FindsImage};
+ghost use Rattle.sector_image.specs.Steps.Calls.{CanSurvey, ReadsOrRefuses, FindsImage};
 
 use crate::chunks::torn_chunk;
 use crate::coverage::Coverage;
@@ -54,11 +53,8 @@ fn survey_sectors<B: Board>(
     whole: &mut [u8],
     upper: &mut [u8],
 ) -> Result<Survey, SurveyError>
-    requires attached { IsSectorSize (B.sector_bytes board.old) }
-    requires most { guard ≤ GUARD_HALFWORDS }
+    requires given { CanSurvey (B.sector_bytes board.old) guard whole.old upper.old }
     requires row { B.tells board.old → IsGuardRow (B.words board.old).guard guard }
-    requires whole { length whole.old ≡ storage_bytes }
-    requires upper { length upper.old ≡ storage_bytes }
     ensures finds { FindsImage B.Board board.old result board.new whole.new upper.new }
     ensures calls { ReadsOrRefuses B.Board (FirstBad (B.words board.old))
         board.old result board.new }
@@ -81,12 +77,9 @@ fn survey_voided<B: Board>(
     whole: &mut [u8],
     upper: &mut [u8],
 ) -> Result<Survey, SurveyError>
-    requires attached { IsSectorSize (B.sector_bytes board.old) }
-    requires most { guard ≤ GUARD_HALFWORDS }
+    requires given { CanSurvey (B.sector_bytes board.old) guard whole.old upper.old }
     requires odd { guard % 2 ≡ 1 }
     requires row { B.tells board.old → IsGuardRow (B.words board.old).guard guard }
-    requires whole { length whole.old ≡ storage_bytes }
-    requires upper { length upper.old ≡ storage_bytes }
     ensures finds { FindsImage B.Board board.old result board.new whole.new upper.new }
     ensures calls { ReadsOrRefuses B.Board (FirstBad (B.words board.old))
         board.old result board.new }
@@ -212,12 +205,9 @@ fn survey_alone<B: Board>(
     whole: &mut [u8],
     upper: &mut [u8],
 ) -> Result<Survey, SurveyError>
-    requires attached { IsSectorSize (B.sector_bytes board.old) }
-    requires most { guard ≤ GUARD_HALFWORDS }
+    requires given { CanSurvey (B.sector_bytes board.old) guard whole.old upper.old }
     requires even { guard % 2 ≡ 0 }
     requires heads { B.tells board.old → AreHeads (B.words board.old) guard InUse Available }
-    requires whole { length whole.old ≡ storage_bytes }
-    requires upper { length upper.old ≡ storage_bytes }
     ensures finds { FindsImage B.Board board.old result board.new whole.new upper.new }
     ensures calls { ReadsOrRefuses B.Board (FirstBad (B.words board.old))
         board.old result board.new }
@@ -243,12 +233,9 @@ fn survey_marked<B: Board>(
     whole: &mut [u8],
     upper: &mut [u8],
 ) -> Result<Survey, SurveyError>
-    requires attached { IsSectorSize (B.sector_bytes board.old) }
-    requires most { guard ≤ GUARD_HALFWORDS }
+    requires given { CanSurvey (B.sector_bytes board.old) guard whole.old upper.old }
     requires even { guard % 2 ≡ 0 }
     requires heads { B.tells board.old → AreHeads (B.words board.old) guard Full Available }
-    requires whole { length whole.old ≡ storage_bytes }
-    requires upper { length upper.old ≡ storage_bytes }
     ensures finds { FindsImage B.Board board.old result board.new whole.new upper.new }
     ensures calls { ReadsOrRefuses B.Board (FirstBad (B.words board.old))
         board.old result board.new }
@@ -273,12 +260,9 @@ fn survey_spilled<B: Board>(
     whole: &mut [u8],
     upper: &mut [u8],
 ) -> Result<Survey, SurveyError>
-    requires attached { IsSectorSize (B.sector_bytes board.old) }
-    requires most { guard ≤ GUARD_HALFWORDS }
+    requires given { CanSurvey (B.sector_bytes board.old) guard whole.old upper.old }
     requires even { guard % 2 ≡ 0 }
     requires heads { B.tells board.old → AreHeads (B.words board.old) guard Full InUse }
-    requires whole { length whole.old ≡ storage_bytes }
-    requires upper { length upper.old ≡ storage_bytes }
     ensures finds { FindsImage B.Board board.old result board.new whole.new upper.new }
     ensures calls { ReadsOrRefuses B.Board (FirstBad (B.words board.old))
         board.old result board.new }

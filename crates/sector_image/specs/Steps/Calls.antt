@@ -2,8 +2,11 @@
 use Rattle.std.specs.Prelude.{◌≡◌, ℕ, ◌≤◌, List, length, Result, IfOk, OnOk, IfErr}
 use Rattle.flash_traits.specs.declared.board.Board.{Ghosts}
 use Rattle.flash_traits.specs.declared.board.Fault.TheVariants.{Read}
+use Rattle.flash_traits.specs.declared.numbers.TheConstants.{GUARD_HALFWORDS}
+use Rattle.flash_traits.specs.Words.{IsSectorSize}
 use Rattle.flash_traits.specs.Calls.{OnlyReads}
 use Rattle.flash_traits.specs.Causes.{Rose}
+use Rattle.sector_log.specs.Storage.{storage_bytes}
 use Rattle.sector_image.specs.declared.kept.Survey.{Survey}
 use Rattle.sector_image.specs.declared.kept.SurveyError.{SurveyError}
 use Rattle.sector_image.specs.Images.{both_bytes}
@@ -11,6 +14,14 @@ use Rattle.sector_image.specs.Stands.{Stands}
 use Rattle.sector_image.specs.FirstBad.{Place}
 use Rattle.sector_image.specs.Fits.{FitsShape}
 use Rattle.sector_image.specs.Refusals.{OnForeign, OnSurveyFault}
+
+-- What every step that surveys an image is given: an attached board, a count that a guard row may
+-- have, and room for two lists of the storage's bytes.
+pub record CanSurvey (sector_bytes guard : ℕ) (whole upper : List ℕ) : Type 0 where
+  pub attached : IsSectorSize sector_bytes
+  pub most : guard ≤ GUARD_HALFWORDS
+  pub whole_size : length whole ≡ storage_bytes
+  pub upper_size : length upper ≡ storage_bytes
 
 -- The call only reads. It fails only where a read failed, which is counted, or it names a foreign
 -- word: where the board tells its words, `bad` holds of that word's place.

@@ -14,8 +14,8 @@ returns-clause-finds g c = record {
       let reads = c.logs_of.ensures.calls.reads in
       let kept : Kept = record { sector_bytes = c.geometry.result.sector_bytes; guard = c.args.guard; home = c.in_ok-logs.logs.home; other = None; completable = false } in (
         record {
-          home = found_rules Alone (g.B.Board.sector_bytes c.args.board.now) (g.B.Board.sector_bytes c.logs_of.new.board) kept (both_bytes c.logs_of.new.whole c.copy_from_slice.new.self) c.requires.attached reads.changes.geometry
-              c.geometry.ensures c.requires.most c.requires.even c.in_ok-logs.ensures.home (c.logs_of.auto.whole ∙ c.requires.whole) (c.copy_from_slice.auto.self ∙ c.logs_of.auto.upper ∙ c.requires.upper);
+          home = found_rules Alone (g.B.Board.sector_bytes c.args.board.now) (g.B.Board.sector_bytes c.logs_of.new.board) kept (both_bytes c.logs_of.new.whole c.copy_from_slice.new.self) c.requires.given.attached reads.changes.geometry
+              c.geometry.ensures c.requires.given.most c.requires.even c.in_ok-logs.ensures.home (c.logs_of.auto.whole ∙ c.requires.given.whole_size) (c.copy_from_slice.auto.self ∙ c.logs_of.auto.upper ∙ c.requires.given.upper_size);
           none = refl;
           plain = refl;
         },

@@ -49,7 +49,7 @@ returns-then-left-logs-clause-calls g c = record {
       let left : c.count_left-left.result ≡ left_to_copy c.log_at.new.into c.logs_of.new.upper (torn_chunk c.in_ok-completable.completable c.in_ok-logs.logs.other) =
       c.count_left-left.ensures.count c.log_at.new.into c.logs_of.new.upper c.of.ensures ∙ ap (λ (f : Option ℕ). left_to_copy c.log_at.new.into c.logs_of.new.upper f) c.torn_chunk-finishing.ensures in
       let size = g.B.Board.sector_bytes c.args.board.now in
-      let long : 2 * length (halfwords_in W (second_of c.args.guard)) ≡ size = omega (arith, g.met.B.Board.shape c.args.board.now told0 c.requires.attached (second_of c.args.guard), length_second size c.args.guard, half_of size c.requires.attached) in
+      let long : 2 * length (halfwords_in W (second_of c.args.guard)) ≡ size = omega (arith, g.met.B.Board.shape c.args.board.now told0 c.requires.given.attached (second_of c.args.guard), length_second size c.args.guard, half_of size c.requires.given.attached) in
       let geometry : g.B.Board.sector_bytes c.is_completable.new.board ≡ g.B.Board.sector_bytes c.args.board.now =
       c.is_completable.ensures.reads.changes.geometry ∙ c.log_at.ensures.calls.reads.changes.geometry ∙ c.logs_of.ensures.calls.reads.changes.geometry in
       subst (λ (q : Region). FirstBad W (place_of q 0 23550)) (sym c.second_sector-region.ensures)
@@ -70,8 +70,8 @@ returns-clause-finds g c = record {
       c.count_left-left.ensures.count c.log_at.new.into c.logs_of.new.upper c.of.ensures ∙ ap (λ (f : Option ℕ). left_to_copy c.log_at.new.into c.logs_of.new.upper f) c.torn_chunk-finishing.ensures in (
         c.in_ok-logs.logs.other,
         record {
-          home = found_rules Spilled (g.B.Board.sector_bytes c.args.board.now) (g.B.Board.sector_bytes c.is_completable.new.board) kept images c.requires.attached geometry c.geometry-sector_bytes.ensures c.requires.most c.requires.even
-              c.in_ok-logs.ensures.home (c.log_at.auto.into ∙ c.logs_of.auto.whole ∙ c.requires.whole) (c.logs_of.auto.upper ∙ c.requires.upper);
+          home = found_rules Spilled (g.B.Board.sector_bytes c.args.board.now) (g.B.Board.sector_bytes c.is_completable.new.board) kept images c.requires.given.attached geometry c.geometry-sector_bytes.ensures c.requires.given.most c.requires.even
+              c.in_ok-logs.ensures.home (c.log_at.auto.into ∙ c.logs_of.auto.whole ∙ c.requires.given.whole_size) (c.logs_of.auto.upper ∙ c.requires.given.upper_size);
           other = refl;
           region = other.1;
           mark = other.2;
@@ -95,7 +95,7 @@ returns-clause-finds g c = record {
             let left : c.count_left-left.result ≡ left_to_copy c.log_at.new.into c.logs_of.new.upper (torn_chunk c.in_ok-completable.completable c.in_ok-logs.logs.other) =
             c.count_left-left.ensures.count c.log_at.new.into c.logs_of.new.upper c.of.ensures ∙ ap (λ (f : Option ℕ). left_to_copy c.log_at.new.into c.logs_of.new.upper f) c.torn_chunk-finishing.ensures in
             let size = g.B.Board.sector_bytes c.args.board.now in
-            let long : 2 * length (halfwords_in W (second_of c.args.guard)) ≡ size = omega (arith, g.met.B.Board.shape c.args.board.now told0 c.requires.attached (second_of c.args.guard), length_second size c.args.guard, half_of size c.requires.attached) in
+            let long : 2 * length (halfwords_in W (second_of c.args.guard)) ≡ size = omega (arith, g.met.B.Board.shape c.args.board.now told0 c.requires.given.attached (second_of c.args.guard), length_second size c.args.guard, half_of size c.requires.given.attached) in
             subst (λ (w : Words). TwoLogWords kept c.in_ok-logs.logs.other images w) (sym (c.is_completable.ensures.reads.changes.content told ∙ same2))
             (spilled_words W kept c.in_ok-logs.logs.other c.logs_of.new.whole c.logs_of.new.upper c.log_at.new.into logs value known
             (omega (arith, c.if-left-logs.false, left, long, c.geometry-sector_bytes.ensures, geometry))),
@@ -116,7 +116,7 @@ returns-clause-finds g c = record {
       let left : c.count_left-left.result ≡ left_to_copy c.log_at.new.into c.logs_of.new.upper (torn_chunk c.in_ok-completable.completable c.in_ok-logs.logs.other) =
       c.count_left-left.ensures.count c.log_at.new.into c.logs_of.new.upper c.of.ensures ∙ ap (λ (f : Option ℕ). left_to_copy c.log_at.new.into c.logs_of.new.upper f) c.torn_chunk-finishing.ensures in
       let size = g.B.Board.sector_bytes c.args.board.now in
-      let long : 2 * length (halfwords_in W (second_of c.args.guard)) ≡ size = omega (arith, g.met.B.Board.shape c.args.board.now told0 c.requires.attached (second_of c.args.guard), length_second size c.args.guard, half_of size c.requires.attached) in
+      let long : 2 * length (halfwords_in W (second_of c.args.guard)) ≡ size = omega (arith, g.met.B.Board.shape c.args.board.now told0 c.requires.given.attached (second_of c.args.guard), length_second size c.args.guard, half_of size c.requires.given.attached) in
       let geometry : g.B.Board.sector_bytes c.is_completable.new.board ≡ g.B.Board.sector_bytes c.args.board.now =
       c.is_completable.ensures.reads.changes.geometry ∙ c.log_at.ensures.calls.reads.changes.geometry ∙ c.logs_of.ensures.calls.reads.changes.geometry in
       let kept : Kept = record { sector_bytes = c.geometry-sector_bytes.result.sector_bytes; guard = c.args.guard; home = c.in_ok-logs.logs.home; other = Some c.in_ok-logs.logs.other; completable = c.in_ok-completable.completable } in
