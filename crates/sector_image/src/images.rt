@@ -11,9 +11,7 @@ use crate::chunks;
 use crate::coverage::Coverage;
 use std::alloc::{AllocError, Global};
 use std::marker::Model;
-
-/// The bytes of the storage.
-const BYTES: usize = 15360;
+use storage_lines::STORAGE_BYTES;
 
 /// The bytes of the storage, 15,360 each: those of the image, and those of the entries of the
 /// sector in use alone. Beside them is kept which chunks of the two are the same.
@@ -42,8 +40,8 @@ impl Images {
         ensures whole { IfOk result (λ images. All (λ byte. byte ≡ 0) images.whole) }
         ensures upper { IfOk result (λ images. All (λ byte. byte ≡ 0) images.upper) }
     {
-        let whole = zeros(alloc, BYTES)?;
-        let upper = zeros(alloc, BYTES)?;
+        let whole = zeros(alloc, STORAGE_BYTES)?;
+        let upper = zeros(alloc, STORAGE_BYTES)?;
         Ok(Images {
             whole,
             upper,
