@@ -177,17 +177,9 @@ impl Spilled {
             × Rose (B.faults board.old Flash) (B.faults board.new Flash))) }
         ensures counts { (k : Fault) → B.faults board.old k ≤ B.faults board.new k }
     {
-        let copied = match self.copy(board, images) {
-            Ok(copied) => copied,
-            Err(kind) => return Err(SwitchError::Fault(kind)),
-        };
-        match copied.settle(board) {
-            Ok(alone) => Ok(alone),
-            Err(VoidError::Fault(kind)) => Err(SwitchError::Fault(kind)),
-            Err(VoidError::Worn(_)) => Err(SwitchError::Worn {
-                count: GUARD_HALFWORDS as u16,
-            }),
-        }
+        let copied = self.copy(board, images)?;
+        let alone = copied.settle(board)?;
+        Ok(alone)
     }
 }
 
@@ -207,6 +199,21 @@ impl From<Fault> for SwitchError {
 
     fn from(fault: Fault) -> SwitchError {
         SwitchError::Fault(fault)
+    }
+}
+
+impl From<VoidError> for SwitchError {
+    ghost use Rattle.sector_switch.specs.Steps.Errors.{error_of_void};
+
+    ghost from_gives = { λ void e. e ≡ error_of_void void };
+
+    fn from(void: VoidError) -> SwitchError {
+        match void {
+            VoidError::Fault(kind) => SwitchError::Fault(kind),
+            VoidError::Worn(_) => SwitchError::Worn {
+                count: GUARD_HALFWORDS as u16,
+            },
+        }
     }
 }
 
