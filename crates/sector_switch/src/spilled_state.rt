@@ -27,6 +27,9 @@ use sector_image::torn_chunk;
 use sector_log::{append, finish_torn};
 use std::marker::Model;
 
+/// The bytes of a chunk's entry: its header and eight lines.
+const COPY_BYTES: u64 = 66;
+
 /// Home is full, and the other sector takes the entries. What home has and the other hasn't is
 /// still to be copied.
 #[derive(Debug, Drop)]
@@ -225,7 +228,7 @@ fn room_in(kept: &Kept, images: &Images) -> u32
         return 0;
     };
     let left = images.count_left(torn_chunk(kept.completable, log));
-    let used = 2 * log.end as u64 + 66 * left as u64 + 66;
+    let used = 2 * log.end as u64 + COPY_BYTES * left as u64 + COPY_BYTES;
     (kept.sector_bytes as u64).saturating_sub(used) as u32
 }
 
