@@ -1,5 +1,6 @@
 -- What the switch goes through, and what its calls make of what a state keeps.
-use Rattle.std.specs.Prelude.{◌≡◌, ◌≤◌, ℕ, ◌+◌, ◌-◌, ◌*◌, List, length, All, if◌then◌else◌, Bool, true, false, Some, None}
+use Rattle.std.specs.Prelude.{◌≡◌, ◌≤◌, ℕ, ◌+◌, ◌-◌, ◌*◌, List, length, All, if◌then◌else◌, Bool}
+use Rattle.std.specs.Prelude.{true, false, Some, None}
 use Rattle.std.specs.Option.{option_map, option_map_or}
 use Rattle.flash_traits.specs.Budget.{copy_bytes}
 use Rattle.flash_traits.specs.Words.{halfwords_in, IsSectorSize}
@@ -56,9 +57,9 @@ is_full shape.Marked = true
 is_full shape.Spilled = true
 is_full shape.Voided = false
 
--- How large a caller's entry may be, in bytes: the other sector's free bytes, less those of an entry
--- for each chunk that is left to copy, and less those of one more. The caller's entry may be torn
--- after a completable torn one, whose chunk then counts again.
+-- How large a caller's entry may be, in bytes: the other sector's free bytes, less those of an
+-- entry for each chunk that is left to copy, and less those of one more. The caller's entry may be
+-- torn after a completable torn one, whose chunk then counts again.
 abbrev pub room_of : Kept → Bytes → ℕ
 room_of kept images = option_map_or
     (λ log. kept.sector_bytes - 2 * log.end - copy_bytes * left_chunks kept images - copy_bytes)

@@ -7,11 +7,14 @@ ghost use Rattle.flash_traits.specs.Calls.{Changes};
 ghost use Rattle.flash_traits.specs.Causes.{HasCause, Rose};
 ghost use Rattle.sector_image.specs.declared.kept.Kept.{Kept};
 ghost use Rattle.sector_image.specs.Images.{Bytes};
-ghost use Rattle.sector_image.specs.Stands.{Reading, Reads, Stands, count_in, count_after, is_alone, is_due};
+ghost use Rattle.sector_image.specs.Stands.{Reading, Reads, Stands, count_in, count_after};
+ghost use Rattle.sector_image.specs.Stands.{is_alone, is_due};
 ghost use Rattle.sector_image.specs.FirstBad.{Place, FirstBad};
 ghost use Rattle.sector_image.specs.Losses.{KeepsBytes};
-ghost use Rattle.sector_image.specs.Fits.{FitsAlone, FitsMarked, FitsSpilled, FitsVoided, FitsShape};
-ghost use Rattle.sector_switch.specs.States.{FitsCopied, guard_after, is_full, taken_of, FilledFromZeros, HomeAfter, CanServe};
+ghost use Rattle.sector_image.specs.Fits.{FitsAlone, FitsMarked, FitsSpilled, FitsVoided};
+ghost use Rattle.sector_image.specs.Fits.{FitsShape};
+ghost use Rattle.sector_switch.specs.States.{FitsCopied, guard_after, is_full, taken_of};
+ghost use Rattle.sector_switch.specs.States.{FilledFromZeros, HomeAfter, CanServe};
 ghost use Rattle.sector_switch.specs.Refusals.{OnRecoverForeign, OnRecoverFault, OnWorn, LeftAlone};
 
 use crate::{

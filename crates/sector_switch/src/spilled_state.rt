@@ -1,5 +1,6 @@
 //! The image in both sectors: entries go to the other one, and the copy makes it whole.
-ghost use Rattle.std.specs.Prelude.{◌≡◌, ◌+◌, ◌-◌, ◌*◌, ◌/◌, ◌<◌, ◌≤◌, ◌↔◌, ℕ, List, true, false, length, IsTrue, IfOk, OnOk, OnErr, IfErr, IfSome, Some, None};
+ghost use Rattle.std.specs.Prelude.{◌≡◌, ◌+◌, ◌-◌, ◌*◌, ◌/◌, ◌<◌, ◌≤◌, ◌↔◌, ℕ, List, true, false};
+ghost use Rattle.std.specs.Prelude.{length, IsTrue, IfOk, OnOk, OnErr, IfErr, IfSome, Some, None};
 ghost use Rattle.flash_traits.specs.declared.numbers.TheConstants.{GUARD_HALFWORDS};
 ghost use Rattle.flash_traits.specs.declared.board.Fault.TheVariants.{Flash};
 ghost use Rattle.flash_traits.specs.Losses.{ByResult};
