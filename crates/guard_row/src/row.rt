@@ -7,7 +7,7 @@ ghost use Rattle.flash_traits.specs.Words.{IsSectorSize, Same, Programs, Program
 ghost use Rattle.flash_traits.specs.Losses.{ByResult, after_program};
 ghost use Rattle.flash_traits.specs.Calls.{Changes, OnlyReads};
 ghost use Rattle.flash_traits.specs.declared.numbers.TheConstants.{ERASED, GUARD_HALFWORDS};
-ghost use Rattle.flash_traits.specs.Causes.{Rose, HasCause};
+ghost use Rattle.flash_traits.specs.Causes.{Rose, HasCause, FailsBy};
 ghost use Rattle.guard_row.specs.Row.{IsGuardRow, FirstBad, FirstFrom};
 ghost use Rattle.guard_row.specs.Steps.{Counts, CountMayLeave};
 ghost use Rattle.guard_row.specs.Errors.{OnWord, OnFault};
@@ -36,17 +36,15 @@ impl From<Fault> for GuardError {
 }
 
 /// How many zeros lead.
-fn leading_zeros<B: Board>(board: &mut B) -> Result<u32, GuardError>
+fn leading_zeros<B: Board>(board: &mut B) -> Result<u32, Fault>
     requires attached { IsSectorSize (B.sector_bytes board.old) }
     ensures within { IfOk result (λ count. count ≤ GUARD_HALFWORDS) }
     ensures zeros { IfOk result (λ count. B.tells board.new →
         (k : ℕ) → k < count → slice_index (B.words board.old).guard k ≡ 0) }
     ensures other { IfOk result (λ count. B.tells board.new →
         count < GUARD_HALFWORDS → slice_index (B.words board.old).guard count ≢ 0) }
-    ensures no_word { IfErr result (λ e. OnWord e (λ offset word. ⊥)) }
-    ensures fault { IfErr result (λ e. OnFault e (λ kind. (kind ≡ Read)
-        × Rose (B.faults board.old Read) (B.faults board.new Read))) }
     ensures reads { OnlyReads B.Board board.old board.new }
+    ensures fails { FailsBy Read (B.faults board.old) (B.faults board.new) result }
 {
     for at in 0..GUARD_HALFWORDS {
         let word = read_halfword(board, Region::Guard, at)?;

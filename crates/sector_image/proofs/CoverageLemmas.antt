@@ -1,7 +1,7 @@
 -- What the marks of a comparison say of the chunks that are left to copy.
 use Rattle.std.proofs.Common.{◌≡◌, ◌≢◌, ◌⊎◌, inl, inr, ℕ, zero, suc, ◌+◌, ◌*◌, ◌<◌, ◌≤◌, Bool, true, false, not, ltb, List, [], ◌∷◌, ◌++◌, length, take, drop, get_or, set, Option, Some, None, refl, sym, ◌∙◌, ap, arith, add-zero}
 use mir.Val.{bool_byte}
-use Rattle.std.specs.Prelude.{if◌then◌else◌, ◌||◌, ◌↔◌, IsTrue, IfSome, IfNone, All}
+use Rattle.std.specs.Prelude.{◌||◌, ◌↔◌, IsTrue, IfSome, IfNone, All}
 use Rattle.std.proofs.lemmas.List.{get_or-set_same, get_or-set_other, ext_get_or}
 use Rattle.std.specs.List.{position, position_or_len, list_all}
 use Rattle.std.proofs.lemmas.List.Quantifiers.{position-Some}
@@ -10,11 +10,12 @@ use Rattle.std.proofs.Math.Seq.{take-append_seam}
 use Rattle.std.specs.Str.{bytes_eq}
 use Rattle.flash_traits.specs.Values.{put}
 use Rattle.flash_traits.proofs.ValueLemmas.{length_put, put_below, put_above}
+use Rattle.sector_log.specs.Storage.{storage_bytes}
 use Rattle.sector_image.specs.Images.{Bytes, IsFirstLeft}
 use Rattle.sector_image.proofs.ChunkLemmas.{length_chunk, same_chunk, put_chunk_here, put_chunk_other}
 use Rattle.std.proofs.lemmas.List.Sums.{prefix_len_passes}
 use Rattle.std.proofs.lemmas.Bool.{cases_eq, cases_lt, both_ways, ne_eqb, and_parts, not-true, not-false, not_from_true, not_from_false, true_from_ne_false, cond-true, lt-ltb}
-use Rattle.sector_image.specs.Room.{chunk_at, is_covered, is_left, count_below, left_below}
+use Rattle.sector_image.specs.Room.{chunk_at, is_covered, is_left, left_below}
 use Rattle.sector_image.specs.Coverage.{is_marked, unmarked_below, IsComparison, AreCompared}
 use Rattle.sector_image.proofs.Counts.{one_if, count_same, count_change, count_most, count_none, count_of_none}
 use Rattle.sector_image.proofs.Rooms.{finished_not_left}
@@ -154,7 +155,7 @@ pub none_found : (w u : List ℕ) (marks : List Bool) → length marks ≡ 240 �
 none_found w u marks size is none = left_of_marks 240 w u marks is.each ∙ unmarked_none 240 marks (λ c lt. all_marked marks none c (omega arith))
 
 -- two lists that are one
-pub same_compared : (w u : List ℕ) (marks : List Bool) → length w ≡ 15360 → w ≡ u → ((c : ℕ) → c < 240 → is_marked marks c ≡ true) → AreCompared w u marks
+pub same_compared : (w u : List ℕ) (marks : List Bool) → length w ≡ storage_bytes → w ≡ u → ((c : ℕ) → c < 240 → is_marked marks c ≡ true) → AreCompared w u marks
 same_compared w u marks size same each = record {
   whole_size = size;
   upper_size = ap length (sym same) ∙ size;
@@ -171,7 +172,7 @@ put_elsewhere new bytes at c fits inside out =
     ])
 
 -- bytes are put into both lists, and the chunks that they touch are compared anew
-pub put_compared : (w u : List ℕ) (old new : List Bool) (at : ℕ) (bytes : List ℕ) (from to : ℕ) (w1 u1 : List ℕ) → AreCompared w u old → at + length bytes ≤ 15360 → 64 * from ≤ at → at + length bytes ≤ 64 * to →
+pub put_compared : (w u : List ℕ) (old new : List Bool) (at : ℕ) (bytes : List ℕ) (from to : ℕ) (w1 u1 : List ℕ) → AreCompared w u old → at + length bytes ≤ storage_bytes → 64 * from ≤ at → at + length bytes ≤ 64 * to →
     w1 ≡ put at bytes w → u1 ≡ put at bytes u → Compared w1 u1 old new from to → AreCompared w1 u1 new
 put_compared w u old new at bytes from to w1 u1 were fits low high whole upper is = record {
   whole_size = ap length whole ∙ length_put at bytes w (omega (arith, were.whole_size)) ∙ were.whole_size;
@@ -225,5 +226,5 @@ pub if_not_found : (w u : List ℕ) (marks : List Bool) (found : Option ℕ) →
 if_not_found w u marks (Some c) size is found = tt
 if_not_found w u marks None size is found = none_found w u marks size is (sym found)
 
-pub zeros_compared : (w u : List ℕ) (marks : List Bool) → length w ≡ 15360 → length u ≡ 15360 → All (λ b. b ≡ 0) w → All (λ b. b ≡ 0) u → ((c : ℕ) → c < 240 → is_marked marks c ≡ true) → AreCompared w u marks
+pub zeros_compared : (w u : List ℕ) (marks : List Bool) → length w ≡ storage_bytes → length u ≡ storage_bytes → All (λ b. b ≡ 0) w → All (λ b. b ≡ 0) u → ((c : ℕ) → c < 240 → is_marked marks c ≡ true) → AreCompared w u marks
 zeros_compared w u marks sw su zw zu each = same_compared w u marks sw (ext_get_or 0 w u (sw ∙ sym su) (λ k lt. zw k 0 lt ∙ sym (zu k 0 (omega arith)))) each

@@ -3,11 +3,20 @@ use Rattle.std.proofs.Common.{◌≡◌, ◌≢◌, ◌⊎◌, inl, inr, ℕ, �
 use Rattle.std.specs.Prelude.{All, IsTrue, if◌then◌else◌, ◌==◌, ◌&&◌, Result, Ok, Err, IfErr}
 use Rattle.std.specs.Result.{IsErrAnd}
 use Rattle.std.specs.Option.{option_and_then, is_some}
+use Rattle.std.proofs.lemmas.Result.{on_ok_weaker}
 use Rattle.std.proofs.lemmas.Bool.{cases_Bool, eqb-true, ne_eqb, lt-leb}
 use Rattle.std.proofs.lemmas.List.Sums.{fold-append}
 use Rattle.std.proofs.lemmas.List.Elements.{All-append}
 use Rattle.flash_traits.specs.Words.{Words, halfwords_in, IsSectorSize, halfwords_of}
+use Rattle.flash_traits.specs.declared.board.Board.{Ghosts}
+use Rattle.flash_traits.specs.declared.board.Fault.{Fault}
+use Rattle.flash_traits.specs.declared.board.Fault.TheVariants.{Read}
 use Rattle.flash_traits.specs.declared.board.Region.{Region}
+use Rattle.flash_traits.specs.declared.board.Region.TheVariants.{Guard}
+use Rattle.flash_traits.specs.Losses.{Outcome}
+use Rattle.flash_traits.specs.Calls.{OnlyReads}
+use Rattle.flash_traits.specs.Causes.{Rose}
+use Rattle.flash_traits.proofs.Moments.{reads_then}
 use Rattle.flash_traits.specs.declared.board.Mark.{Mark}
 use Rattle.flash_traits.specs.declared.board.Mark.TheVariants.{Available, InUse, Full}
 use Rattle.sector_log.specs.declared.log.Log.{Log}
@@ -19,19 +28,25 @@ use Rattle.sector_log.specs.Bytes.{apply, applied, IsValue, programmable}
 use Rattle.sector_log.specs.Log.{end_of, last_of, torn_at, torn_of, IsLogOf}
 use Rattle.sector_log.specs.Appends.{entry_of, IsTornLast, IsLogIn}
 use Rattle.sector_log.proofs.ValueLemmas.{value_applied, one_value}
+use Rattle.guard_row.specs.declared.row.GuardError.{GuardError}
+use Rattle.guard_row.specs.declared.row.GuardError.TheVariants as guard_errors
+use Rattle.guard_row.specs.Errors.{OnWord, OnFault}
 use Rattle.guard_row.specs.Row.{IsGuardRow}
 use Rattle.sector_image.specs.declared.kept.Kept.{Kept}
 use Rattle.sector_image.specs.declared.kept.Shape.{Shape}
 use Rattle.sector_image.specs.declared.kept.Shape.TheVariants as shape
+use Rattle.sector_image.specs.declared.kept.Survey.{Survey}
 use Rattle.sector_image.specs.declared.kept.SurveyError.{SurveyError}
 use Rattle.sector_image.specs.declared.kept.SurveyError.TheVariants as errors
 use Rattle.sector_image.specs.Images.{Bytes, both_bytes}
 use Rattle.sector_image.specs.Room.{chunk_at, left_to_copy, finishing, chunk_to_finish, is_completable, has_room}
-use Rattle.sector_image.specs.Stands.{home_mark, beside, only_in_use, IsBoth}
+use Rattle.sector_image.specs.Stands.{home_mark, beside, only_in_use, IsBoth, Stands}
 use Rattle.guard_row.specs.Home.{first_of, second_of}
 use Rattle.sector_image.specs.FirstBad.{Place, place_of, At, AreHeads, FirstBad, HomeHead, OtherHead, HomeLog, OtherLog, NoRoom, OnlyHead, OnlyLog}
 use Rattle.sector_image.specs.Fits.{IsKept, OneLogWords, TwoLogWords, mark_of, parity_of, torn_chunk}
-use Rattle.sector_image.specs.Refusals.{OnForeign}
+use Rattle.sector_image.specs.Refusals.{OnForeign, OnSurveyFault}
+use Rattle.sector_image.specs.Steps.Calls.{ReadsOrRefuses, FindsImage}
+use Rattle.sector_image.specs.Steps.Errors.{error_of_guard}
 use Rattle.sector_image.specs.Surveys.{AreLogs}
 use Rattle.sector_image.proofs.LawsBelow.{sector_reading}
 use Rattle.sector_image.proofs.Values.{zeros_of}
@@ -138,17 +153,67 @@ lines_slice line bytes starts =
     ap (λ (n : ℕ). take n (drop (8 * line) bytes)) size ∙ ap (λ (n : ℕ). take 64 (drop n bytes)) from
 
 -- a refusal that says more
-pub on_foreign : (e : SurveyError) (P Q : Place → Type 0) → ((place : Place) → P place → Q place) → OnForeign e P → OnForeign e Q
+on_foreign : (e : SurveyError) (P Q : Place → Type 0) → ((place : Place) → P place → Q place) → OnForeign e P → OnForeign e Q
 on_foreign (errors.Fault kind) P Q more is = tt
 on_foreign (errors.Foreign region offset word) P Q more is = more (place_of region offset word) is
 
-pub err_from : {T : Type 0} (r : Result T SurveyError) (e : SurveyError) (P : Place → Type 0) → IsErrAnd r (λ f. f ≡ e) → OnForeign e P → IfErr r (λ f. OnForeign f P)
-err_from (Ok x) e P same is = tt
-err_from (Err f) e P same is = subst (λ (d : SurveyError). OnForeign d P) (sym same) is
+on_fault : (e : SurveyError) (P Q : Fault → Type 0) → ((kind : Fault) → P kind → Q kind) → OnSurveyFault e P → OnSurveyFault e Q
+on_fault (errors.Fault kind) P Q more is = more kind is
+on_fault (errors.Foreign region offset word) P Q more is = tt
 
 pub foreign_through : {T : Type 0} (r : Result T SurveyError) (P Q : Place → Type 0) → ((place : Place) → P place → Q place) → IfErr r (λ e. OnForeign e P) → IfErr r (λ e. OnForeign e Q)
 foreign_through (Ok x) P Q more is = tt
 foreign_through (Err e) P Q more is = on_foreign e P Q more is
+
+fault_through : {T : Type 0} (r : Result T SurveyError) (P Q : Fault → Type 0) → ((kind : Fault) → P kind → Q kind) → IfErr r (λ e. OnSurveyFault e P) → IfErr r (λ e. OnSurveyFault e Q)
+fault_through (Ok x) P Q more is = tt
+fault_through (Err e) P Q more is = on_fault e P Q more is
+
+-- a refusal of the guard row
+pub on_row : (e : GuardError) (P : ℕ → ℕ → Type 0) (Q : Place → Type 0) → ((place word : ℕ) → P place word → Q (place_of Guard place word)) → OnWord e P → OnForeign (error_of_guard e) Q
+on_row (guard_errors.Fault kind) P Q more is = tt
+on_row (guard_errors.Word offset word) P Q more is = more offset word is
+
+pub on_row_fault : (e : GuardError) (P : Fault → Type 0) → OnFault e P → OnSurveyFault (error_of_guard e) P
+on_row_fault (guard_errors.Fault kind) P is = is
+on_row_fault (guard_errors.Word offset word) P is = tt
+
+-- a count that rose since a later moment rose since an earlier one
+rose_before : (before mid now : ℕ) → before ≤ mid → Rose mid now → Rose before now
+rose_before before mid now later rose = omega (arith, later, rose)
+
+-- A refusal is handed on, maybe after another call that reads.
+module _ {B : Type 0} (g : Ghosts B) (reads : (b : B) (o : Outcome) → g.now b o → g.tells b × (o.words ≡ g.words b)) where
+  pub refuses_after : {T : Type 0} {a b c : B} {P Q : Place → Type 0} (r : Result T SurveyError) → OnlyReads g a b → ((place : Place) → g.tells c → P place → Q place) → ReadsOrRefuses g P b r c → ReadsOrRefuses g Q a r c
+  refuses_after {a = a} {b = b} {c = c} {P = P} {Q = Q} r first more second = record {
+    reads = reads_then g reads first second.reads;
+    foreign = foreign_through r (λ place. g.tells c → P place) (λ place. g.tells c → Q place) (λ place bad told. more place told (bad told)) second.foreign;
+    fault = fault_through r (λ kind. (kind ≡ Read) × Rose (g.faults b Read) (g.faults c Read)) (λ kind. (kind ≡ Read) × Rose (g.faults a Read) (g.faults c Read))
+        (λ kind is. (is.0, rose_before (g.faults a Read) (g.faults b Read) (g.faults c Read) (first.counts Read) is.1)) second.fault;
+  }
+
+  pub refuses_still : {T U : Type 0} {a b : B} {P Q : Place → Type 0} (r : Result U SurveyError) (e : SurveyError) → IsErrAnd r (λ f. f ≡ e) → ((place : Place) → g.tells b → P place → Q place) → ReadsOrRefuses {T = T} g P a (Err e) b → ReadsOrRefuses g Q a r b
+  refuses_still {b = b} {P = P} {Q = Q} (Ok x) e is more call = absurd (is)
+  refuses_still {b = b} {P = P} {Q = Q} (Err f) e is more call = record {
+    reads = call.reads;
+    foreign = subst (λ (d : SurveyError). OnForeign d (λ place. g.tells b → Q place)) (sym is) (on_foreign e (λ place. g.tells b → P place) (λ place. g.tells b → Q place) (λ place bad told. more place told (bad told)) call.foreign);
+    fault = rw is call.fault;
+  }
+
+  pub refuses_then : {T U : Type 0} {a b c : B} {P Q : Place → Type 0} (r : Result U SurveyError) (e : SurveyError) → IsErrAnd r (λ f. f ≡ e) → OnlyReads g a b → ((place : Place) → g.tells c → P place → Q place) → ReadsOrRefuses {T = T} g P b (Err e) c
+      → ReadsOrRefuses g Q a r c
+  refuses_then {P = P} r e is first more call = refuses_after {P = P} r first more (refuses_still {P = P} r e is (λ place told bad. bad) call)
+
+  -- the words are read again, and are the same
+  pub surveys_after : {T : Type 0} {a b c : B} (r : Result T SurveyError) → OnlyReads g a b → ReadsOrRefuses g (FirstBad (g.words b)) b r c → ReadsOrRefuses g (FirstBad (g.words a)) a r c
+  surveys_after r first second =
+      refuses_after {P = FirstBad (g.words _)} r first (λ place told bad. subst (λ (w : Words). FirstBad w place) (first.changes.content (second.reads.changes.told told)) bad) second
+
+  pub finds_after : {a b c : B} {whole upper : List ℕ} (r : Result Survey SurveyError) → OnlyReads g a b → OnlyReads g b c → FindsImage g b r c whole upper → FindsImage g a r c whole upper
+  finds_after {whole = whole} r first second found = record {
+    fits = found.fits;
+    stands = on_ok_weaker r (λ stands told. subst (λ (w : Words). Stands w whole) (first.changes.content (second.changes.told told)) (stands told)) found.stands;
+  }
 
 -- where the checks fail
 pub bad_home_head : (w : Words) (count : ℕ) (r : Region) (p : Place) → r ≡ first_of count → IsGuardRow w.guard count → count % 2 ≡ 0 → At r (BadHead home_mark (halfwords_in w r)) p → FirstBad w p

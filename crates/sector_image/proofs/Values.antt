@@ -5,6 +5,7 @@ use Rattle.std.proofs.lemmas.List.{length-replicate}
 use Rattle.std.proofs.lemmas.List.Elements.{All-replicate}
 use Rattle.std.proofs.lemmas.List.Sums.{fold_push}
 use Rattle.std.proofs.lemmas.List.FromFn.{length-map-range_with_len, get_or-map-range_with_len}
+use Rattle.sector_log.specs.Storage.{storage_bytes}
 use Rattle.sector_log.specs.Entries.{Entry, IsEntry}
 use Rattle.sector_log.specs.Bytes.{apply, applied, byte_of, IsValue, value_up_to, value_of}
 use Rattle.flash_traits.specs.Values.{put}
@@ -20,7 +21,7 @@ unfolding value_up_to
 byte_value n es k lt = get_or-map-range_with_len (byte_of es 0) 0 n k k 0 lt (omega arith)
 
 pub is_value : (es : List Entry) → IsValue es (value_of es)
-is_value es = record { size = length_value 15360 es; each = λ k lt. byte_value 15360 es k lt }
+is_value es = record { size = length_value storage_bytes es; each = λ k lt. byte_value storage_bytes es k lt }
 
 pub value_is : (es : List Entry) (bytes : List ℕ) → IsValue es bytes → value_of es ≡ bytes
 value_is es bytes is = one_value es (value_of es) bytes (is_value es) is
@@ -32,7 +33,7 @@ zeros_of n = (replicate n 0, length-replicate {A = ℕ} n 0, All-replicate (λ (
 -- one more entry is applied last
 pub value_push : (es : List Entry) (e : Entry) (bytes : List ℕ) → All IsEntry es → All IsEntry (es ++ e ∷ []) → IsValue es bytes → IsValue (es ++ e ∷ []) (apply bytes e)
 value_push es e bytes each all is =
-    let zeros = zeros_of 15360 in
+    let zeros = zeros_of storage_bytes in
     let was : applied zeros.0 es ≡ bytes = one_value es (applied zeros.0 es) bytes (value_applied es zeros.0 each zeros.1 zeros.2) is in
     let step : applied zeros.0 (es ++ e ∷ []) ≡ apply bytes e = fold_push apply zeros.0 es e ∙ ap (λ (l : List ℕ). apply l e) was in
     subst (λ (l : List ℕ). IsValue (es ++ e ∷ []) l) step (value_applied (es ++ e ∷ []) zeros.0 all zeros.1 zeros.2)

@@ -8,3 +8,4 @@ pub mod Fits
 pub mod Surveys
 pub mod Refusals
 pub mod Laws
+pub mod Steps

@@ -1,6 +1,8 @@
 //! What a state keeps of an image, and what a survey answers.
+ghost use Rattle.std.specs.Prelude.{◌≡◌};
 
 use flash_traits::{Fault, Region};
+use guard_row::GuardError;
 use sector_log::Log;
 
 /// The four states in which an image may be found.
@@ -49,4 +51,32 @@ pub enum SurveyError {
         offset: u32,
         word: u16,
     },
+}
+
+impl From<Fault> for SurveyError {
+    ghost use Rattle.sector_image.specs.declared.kept.SurveyError.TheVariants as errors;
+
+    ghost from_gives = { λ fault e. e ≡ errors.Fault fault };
+
+    fn from(fault: Fault) -> SurveyError {
+        SurveyError::Fault(fault)
+    }
+}
+
+/// A word that isn't of the guard row's grammar is foreign there.
+impl From<GuardError> for SurveyError {
+    ghost use Rattle.sector_image.specs.Steps.Errors.{error_of_guard};
+
+    ghost from_gives = { λ refusal e. e ≡ error_of_guard refusal };
+
+    fn from(refusal: GuardError) -> SurveyError {
+        match refusal {
+            GuardError::Fault(kind) => SurveyError::Fault(kind),
+            GuardError::Word { offset, word } => SurveyError::Foreign {
+                region: Region::Guard,
+                offset,
+                word,
+            },
+        }
+    }
 }

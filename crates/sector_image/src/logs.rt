@@ -14,13 +14,28 @@ ghost use Rattle.sector_log.specs.Log.{IsLogOf};
 ghost use Rattle.sector_log.specs.Appends.{IsLogIn};
 ghost use Rattle.flash_traits.specs.Calls.{OnlyReads};
 ghost use Rattle.sector_image.specs.Room.{finishing};
-ghost use Rattle.sector_image.specs.FirstBad.{Place, At};
-ghost use Rattle.sector_image.specs.Refusals.{OnForeign, OnSurveyFault};
+ghost use Rattle.sector_image.specs.FirstBad.{At};
+ghost use Rattle.sector_image.specs.Steps.Errors.{error_of_log};
+ghost use Rattle.sector_image.specs.Steps.Calls.{ReadsOrRefuses};
 
 use crate::SurveyError;
 use crate::images::clear;
-use flash_traits::{Board, LogError, Mark, Region};
+use flash_traits::{Board, Fault, LogError, Mark, Region};
 use sector_log::{Log, Marks, read_head, scan, torn_fits};
+
+/// Why there is no survey where this sector's head or log can't be read.
+fn survey_error(region: Region, error: LogError) -> SurveyError
+    ensures { result ≡ error_of_log region error }
+{
+    match error {
+        LogError::Fault(kind) => SurveyError::Fault(kind),
+        LogError::Word { offset, word } => SurveyError::Foreign {
+            region,
+            offset,
+            word,
+        },
+    }
+}
 
 /// The mark at the head of a sector.
 pub(crate) fn head_at<B: Board>(
@@ -33,21 +48,11 @@ pub(crate) fn head_at<B: Board>(
     ensures may { IfOk result (λ mark. IsTrue (may_stand marks mark)) }
     ensures head { IfOk result (λ mark. B.tells board.new →
         HasHead (halfwords_in (B.words board.old) region) mark) }
-    ensures foreign { IfErr result (λ e. OnForeign e (λ place. B.tells board.new →
-        At region (BadHead (may_stand marks) (halfwords_in (B.words board.old) region)) place)) }
-    ensures fault { IfErr result (λ e. OnSurveyFault e (λ kind. (kind ≡ Read)
-        × Rose (B.faults board.old Read) (B.faults board.new Read))) }
-    ensures reads { OnlyReads B.Board board.old board.new }
+    ensures calls { ReadsOrRefuses B.Board
+        (At region (BadHead (may_stand marks) (halfwords_in (B.words board.old) region)))
+        board.old result board.new }
 {
-    match read_head(board, region, marks) {
-        Ok(mark) => Ok(mark),
-        Err(LogError::Fault(kind)) => Err(SurveyError::Fault(kind)),
-        Err(LogError::Word { offset, word }) => Err(SurveyError::Foreign {
-            region,
-            offset,
-            word,
-        }),
-    }
+    read_head(board, region, marks).map_err(|error| survey_error(region, error))
 }
 
 /// The log behind a head with this mark, whose valid entries are put at their lines in order.
@@ -66,22 +71,12 @@ pub(crate) fn log_at<B: Board>(
     ensures log { IfOk result (λ log. B.tells board.new → (entries : List Entry)
         × IsSector (halfwords_in (B.words board.old) region) mark entries
         × IsLogOf log region mark entries × (into.new ≡ applied into.old entries)) }
-    ensures foreign { IfErr result (λ e. OnForeign e
-        (λ place. B.tells board.new → At region
-        (BadLog (halfwords_in (B.words board.old) region)) place)) }
-    ensures fault { IfErr result (λ e. OnSurveyFault e
-        (λ kind. (kind ≡ Read) × Rose (B.faults board.old Read) (B.faults board.new Read))) }
-    ensures reads { OnlyReads B.Board board.old board.new }
+    ensures calls { ReadsOrRefuses B.Board
+        (At region (BadLog (halfwords_in (B.words board.old) region)))
+        board.old result board.new }
 {
-    match scan(board, region, into) {
-        Ok(log) => Ok(Log { mark, ..log }),
-        Err(LogError::Fault(kind)) => Err(SurveyError::Fault(kind)),
-        Err(LogError::Word { offset, word }) => Err(SurveyError::Foreign {
-            region,
-            offset,
-            word,
-        }),
-    }
+    let log = scan(board, region, into).map_err(|error| survey_error(region, error))?;
+    Ok(Log { mark, ..log })
 }
 
 /// The log behind a head with this mark, and the bytes of its entries alone.
@@ -100,23 +95,16 @@ pub(crate) fn bytes_at<B: Board>(
     ensures log { IfOk result (λ log. B.tells board.new → (entries : List Entry)
         × IsSector (halfwords_in (B.words board.old) region) mark entries
         × IsLogOf log region mark entries × IsValue entries into.new) }
-    ensures foreign { IfErr result (λ e. OnForeign e
-        (λ place. B.tells board.new → At region
-        (BadLog (halfwords_in (B.words board.old) region)) place)) }
-    ensures fault { IfErr result (λ e. OnSurveyFault e
-        (λ kind. (kind ≡ Read) × Rose (B.faults board.old Read) (B.faults board.new Read))) }
-    ensures reads { OnlyReads B.Board board.old board.new }
+    ensures calls { ReadsOrRefuses B.Board
+        (At region (BadLog (halfwords_in (B.words board.old) region)))
+        board.old result board.new }
 {
     clear(into);
     log_at(board, region, mark, into)
 }
 
 /// Whether the torn last entry of a log can be completed into the copy of a chunk.
-pub(crate) fn is_completable<B: Board>(
-    board: &mut B,
-    log: Log,
-    whole: &[u8],
-) -> Result<bool, SurveyError>
+pub(crate) fn is_completable<B: Board>(board: &mut B, log: Log, whole: &[u8]) -> Result<bool, Fault>
     requires attached { IsSectorSize (B.sector_bytes board.old) }
     requires log { IsLogIn (B.sector_bytes board.old / 2) log }
     requires whole { length whole.now ≡ storage_bytes }
@@ -126,9 +114,8 @@ pub(crate) fn is_completable<B: Board>(
         (mark : Mark) (entries : List Entry) → IsLogOf log log.region mark entries
         → IsSector (halfwords_in (B.words board.old) log.region) mark entries →
         completable ≡ is_some (finishing whole.now entries)) }
-    ensures not_foreign { IfErr result (λ e. OnForeign e (λ place. ⊥)) }
-    ensures fault { IfErr result (λ e. OnSurveyFault e
-        (λ kind. (kind ≡ Read) × Rose (B.faults board.old Read) (B.faults board.new Read))) }
+    ensures fault { IfErr result
+        (λ kind. (kind ≡ Read) × Rose (B.faults board.old Read) (B.faults board.new Read)) }
     ensures reads { OnlyReads B.Board board.old board.new }
 {
     let Some(torn) = log.torn else {
@@ -138,8 +125,5 @@ pub(crate) fn is_completable<B: Board>(
         return Ok(false);
     }
     let at = 8 * torn.line as usize;
-    match torn_fits(board, log, &whole[at..at + 64]) {
-        Ok(fits) => Ok(fits),
-        Err(kind) => Err(SurveyError::Fault(kind)),
-    }
+    torn_fits(board, log, &whole[at..at + 64])
 }

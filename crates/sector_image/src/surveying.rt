@@ -3,14 +3,12 @@
 ghost use Rattle.std.specs.Prelude.{◌≡◌, ◌%◌, ◌/◌, ◌≤◌, IsTrue, length, IfOk, OnOk, IfErr};
 ghost use Rattle.flash_traits.specs.declared.board.Fault.TheVariants.{Read};
 ghost use Rattle.flash_traits.specs.declared.board.Mark.TheVariants.{Available, InUse, Full};
-ghost use Rattle.flash_traits.specs.declared.numbers.TheConstants.{GUARD_HALFWORDS};
 ghost use Rattle.flash_traits.specs.Words.{IsSectorSize};
 ghost use Rattle.flash_traits.specs.Causes.{Rose};
 ghost use Rattle.guard_row.specs.Row.{IsGuardRow};
 ghost use Rattle.sector_log.specs.Storage.{storage_bytes};
 ghost use Rattle.sector_log.specs.Appends.{IsLogIn};
 ghost use Rattle.flash_traits.specs.Calls.{OnlyReads};
-ghost use Rattle.sector_image.specs.Images.{both_bytes};
 ghost use Rattle.guard_row.specs.Home.{first_of, second_of};
 ghost use Rattle.sector_image.specs.Stands as stands;
 ghost use Rattle.sector_image.specs.Stands.{home_mark, beside, Stands};
@@ -18,13 +16,14 @@ ghost use Rattle.sector_image.specs.FirstBad.{Place, FirstBad, AreHeads};
 ghost use Rattle.sector_image.specs.Fits.{FitsShape, mark_of, other_mark_of, parity_of};
 ghost use Rattle.sector_image.specs.Surveys.{AreLogs};
 ghost use Rattle.sector_image.specs.Refusals.{OnForeign, OnSurveyFault};
+ghost use Rattle.sector_image.specs.Steps.Calls.{CanSurvey, ReadsOrRefuses, FindsImage};
 
 use crate::chunks::torn_chunk;
 use crate::coverage::Coverage;
 use crate::logs::{bytes_at, head_at, is_completable, log_at};
 use crate::{Images, Kept, Shape, Survey, SurveyError};
-use flash_traits::{Board, Mark, Region};
-use guard_row::{GuardError, count, first_sector, second_sector};
+use flash_traits::{Board, Mark};
+use guard_row::{count, first_sector, second_sector};
 use sector_log::{Log, Marks};
 
 /// Reads the image: its state, and its bytes into `images`. Nothing is programmed.
@@ -41,33 +40,10 @@ pub fn survey<B: Board>(board: &mut B, images: &mut Images) -> Result<Survey, Su
         (λ kind. (kind ≡ Read) × Rose (B.faults board.old Read) (B.faults board.new Read))) }
     ensures reads { OnlyReads B.Board board.old board.new }
 {
-    let guard = guard_count(board)?;
+    let guard = count(board)?;
     let survey = survey_sectors(board, guard, &mut images.whole, &mut images.upper);
     images.coverage = Coverage::of(&images.whole, &images.upper);
     survey
-}
-
-/// The guard count.
-fn guard_count<B: Board>(board: &mut B) -> Result<u16, SurveyError>
-    requires attached { IsSectorSize (B.sector_bytes board.old) }
-    ensures most { IfOk result (λ guard. guard ≤ GUARD_HALFWORDS) }
-    ensures count { IfOk result (λ guard. B.tells board.new →
-        IsGuardRow (B.words board.old).guard guard) }
-    ensures foreign { IfErr result (λ e. OnForeign e
-        (λ place. B.tells board.new → FirstBad (B.words board.old) place)) }
-    ensures fault { IfErr result (λ e. OnSurveyFault e
-        (λ kind. (kind ≡ Read) × Rose (B.faults board.old Read) (B.faults board.new Read))) }
-    ensures reads { OnlyReads B.Board board.old board.new }
-{
-    match count(board) {
-        Ok(guard) => Ok(guard),
-        Err(GuardError::Fault(kind)) => Err(SurveyError::Fault(kind)),
-        Err(GuardError::Word { offset, word }) => Err(SurveyError::Foreign {
-            region: Region::Guard,
-            offset,
-            word,
-        }),
-    }
 }
 
 /// The image by this guard count.
@@ -77,19 +53,11 @@ fn survey_sectors<B: Board>(
     whole: &mut [u8],
     upper: &mut [u8],
 ) -> Result<Survey, SurveyError>
-    requires attached { IsSectorSize (B.sector_bytes board.old) }
-    requires most { guard ≤ GUARD_HALFWORDS }
+    requires given { CanSurvey (B.sector_bytes board.old) guard whole.old upper.old }
     requires row { B.tells board.old → IsGuardRow (B.words board.old).guard guard }
-    requires whole { length whole.old ≡ storage_bytes }
-    requires upper { length upper.old ≡ storage_bytes }
-    ensures fits { IfOk result (λ survey. FitsShape survey.shape B.Board board.new survey.kept
-        (both_bytes whole.new upper.new)) }
-    ensures stands { OnOk result (B.tells board.new → Stands (B.words board.old) whole.new) }
-    ensures foreign { IfErr result (λ e. OnForeign e
-        (λ place. B.tells board.new → FirstBad (B.words board.old) place)) }
-    ensures fault { IfErr result (λ e. OnSurveyFault e
-        (λ kind. (kind ≡ Read) × Rose (B.faults board.old Read) (B.faults board.new Read))) }
-    ensures reads { OnlyReads B.Board board.old board.new }
+    ensures finds { FindsImage B.Board board.old result board.new whole.new upper.new }
+    ensures calls { ReadsOrRefuses B.Board (FirstBad (B.words board.old))
+        board.old result board.new }
 {
     if guard % 2 == 1 {
         return survey_voided(board, guard, whole, upper);
@@ -109,20 +77,12 @@ fn survey_voided<B: Board>(
     whole: &mut [u8],
     upper: &mut [u8],
 ) -> Result<Survey, SurveyError>
-    requires attached { IsSectorSize (B.sector_bytes board.old) }
-    requires most { guard ≤ GUARD_HALFWORDS }
+    requires given { CanSurvey (B.sector_bytes board.old) guard whole.old upper.old }
     requires odd { guard % 2 ≡ 1 }
     requires row { B.tells board.old → IsGuardRow (B.words board.old).guard guard }
-    requires whole { length whole.old ≡ storage_bytes }
-    requires upper { length upper.old ≡ storage_bytes }
-    ensures fits { IfOk result (λ survey. FitsShape survey.shape B.Board board.new survey.kept
-        (both_bytes whole.new upper.new)) }
-    ensures stands { OnOk result (B.tells board.new → Stands (B.words board.old) whole.new) }
-    ensures foreign { IfErr result (λ e. OnForeign e
-        (λ place. B.tells board.new → FirstBad (B.words board.old) place)) }
-    ensures fault { IfErr result (λ e. OnSurveyFault e
-        (λ kind. (kind ≡ Read) × Rose (B.faults board.old Read) (B.faults board.new Read))) }
-    ensures reads { OnlyReads B.Board board.old board.new }
+    ensures finds { FindsImage B.Board board.old result board.new whole.new upper.new }
+    ensures calls { ReadsOrRefuses B.Board (FirstBad (B.words board.old))
+        board.old result board.new }
 {
     let region = first_sector(guard);
     let marks = Marks {
@@ -191,11 +151,8 @@ fn heads_of<B: Board>(board: &mut B, guard: u16) -> Result<Shape, SurveyError>
     ensures even { IfOk result (λ shape. parity_of shape ≡ 0) }
     ensures heads { IfOk result (λ shape. B.tells board.new →
         AreHeads (B.words board.old) guard (mark_of shape) (other_mark_of shape)) }
-    ensures foreign { IfErr result (λ e. OnForeign e
-        (λ place. B.tells board.new → FirstBad (B.words board.old) place)) }
-    ensures fault { IfErr result (λ e. OnSurveyFault e
-        (λ kind. (kind ≡ Read) × Rose (B.faults board.old Read) (B.faults board.new Read))) }
-    ensures reads { OnlyReads B.Board board.old board.new }
+    ensures calls { ReadsOrRefuses B.Board (FirstBad (B.words board.old))
+        board.old result board.new }
 {
     let marks = Marks {
         available: false,
@@ -233,11 +190,8 @@ fn logs_of<B: Board>(
         × (logs.other.region ≡ second_of guard) × (logs.other.mark ≡ second)) }
     ensures logs { IfOk result (λ logs. B.tells board.new →
         AreLogs (B.words board.old) guard first second logs.home logs.other whole.new upper.new) }
-    ensures foreign { IfErr result (λ e. OnForeign e
-        (λ place. B.tells board.new → FirstBad (B.words board.old) place)) }
-    ensures fault { IfErr result (λ e. OnSurveyFault e
-        (λ kind. (kind ≡ Read) × Rose (B.faults board.old Read) (B.faults board.new Read))) }
-    ensures reads { OnlyReads B.Board board.old board.new }
+    ensures calls { ReadsOrRefuses B.Board (FirstBad (B.words board.old))
+        board.old result board.new }
 {
     let home = bytes_at(board, first_sector(guard), first, whole)?;
     let other = bytes_at(board, second_sector(guard), second, upper)?;
@@ -251,20 +205,12 @@ fn survey_alone<B: Board>(
     whole: &mut [u8],
     upper: &mut [u8],
 ) -> Result<Survey, SurveyError>
-    requires attached { IsSectorSize (B.sector_bytes board.old) }
-    requires most { guard ≤ GUARD_HALFWORDS }
+    requires given { CanSurvey (B.sector_bytes board.old) guard whole.old upper.old }
     requires even { guard % 2 ≡ 0 }
     requires heads { B.tells board.old → AreHeads (B.words board.old) guard InUse Available }
-    requires whole { length whole.old ≡ storage_bytes }
-    requires upper { length upper.old ≡ storage_bytes }
-    ensures fits { IfOk result (λ survey. FitsShape survey.shape B.Board board.new survey.kept
-        (both_bytes whole.new upper.new)) }
-    ensures stands { OnOk result (B.tells board.new → Stands (B.words board.old) whole.new) }
-    ensures foreign { IfErr result (λ e. OnForeign e
-        (λ place. B.tells board.new → FirstBad (B.words board.old) place)) }
-    ensures fault { IfErr result (λ e. OnSurveyFault e
-        (λ kind. (kind ≡ Read) × Rose (B.faults board.old Read) (B.faults board.new Read))) }
-    ensures reads { OnlyReads B.Board board.old board.new }
+    ensures finds { FindsImage B.Board board.old result board.new whole.new upper.new }
+    ensures calls { ReadsOrRefuses B.Board (FirstBad (B.words board.old))
+        board.old result board.new }
 {
     let logs = logs_of(board, guard, Mark::InUse, Mark::Available, whole, upper)?;
     upper.copy_from_slice(whole);
@@ -287,20 +233,12 @@ fn survey_marked<B: Board>(
     whole: &mut [u8],
     upper: &mut [u8],
 ) -> Result<Survey, SurveyError>
-    requires attached { IsSectorSize (B.sector_bytes board.old) }
-    requires most { guard ≤ GUARD_HALFWORDS }
+    requires given { CanSurvey (B.sector_bytes board.old) guard whole.old upper.old }
     requires even { guard % 2 ≡ 0 }
     requires heads { B.tells board.old → AreHeads (B.words board.old) guard Full Available }
-    requires whole { length whole.old ≡ storage_bytes }
-    requires upper { length upper.old ≡ storage_bytes }
-    ensures fits { IfOk result (λ survey. FitsShape survey.shape B.Board board.new survey.kept
-        (both_bytes whole.new upper.new)) }
-    ensures stands { OnOk result (B.tells board.new → Stands (B.words board.old) whole.new) }
-    ensures foreign { IfErr result (λ e. OnForeign e
-        (λ place. B.tells board.new → FirstBad (B.words board.old) place)) }
-    ensures fault { IfErr result (λ e. OnSurveyFault e
-        (λ kind. (kind ≡ Read) × Rose (B.faults board.old Read) (B.faults board.new Read))) }
-    ensures reads { OnlyReads B.Board board.old board.new }
+    ensures finds { FindsImage B.Board board.old result board.new whole.new upper.new }
+    ensures calls { ReadsOrRefuses B.Board (FirstBad (B.words board.old))
+        board.old result board.new }
 {
     let logs = logs_of(board, guard, Mark::Full, Mark::Available, whole, upper)?;
     Ok(Survey {
@@ -322,20 +260,12 @@ fn survey_spilled<B: Board>(
     whole: &mut [u8],
     upper: &mut [u8],
 ) -> Result<Survey, SurveyError>
-    requires attached { IsSectorSize (B.sector_bytes board.old) }
-    requires most { guard ≤ GUARD_HALFWORDS }
+    requires given { CanSurvey (B.sector_bytes board.old) guard whole.old upper.old }
     requires even { guard % 2 ≡ 0 }
     requires heads { B.tells board.old → AreHeads (B.words board.old) guard Full InUse }
-    requires whole { length whole.old ≡ storage_bytes }
-    requires upper { length upper.old ≡ storage_bytes }
-    ensures fits { IfOk result (λ survey. FitsShape survey.shape B.Board board.new survey.kept
-        (both_bytes whole.new upper.new)) }
-    ensures stands { OnOk result (B.tells board.new → Stands (B.words board.old) whole.new) }
-    ensures foreign { IfErr result (λ e. OnForeign e
-        (λ place. B.tells board.new → FirstBad (B.words board.old) place)) }
-    ensures fault { IfErr result (λ e. OnSurveyFault e
-        (λ kind. (kind ≡ Read) × Rose (B.faults board.old Read) (B.faults board.new Read))) }
-    ensures reads { OnlyReads B.Board board.old board.new }
+    ensures finds { FindsImage B.Board board.old result board.new whole.new upper.new }
+    ensures calls { ReadsOrRefuses B.Board (FirstBad (B.words board.old))
+        board.old result board.new }
 {
     let logs = logs_of(board, guard, Mark::Full, Mark::InUse, whole, upper)?;
     let region = second_sector(guard);

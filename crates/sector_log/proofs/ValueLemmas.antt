@@ -1,17 +1,15 @@
 -- Entries applied one after the other give each line what the last valid entry that covers it gives it.
-use Rattle.std.proofs.Common.{◌≡◌, ◌≢◌, inl, inr, ℕ, zero, suc, ◌+◌, ◌-◌, ◌*◌, ◌/◌, ◌%◌, ◌<◌, ◌≤◌, Bool, true, false, Option, Some, None, List, [], ◌∷◌, ◌++◌, length, get_or, take, drop, refl, sym, ◌∙◌, ap, subst, arith, eq-eqb, append_assoc}
-use Rattle.std.specs.Prelude.{All, if◌then◌else◌, ◌==◌, slice_index}
-use Rattle.std.specs.Option.{option_or, option_map_or}
+use Rattle.std.proofs.Common.{◌≡◌, ◌≢◌, inl, inr, ℕ, zero, suc, ◌+◌, ◌*◌, ◌≤◌, Bool, true, false, List, [], ◌∷◌, length, get_or, refl, sym, ◌∙◌, ap, subst, arith, eq-eqb}
+use Rattle.std.specs.Prelude.{All, if◌then◌else◌, ◌==◌}
 use Rattle.std.specs.List.{fold}
-use Rattle.std.proofs.lemmas.List.{length-append, length-take-le, length-drop, get_or_append_left, get_or-append_right, get_or-take, get_or-drop, ext_get_or, take-append-drop, take_at, drop_at, drop-drop}
 use Rattle.std.proofs.lemmas.List.Sums.{fold-append}
 use Rattle.std.proofs.lemmas.List.Elements.{All-head, All-tail, All-get_or, All-nil, All-cons, All-append}
-use Rattle.std.proofs.lemmas.Bool.{cases_lt, cases_eq}
+use Rattle.std.proofs.lemmas.Bool.{cases_eq}
 use Rattle.std.proofs.lemmas.Bool.Decides.{nat_tests}
 use Rattle.sector_log.specs.Storage.{storage_bytes}
 use Rattle.sector_log.specs.Entries.{Entry, IsEntry}
 use Rattle.sector_log.specs.Bytes.{apply, applied, lines_from, lines_in, lines_of, byte_of, IsValue}
-use Rattle.flash_traits.specs.Values.{put, Line, last_written, byte_written}
+use Rattle.flash_traits.specs.Values.{put}
 use Rattle.flash_traits.specs.Words.{bytes_of}
 use Rattle.flash_traits.proofs.ValueLemmas.{length_bytes, length_put, put_none, put_both, put_line, IsLine, lines_byte, one_value_up_to}
 

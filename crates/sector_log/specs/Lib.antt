@@ -10,3 +10,4 @@ pub mod Fills
 pub mod Errors
 pub mod Heads
 pub mod Laws
+pub mod Steps

@@ -2,6 +2,7 @@
 use Rattle.std.specs.Prelude.{◌≡◌, All, ◌≢◌, ◌<◌, slice_index, ℕ, ◌+◌, List, ◌++◌, length, drop, if◌then◌else◌, ◌==◌}
 use Rattle.flash_traits.specs.declared.board.Region.{Region}
 use Rattle.flash_traits.specs.declared.board.Mark.{Mark}
+use Rattle.flash_traits.specs.Words.{FirstOther}
 use Rattle.sector_log.specs.declared.log.Log.{Log}
 use Rattle.sector_log.specs.Entries.{Entry, IsEntry, entry_words, spelling, NoEntry}
 use Rattle.sector_log.specs.Bytes.{apply, applied}
@@ -36,3 +37,14 @@ pub record Walked (words : List ℕ) (of : Region) (first : Mark) (log : Log) (b
   pub each : All IsEntry entries
   pub tells : IsLogOf log of first entries
   pub bytes : after ≡ applied before entries
+
+-- The walk came to a log's end behind these entries, and no further one begins at that place.
+abbrev pub WalkedTo : List ℕ → Region → Mark → List ℕ → List ℕ → ℕ → ℕ → Type 0
+WalkedTo words of first before after place word =
+    (log : Log) × BadHere words log.end place word
+    × (entries : List Entry) × Walked words of first log before after entries
+
+-- from this offset on, the first halfword that isn't FFFF
+abbrev pub IsFirstOther : List ℕ → ℕ → ℕ → ℕ → Type 0
+IsFirstOther words from place word =
+    (n : ℕ) × (place ≡ from + n) × FirstOther (drop from words) n word

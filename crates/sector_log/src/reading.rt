@@ -1,6 +1,6 @@
 // The scan that reads a sector's log.
 ghost use Rattle.std.specs.Prelude.{◌≡◌, ◌∷◌, ◌^◌, ◌+◌, ◌*◌, ◌/◌, ◌<◌, ◌≤◌, List, ℕ, length, take, drop, slice_index, All, Option, IfOk, OnOk, OnErr, IfErr, IfSome, MatchOption};
-ghost use Rattle.flash_traits.specs.Words.{halfwords_in, region_length, IsSectorRegion, IsSectorSize, FirstOther, bytes_of};
+ghost use Rattle.flash_traits.specs.Words.{halfwords_in, region_length, IsSectorRegion, IsSectorSize, bytes_of};
 ghost use Rattle.flash_traits.specs.Causes.{Rose};
 ghost use Rattle.flash_traits.specs.declared.board.Fault.TheVariants.{Read};
 ghost use Rattle.sector_log.specs.declared.log.Log.{Log};
@@ -14,11 +14,12 @@ ghost use Rattle.sector_log.specs.Bytes.{applied};
 ghost use Rattle.flash_traits.specs.Values.{put};
 ghost use Rattle.sector_log.specs.Log.{IsLogOf, IsReadSoFar, IsReadUpTo};
 ghost use Rattle.sector_log.specs.Appends.{IsLogIn};
-ghost use Rattle.sector_log.specs.Walks.{Adds, BadHere, Walked};
+ghost use Rattle.sector_log.specs.Walks.{Adds, BadHere, Walked, WalkedTo, IsFirstOther};
+ghost use Rattle.sector_log.specs.Steps.Calls.{ReadsOrFails, ReadsOrRefuses};
 
 use crate::{Header, Log, Marks, Torn, header_of, read_head};
 use byteorder::{ByteOrder, LittleEndian};
-use flash_traits::{Board, ERASED, LogError, Mark, Region, read_halfword};
+use flash_traits::{Board, ERASED, Fault, LogError, Mark, Region, read_halfword};
 
 // All marks.
 const ANY_MARK: Marks = Marks {
@@ -34,18 +35,14 @@ fn content_at<B: Board>(
     at: u32,
     count: u32,
     content: &mut [u8],
-) -> Result<(), LogError>
+) -> Result<(), Fault>
     requires attached { IsSectorSize (B.sector_bytes board.old) }
     requires within { at + count ≤ region_length (B.sector_bytes board.old) region }
     requires room { length content.old ≡ 2 * count }
     requires few { count ≤ 32 }
     ensures content { OnOk result (B.tells board.new
         → content.new ≡ bytes_of (take count (drop at (halfwords_in (B.words board.old) region)))) }
-    ensures no_word { IfErr result (λ e. OnWord e (λ offset word. ⊥)) }
-    ensures fault { IfErr result
-        (λ e. OnFault e (λ kind. (kind ≡ Read)
-        × Rose (B.faults board.old Read) (B.faults board.new Read))) }
-    ensures reads { OnlyReads B.Board board.old board.new }
+    ensures calls { ReadsOrFails B.Board board.old result board.new }
 {
     for i in 0..count {
         let word = read_halfword(board, region, at + i)?;
@@ -62,7 +59,7 @@ fn copy_content<B: Board>(
     at: u32,
     header: Header,
     into: &mut [u8],
-) -> Result<(), LogError>
+) -> Result<(), Fault>
     requires attached { IsSectorSize (B.sector_bytes board.old) }
     requires lawful { IsLawful header }
     requires within { at + 4 * header.lines ≤ region_length (B.sector_bytes board.old) region }
@@ -73,11 +70,7 @@ fn copy_content<B: Board>(
         (drop at (halfwords_in (B.words board.old) region)))) into.old) }
     ensures size { length into.new ≡ storage_bytes }
     ensures err { OnErr result (into.new ≡ into.old) }
-    ensures no_word { IfErr result (λ e. OnWord e (λ offset word. ⊥)) }
-    ensures fault { IfErr result
-        (λ e. OnFault e (λ kind. (kind ≡ Read)
-        × Rose (B.faults board.old Read) (B.faults board.new Read))) }
-    ensures reads { OnlyReads B.Board board.old board.new }
+    ensures calls { ReadsOrFails B.Board board.old result board.new }
 {
     let mut content = [0u8; 64];
     let size = 8 * header.lines as usize;
@@ -106,13 +99,9 @@ fn next_header<B: Board>(board: &mut B, len: u32, log: Log) -> Result<Option<Hea
         → MatchOption next (NoEntry (drop log.end (halfwords_in (B.words board.old) log.region)))
         (λ header. header_word header ≡ slice_index
         (halfwords_in (B.words board.old) log.region) log.end)) }
-    ensures word { IfErr result
-        (λ e. OnWord e (λ place word. B.tells board.new
-        → BadHere (halfwords_in (B.words board.old) log.region) log.end place word)) }
-    ensures fault { IfErr result
-        (λ e. OnFault e (λ kind. (kind ≡ Read)
-        × Rose (B.faults board.old Read) (B.faults board.new Read))) }
-    ensures reads { OnlyReads B.Board board.old board.new }
+    ensures calls { ReadsOrRefuses B.Board
+        (BadHere (halfwords_in (B.words board.old) log.region) log.end)
+        board.old result board.new }
 {
     if log.end == len {
         return Ok(None);
@@ -159,13 +148,9 @@ fn next_entry<B: Board>(
         × Adds (halfwords_in (B.words board.old) log.region) log new into.old into.new e)) }
     ensures size { length into.new ≡ storage_bytes }
     ensures err { OnErr result (into.new ≡ into.old) }
-    ensures word { IfErr result
-        (λ e. OnWord e (λ place word. B.tells board.new
-        → BadHere (halfwords_in (B.words board.old) log.region) log.end place word)) }
-    ensures fault { IfErr result
-        (λ e. OnFault e (λ kind. (kind ≡ Read)
-        × Rose (B.faults board.old Read) (B.faults board.new Read))) }
-    ensures reads { OnlyReads B.Board board.old board.new }
+    ensures calls { ReadsOrRefuses B.Board
+        (BadHere (halfwords_in (B.words board.old) log.region) log.end)
+        board.old result board.new }
 {
     let Some(header) = next_header(board, len, log)? else {
         return Ok(None);
@@ -218,16 +203,9 @@ fn entries_of<B: Board>(
     ensures err { OnErr result (B.tells board.new → (log : Log) × (entries : List Entry)
         × Walked (halfwords_in
         (B.words board.old) region) region mark log into.old into.new entries) }
-    ensures word { IfErr result
-        (λ e. OnWord e (λ place word. B.tells board.new → (log : Log)
-        × BadHere (halfwords_in (B.words board.old) region) log.end place word
-        × (entries : List Entry)
-        × Walked (halfwords_in
-        (B.words board.old) region) region mark log into.old into.new entries)) }
-    ensures fault { IfErr result
-        (λ e. OnFault e (λ kind. (kind ≡ Read)
-        × Rose (B.faults board.old Read) (B.faults board.new Read))) }
-    ensures reads { OnlyReads B.Board board.old board.new }
+    ensures calls { ReadsOrRefuses B.Board
+        (WalkedTo (halfwords_in (B.words board.old) region) region mark into.old into.new)
+        board.old result board.new }
 {
     let mut log = Log {
         region,
@@ -250,13 +228,9 @@ fn test_erased<B: Board>(board: &mut B, len: u32, region: Region, from: u32) -> 
     requires within { from ≤ len }
     ensures erased { OnOk result (B.tells board.new
         → All (λ word. word ≡ 65535) (drop from (halfwords_in (B.words board.old) region))) }
-    ensures word { IfErr result
-        (λ e. OnWord e (λ place word. B.tells board.new → (n : ℕ) × (place ≡ from + n)
-        × FirstOther (drop from (halfwords_in (B.words board.old) region)) n word)) }
-    ensures fault { IfErr result
-        (λ e. OnFault e (λ kind. (kind ≡ Read)
-        × Rose (B.faults board.old Read) (B.faults board.new Read))) }
-    ensures reads { OnlyReads B.Board board.old board.new }
+    ensures calls { ReadsOrRefuses B.Board
+        (IsFirstOther (halfwords_in (B.words board.old) region) from)
+        board.old result board.new }
 {
     for at in from..len {
         let word = read_halfword(board, region, at)?;
@@ -286,18 +260,13 @@ fn log_behind<B: Board>(
         × Splits (halfwords_in (B.words board.old) region) mark entries
         (drop log.end (halfwords_in (B.words board.old) region))
         × IsLogOf log region mark entries × (into.new ≡ applied into.old entries)) }
-    ensures word { IfErr result
-        (λ e. OnWord e (λ place word. B.tells board.new
-        → FirstBad (halfwords_in (B.words board.old) region) place word)) }
     ensures before { IfErr result (λ e. OnWord e (λ place word. B.tells board.new →
         IsReadUpTo (halfwords_in (B.words board.old) region) place into.old into.new)) }
     ensures read { OnErr result (B.tells board.new
         → IsReadSoFar (halfwords_in (B.words board.old) region) into.old into.new) }
     ensures size { length into.new ≡ storage_bytes }
-    ensures fault { IfErr result
-        (λ e. OnFault e (λ kind. (kind ≡ Read)
-        × Rose (B.faults board.old Read) (B.faults board.new Read))) }
-    ensures reads { OnlyReads B.Board board.old board.new }
+    ensures calls { ReadsOrRefuses B.Board
+        (FirstBad (halfwords_in (B.words board.old) region)) board.old result board.new }
 {
     match mark {
         Mark::Available => Ok(Log {

@@ -8,10 +8,11 @@ ghost use Rattle.sector_log.specs.Entries.{Entry};
 ghost use Rattle.sector_log.specs.Bytes.{programmable};
 ghost use Rattle.flash_traits.specs.Calls.{OnlyReads};
 ghost use Rattle.sector_log.specs.Appends.{IsTornLast, IsLogIn};
+ghost use Rattle.sector_log.specs.Steps.Calls.{ReadsOrFails};
 
 use crate::Log;
 use byteorder::{ByteOrder, LittleEndian};
-use flash_traits::{Board, Fault, Region};
+use flash_traits::{Board, Fault, Region, read_halfword};
 
 /// Whether the halfword at an offset can still be programmed to this one.
 fn word_fits<B: Board>(board: &mut B, region: Region, at: u32, new: u16) -> Result<bool, Fault>
@@ -20,14 +21,10 @@ fn word_fits<B: Board>(board: &mut B, region: Region, at: u32, new: u16) -> Resu
     ensures fits { IfOk result
         (λ fits. B.tells board.new
         → fits ≡ (bit_and (slice_index (halfwords_in (B.words board.old) region) at) new == new)) }
-    ensures fault { IfErr result
-        (λ kind. (kind ≡ Read) × Rose (B.faults board.old Read) (B.faults board.new Read)) }
-    ensures reads { OnlyReads B.Board board.old board.new }
+    ensures calls { ReadsOrFails B.Board board.old result board.new }
 {
-    match board.read(region, at) {
-        Ok(word) => Ok(word & new == new),
-        Err(_) => Err(Fault::Read),
-    }
+    let word = read_halfword(board, region, at)?;
+    Ok(word & new == new)
 }
 
 /// Whether the torn last entry can be completed with these bytes, as many as it has: a program can

@@ -8,6 +8,7 @@ ghost use Rattle.flash_traits.specs.Calls.{Changes, ErasesNothing};
 ghost use Rattle.flash_traits.specs.Causes.{HasCause};
 ghost use Rattle.sector_log.specs.Appends.{AppendMayLeave, Appends, appended, FinishMayLeave, Finishes, finished, AreLines, IsLogIn};
 ghost use Rattle.flash_traits.specs.Counts.{raised_by};
+ghost use Rattle.sector_log.specs.Steps.Calls.{OnlyPrograms};
 ghost use Rattle.sector_log.specs.Fills.{FillMayLeave, Fills, CompleteMayLeave, Completes};
 
 use crate::{Header, Log, word_of};
@@ -21,14 +22,7 @@ fn fill<B: Board>(board: &mut B, region: Region, at: u32, bytes: &[u8]) -> Resul
     requires few { length bytes.now ≤ 64 }
     ensures changes { Changes B.Board board.old board.new (FillMayLeave region at bytes.now)
         (ByResult result (Fills region at bytes.now) (FillMayLeave region at bytes.now)) }
-    ensures erases { ErasesNothing B.Board board.old board.new }
-    ensures programs { OnOk result
-        ((B.moment board.new).programs ≡ raised_by (length bytes.now / 2)
-        (B.moment board.old).programs) }
-    ensures at_most { (B.moment board.new).programs ≤ raised_by (length bytes.now / 2)
-        (B.moment board.old).programs }
-    ensures cause { HasCause Flash (B.faults board.old) (B.faults board.new) result }
-    ensures kind { IfErr result (λ kind. kind ≡ Flash) }
+    ensures calls { OnlyPrograms B.Board (length bytes.now / 2) board.old result board.new }
 {
     for i in 0..bytes.len() / 2 {
         let word = LittleEndian::read_u16(&bytes[2 * i..]);
@@ -53,14 +47,7 @@ fn complete<B: Board>(
         (CompleteMayLeave region at first bytes.now)
         (ByResult result (Completes region at first bytes.now)
         (CompleteMayLeave region at first bytes.now)) }
-    ensures erases { ErasesNothing B.Board board.old board.new }
-    ensures programs { OnOk result
-        ((B.moment board.new).programs ≡ raised_by (1 + length bytes.now / 2)
-        (B.moment board.old).programs) }
-    ensures at_most { (B.moment board.new).programs ≤ raised_by (1 + length bytes.now / 2)
-        (B.moment board.old).programs }
-    ensures cause { HasCause Flash (B.faults board.old) (B.faults board.new) result }
-    ensures kind { IfErr result (λ kind. kind ≡ Flash) }
+    ensures calls { OnlyPrograms B.Board (1 + length bytes.now / 2) board.old result board.new }
 {
     fill(board, region, at + 1, bytes)?;
     let valid = word_of(Header {

@@ -1,4 +1,4 @@
-use Rattle.std.proofs.Common.{◌≡◌, ◌≤◌, ◌<◌, ℕ}
+use Rattle.std.proofs.Common.{◌≡◌, ◌<◌, ℕ}
 use Rattle.std.specs.Prelude.{slice_index}
 use Rattle.flash_traits.specs.Calls.{OnlyReads}
 use Rattle.guard_row.proofs.row.leading_zeros.Given as goal

@@ -8,23 +8,23 @@ use Rattle.sector_image.proofs.Standing.{stands_alone}
 use Rattle.sector_image.proofs.SurveyLemmas.{found_rules, alone_words}
 use Rattle.sector_image.proofs.surveying.survey_alone.Goals as goal
 
-pub returns-clause-fits : goal.returns-clause-fits
-returns-clause-fits g c =
-    let reads = c.logs_of.ensures.reads in
-    let kept : Kept = record { sector_bytes = c.geometry.result.sector_bytes; guard = c.args.guard; home = c.in_ok-logs.logs.home; other = None; completable = false } in (
-      record {
-        home = found_rules Alone (g.B.Board.sector_bytes c.args.board.now) (g.B.Board.sector_bytes c.logs_of.new.board) kept (both_bytes c.logs_of.new.whole c.copy_from_slice.new.self) c.requires.attached reads.changes.geometry
-            c.geometry.ensures c.requires.most c.requires.even c.in_ok-logs.ensures.home (c.logs_of.auto.whole ∙ c.requires.whole) (c.copy_from_slice.auto.self ∙ c.logs_of.auto.upper ∙ c.requires.upper);
-        none = refl;
-        plain = refl;
-      },
-      λ told. subst (λ (w : Words). OneLogWords Alone kept (both_bytes c.logs_of.new.whole c.copy_from_slice.new.self) w) (sym (reads.changes.content told))
-          (subst (λ (u : List ℕ). OneLogWords Alone kept (both_bytes c.logs_of.new.whole u) (g.B.Board.words c.args.board.now)) (sym c.copy_from_slice.ensures.after)
-          (alone_words (g.B.Board.words c.args.board.now) kept c.in_ok-logs.logs.other c.logs_of.new.whole c.logs_of.new.upper (c.in_ok-logs.ensures.logs told))),
-    )
-
-pub returns-clause-stands : goal.returns-clause-stands
-returns-clause-stands g c = λ told.
-    let kept : Kept = record { sector_bytes = c.geometry.result.sector_bytes; guard = c.args.guard; home = c.in_ok-logs.logs.home; other = None; completable = false } in
-    stands_alone kept (both_bytes c.logs_of.new.whole c.logs_of.new.whole) (g.B.Board.words c.args.board.now)
-    (alone_words (g.B.Board.words c.args.board.now) kept c.in_ok-logs.logs.other c.logs_of.new.whole c.logs_of.new.upper (c.in_ok-logs.ensures.logs told))
+pub returns-clause-finds : goal.returns-clause-finds
+returns-clause-finds g c = record {
+  fits =
+      let reads = c.logs_of.ensures.calls.reads in
+      let kept : Kept = record { sector_bytes = c.geometry.result.sector_bytes; guard = c.args.guard; home = c.in_ok-logs.logs.home; other = None; completable = false } in (
+        record {
+          home = found_rules Alone (g.B.Board.sector_bytes c.args.board.now) (g.B.Board.sector_bytes c.logs_of.new.board) kept (both_bytes c.logs_of.new.whole c.copy_from_slice.new.self) c.requires.given.attached reads.changes.geometry
+              c.geometry.ensures c.requires.given.most c.requires.even c.in_ok-logs.ensures.home (c.logs_of.auto.whole ∙ c.requires.given.whole_size) (c.copy_from_slice.auto.self ∙ c.logs_of.auto.upper ∙ c.requires.given.upper_size);
+          none = refl;
+          plain = refl;
+        },
+        λ told. subst (λ (w : Words). OneLogWords Alone kept (both_bytes c.logs_of.new.whole c.copy_from_slice.new.self) w) (sym (reads.changes.content told))
+            (subst (λ (u : List ℕ). OneLogWords Alone kept (both_bytes c.logs_of.new.whole u) (g.B.Board.words c.args.board.now)) (sym c.copy_from_slice.ensures.after)
+            (alone_words (g.B.Board.words c.args.board.now) kept c.in_ok-logs.logs.other c.logs_of.new.whole c.logs_of.new.upper (c.in_ok-logs.ensures.logs told))),
+      );
+  stands = λ told.
+      let kept : Kept = record { sector_bytes = c.geometry.result.sector_bytes; guard = c.args.guard; home = c.in_ok-logs.logs.home; other = None; completable = false } in
+      stands_alone kept (both_bytes c.logs_of.new.whole c.logs_of.new.whole) (g.B.Board.words c.args.board.now)
+      (alone_words (g.B.Board.words c.args.board.now) kept c.in_ok-logs.logs.other c.logs_of.new.whole c.logs_of.new.upper (c.in_ok-logs.ensures.logs told));
+}

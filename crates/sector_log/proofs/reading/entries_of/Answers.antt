@@ -10,7 +10,7 @@ pub loop-next-preserved : goal.loop-next-preserved
 loop-next-preserved g c =
     let W = halfwords_in (g.B.Board.words c.args.board.now) c.args.region in
     let inv = c.loop-next.invariant in
-    let read = c.next_entry.ensures.reads in
+    let read = c.next_entry.ensures.calls.reads in
     let next = rw c.in-Some.is at c.in_ok-next.ensures.next in
     let every = rw c.in-Some.is at c.in_ok-next.ensures.every in
     record {

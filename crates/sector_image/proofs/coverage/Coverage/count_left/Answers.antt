@@ -1,5 +1,5 @@
 use mir.Val.{bool_byte}
-use Rattle.std.proofs.Common.{◌≡◌, ◌≤◌, ◌-◌, Bool, Option, List, ℕ, Some, None, subst, sym, ap, ◌∙◌, arith}
+use Rattle.std.proofs.Common.{◌≡◌, ◌-◌, Option, ℕ, subst, sym, ap, ◌∙◌, arith}
 use Rattle.sector_image.specs.Room.{left_to_copy}
 use Rattle.sector_image.specs.Coverage.{unmarked}
 use Rattle.sector_image.proofs.CoverageLemmas.{count_beside, unmarked_most, unmarked_test, left_of_marks}

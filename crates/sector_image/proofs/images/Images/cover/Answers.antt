@@ -1,4 +1,4 @@
-use Rattle.std.proofs.Common.{ℕ, ◌*◌, List, length, sym, ◌∙◌, ap, arith}
+use Rattle.std.proofs.Common.{ℕ, ◌*◌, List, ◌∙◌, ap, arith}
 use Rattle.flash_traits.specs.Values.{put}
 use Rattle.sector_image.specs.Room.{chunk_at}
 use Rattle.sector_image.proofs.CoverageLemmas.{all_written, cover_compared}

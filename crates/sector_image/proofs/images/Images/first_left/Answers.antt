@@ -1,7 +1,3 @@
-use Rattle.std.proofs.Common.{ℕ, Option, Some, None, ap, sym, subst, ◌∙◌, ◌≡◌}
-use Rattle.std.specs.Prelude.{IfSome, IfNone}
-use Rattle.sector_image.specs.Room.{left_to_copy}
-use Rattle.sector_image.specs.Images.{IsFirstLeft}
 use Rattle.sector_image.proofs.CoverageLemmas.{if_found, if_not_found}
 use Rattle.sector_image.proofs.images.Images.first_left.Goals as goal
 

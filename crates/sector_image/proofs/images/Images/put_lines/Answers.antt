@@ -1,4 +1,4 @@
-use Rattle.std.proofs.Common.{ℕ, Bool, ◌+◌, ◌*◌, ◌/◌, List, length, sym, ◌∙◌, ap, subst, arith}
+use Rattle.std.proofs.Common.{ℕ, ◌*◌, List, ◌∙◌, ap, arith}
 use Rattle.flash_traits.specs.Values.{put}
 use Rattle.sector_image.proofs.CoverageLemmas.{all_written, put_compared}
 use Rattle.sector_image.proofs.images.Images.put_lines.Goals as goal

@@ -1,0 +1,3 @@
+-- What the private steps of a survey say.
+pub mod Errors
+pub mod Calls
