@@ -1,5 +1,6 @@
 -- What contracts see of a store.
-use Rattle.std.specs.Prelude.{◌≡◌, ◌≤◌, ℕ, ◌+◌, ◌-◌, ◌*◌, List, [], ◌∷◌, length, Bool, true, false, if◌then◌else◌, nat_lt, IsTrue}
+use Rattle.std.specs.Prelude.{◌≡◌, ◌≤◌, ℕ, ◌+◌, ◌-◌, ◌*◌, List, [], ◌∷◌, length, Bool, true, false}
+use Rattle.std.specs.Prelude.{if◌then◌else◌, nat_lt, IsTrue}
 use Rattle.std.specs.Option.{option_map_or}
 use Rattle.flash_traits.specs.Budget.{budget_of, header_bytes, copy_bytes, line_bytes, chunks}
 use Rattle.flash_traits.specs.declared.board.Board.{Ghosts}

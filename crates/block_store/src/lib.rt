@@ -2,7 +2,8 @@
 //! losses come.
 #![tactic(auto)]
 
-ghost use Rattle.std.specs.Prelude.{◌≡◌, ◌⊎◌, ◌+◌, ◌*◌, ◌<◌, ◌≤◌, ◌↔◌, length, true, false, IsTrue, IsFalse, IsOk, IfOk, IfErr, OnOk, OnErr, IsErrOf};
+ghost use Rattle.std.specs.Prelude.{◌≡◌, ◌⊎◌, ◌+◌, ◌*◌, ◌<◌, ◌≤◌, ◌↔◌, length, true, false, IsTrue};
+ghost use Rattle.std.specs.Prelude.{IsFalse, IsOk, IfOk, IfErr, OnOk, OnErr, IsErrOf};
 ghost use Rattle.flash_traits.specs.Budget.{line_bytes};
 ghost use Rattle.flash_traits.specs.declared.numbers.TheConstants.{GUARD_HALFWORDS};
 ghost use Rattle.flash_traits.specs.declared.board.Fault.{Fault};
@@ -13,13 +14,19 @@ ghost use Rattle.flash_traits.specs.Causes.{Rose};
 ghost use Rattle.storage_lines.specs.declared.lines.TheConstants.{STORAGE_BYTES};
 ghost use Rattle.storage_lines.specs.Lines.{after};
 ghost use Rattle.sector_image.specs.FirstBad.{FirstBad};
-ghost use Rattle.sector_image.specs.Stands.{Stands, Reads, is_alone as reads_alone, is_due, count_in, count_after};
+ghost use Rattle.sector_image.specs.Stands.{Stands, Reads, is_alone as reads_alone, is_due};
+ghost use Rattle.sector_image.specs.Stands.{count_in, count_after};
 ghost use Rattle.sector_image.specs.Losses.{KeepsBytes};
 ghost use Rattle.sector_switch.specs.States.{CanServe, HomeAfter};
 ghost use Rattle.block_store.specs.declared.PutError.TheVariants.{NoRoom};
-ghost use Rattle.block_store.specs.Store.{Store, Fits, IsEntry, durable_of, is_alone, is_spilled, is_spent, guard_of, guard_ahead, room_of, free_of, spare_of, home_free, switch_leaves, OnHome, entry_bytes, lacks_room, Voids, raise};
+ghost use Rattle.block_store.specs.Store.{Store, Fits, IsEntry, durable_of, is_alone, is_spilled};
+ghost use Rattle.block_store.specs.Store.{is_spent, guard_of, guard_ahead, room_of, free_of};
+ghost use Rattle.block_store.specs.Store.{spare_of, home_free, switch_leaves, OnHome, entry_bytes};
+ghost use Rattle.block_store.specs.Store.{lacks_room, Voids, raise};
 ghost use Rattle.block_store.specs.Losses.{PutsLines, MayPutLines};
-ghost use Rattle.block_store.specs.Refusals.{OnMemory, OnOpenFault, OnOpenForeign, OnOpenWorn, OnFault, OnWorn, OnNoRoom, OnSpending, OpenLeavesAlone, IsWorn, IsWornWith};
+ghost use Rattle.block_store.specs.Refusals.{OnMemory, OnOpenFault, OnOpenForeign, OnOpenWorn};
+ghost use Rattle.block_store.specs.Refusals.{OnFault, OnWorn, OnNoRoom, OnSpending};
+ghost use Rattle.block_store.specs.Refusals.{OpenLeavesAlone, IsWorn, IsWornWith};
 
 mod entry;
 mod moves;
@@ -30,7 +37,7 @@ use flash_traits::{Board, Fault, Region};
 use moves::switch;
 use puts::{put_armed, put_unarmed};
 use sector_switch::{Alone, Images, RecoverError, Spilled, SwitchError, recover};
-use std::alloc::Global;
+use std::alloc::{AllocError, Global};
 use std::marker::Model;
 use std::mem::replace;
 use storage_lines::LineWrite;
@@ -93,6 +100,16 @@ impl From<SwitchError> for PutError {
             SwitchError::Fault(kind) => PutError::Fault(kind),
             SwitchError::Worn { count } => PutError::Worn { count },
         }
+    }
+}
+
+impl From<AllocError> for OpenError {
+    ghost use Rattle.block_store.specs.declared.OpenError.TheVariants as open_error;
+
+    ghost from_gives = { λ _ e. e ≡ open_error.Memory };
+
+    fn from(_: AllocError) -> OpenError {
+        OpenError::Memory
     }
 }
 
@@ -191,9 +208,7 @@ impl BlockStore {
             × Rose (B.faults board.old kind) (B.faults board.new kind))) }
         ensures counts { (k : Fault) → B.faults board.old k ≤ B.faults board.new k }
     {
-        let Ok(mut images) = Images::new(alloc) else {
-            return Err(OpenError::Memory);
-        };
+        let mut images = Images::new(alloc)?;
         let alone = recover(board, &mut images)?;
         Ok(BlockStore {
             state: State::Alone(alone),

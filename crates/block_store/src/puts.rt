@@ -1,5 +1,6 @@
 //! A state that has room for an entry, and the entry.
-ghost use Rattle.std.specs.Prelude.{◌≡◌, ◌+◌, ◌-◌, ◌*◌, ◌≤◌, length, true, false, IsTrue, IsFalse, IfOk, IfErr, OnOk, OnErr};
+ghost use Rattle.std.specs.Prelude.{◌≡◌, ◌+◌, ◌-◌, ◌*◌, ◌≤◌, length, true, false, IsTrue, IsFalse};
+ghost use Rattle.std.specs.Prelude.{IfOk, IfErr, OnOk, OnErr};
 ghost use Rattle.flash_traits.specs.declared.numbers.TheConstants.{GUARD_HALFWORDS};
 ghost use Rattle.flash_traits.specs.declared.board.Fault.{Fault};
 ghost use Rattle.flash_traits.specs.declared.board.Fault.TheVariants.{Read, Flash};
@@ -12,7 +13,9 @@ ghost use Rattle.sector_log.specs.Appends.{AreLines};
 ghost use Rattle.sector_image.specs.Losses.{KeepsBytes, Puts, MayPut};
 ghost use Rattle.sector_image.specs.Fits as fits;
 ghost use Rattle.sector_image.specs.Fits.{FitsAlone};
-ghost use Rattle.block_store.specs.Store.{FitsState, in_one_sector, in_both_sectors, guard_in, room_in, free_in, spare_in, lacks_in, switch_leaves_in, home_free_in};
+ghost use Rattle.block_store.specs.Store.{FitsState, in_one_sector, in_both_sectors, guard_in};
+ghost use Rattle.block_store.specs.Store.{room_in, free_in, spare_in, lacks_in, switch_leaves_in};
+ghost use Rattle.block_store.specs.Store.{home_free_in};
 ghost use Rattle.block_store.specs.Steps.Inside.{state_of, IsInside, due_in};
 ghost use Rattle.block_store.specs.Steps.Entries.{PutsEntry, MayPutEntry};
 ghost use Rattle.block_store.specs.Steps.Calls.{OnlyPrograms, FindsRoom};

@@ -7,7 +7,8 @@
 -- in `line_of_command`; its variant in Commands.antt. In src/ come the variant of `Command`, the
 -- names again, a function beside `serve_said` and `serve`, and the first word in `command_of`. The
 -- lemmas and the reading of the words by `clap` hold for options of any names.
-use Rattle.std.specs.Prelude.{ℕ, List, [], ◌∷◌, Option, Some, None, codes, drop, if◌then◌else◌, option_and_then, option_map, slice_get}
+use Rattle.std.specs.Prelude.{ℕ, List, [], ◌∷◌, Option, Some, None, codes, drop, if◌then◌else◌}
+use Rattle.std.specs.Prelude.{option_and_then, option_map, slice_get}
 use Rattle.std.specs.Str.{bytes_eq}
 use Rattle.flash_traits.specs.Words.{is_size}
 use Rattle.command_line.specs.Arguments.{Argument, Text, arguments, operands, values_of}

@@ -4,7 +4,11 @@
 ghost use Rattle.std.specs.Prelude.{◌≡◌, IfOk, IfSome, None, map, option_map, drop, codes};
 ghost use Rattle.command_line.specs.Arguments.{arguments};
 ghost use Rattle.command_line.specs.Commands.{IsFormatSize, IsInRange, line_of};
-ghost use Rattle.command_line.specs.Lines.{dump_from, dump_says, format_from, format_options, format_says, line_of_words, no_options, replay_from, replay_says, report_from, report_says, format_size_in, gen_from, gen_says, serve_from, serve_options, serve_says};
+ghost use Rattle.command_line.specs.Lines.{dump_from, dump_says, format_from, format_options};
+ghost use Rattle.command_line.specs.Lines.{format_says, line_of_words, no_options, replay_from};
+ghost use Rattle.command_line.specs.Lines.{replay_says, report_from, report_says, format_size_in};
+ghost use Rattle.command_line.specs.Lines.{gen_from, gen_says, serve_from, serve_options};
+ghost use Rattle.command_line.specs.Lines.{serve_says};
 ghost use Rattle.command_line.specs.Matches.{texts_of};
 
 mod number;

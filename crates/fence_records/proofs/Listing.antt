@@ -11,6 +11,7 @@ use Rattle.std.proofs.lemmas.List.{take-append-drop}
 use Rattle.std.proofs.lemmas.List.Elements.{All-cons, All-nil}
 use Rattle.std.proofs.lemmas.List.Concat.{flat_map-cons}
 use Rattle.std.proofs.lemmas.Grind.{common_steps}
+use Rattle.fence_records.specs.declared.TheConstants.{FENCE_BYTES}
 use Rattle.storage_lines.specs.Numbers.{number_of, bytes_of}
 use Rattle.storage_lines.proofs.NumberLemmas.{length-bytes_of}
 use Rattle.storage_lines.specs.declared.areas.Area.TheVariants.{Fence}
@@ -196,12 +197,12 @@ holds_figures zero (b ∷ bytes) low few = absurd (omega (arith, few))
 holds_figures (suc n) bytes low few =
     holds_at (first_figure bytes) n bytes low refl few (λ f less. holds_figures n (drop (length (record_of f)) bytes) (drop-IsBytes (length (record_of f)) bytes low) less)
 
-listed_at : (area : List ℕ) (items : List FenceItem) (b : Bool) → IsBytes area → length area ≡ 416
-    → MatchBool b (HoldsItems (drop 4 area) items) (items ≡ []) ↔ (items ≡ (if b then flat_map items_of (figures_in 416 (drop 4 area)) else []))
+listed_at : (area : List ℕ) (items : List FenceItem) (b : Bool) → IsBytes area → length area ≡ FENCE_BYTES
+    → MatchBool b (HoldsItems (drop 4 area) items) (items ≡ []) ↔ (items ≡ (if b then flat_map items_of (figures_in FENCE_BYTES (drop 4 area)) else []))
 listed_at area items true low size =
-    let few : length (drop 4 area) ≤ 416 = grind (arith, common_steps) in (
-      λ h. held_items 416 (drop 4 area) items (drop-IsBytes 4 area low) few h,
-      λ e. subst (HoldsItems (drop 4 area)) (sym e) (holds_figures 416 (drop 4 area) (drop-IsBytes 4 area low) few),
+    let few : length (drop 4 area) ≤ FENCE_BYTES = grind (arith, common_steps) in (
+      λ h. held_items FENCE_BYTES (drop 4 area) items (drop-IsBytes 4 area low) few h,
+      λ e. subst (HoldsItems (drop 4 area)) (sym e) (holds_figures FENCE_BYTES (drop 4 area) (drop-IsBytes 4 area low) few),
     )
 listed_at area items false low size = (λ h. h, λ h. h)
 
@@ -209,7 +210,7 @@ pub fence_is_listed : FenceIsListed
 fence_is_listed bytes items low = listed_at (fence_area bytes) items (bytes_eq (take 4 (fence_area bytes)) version) low (length-area bytes)
 
 pub low_area : (b : List ℕ) → IsBytes b → IsBytes (fence_area b)
-low_area b low i = elim (cases_lt i 416) [
+low_area b low i = elim (cases_lt i FENCE_BYTES) [
   | inl less ↦ subst (λ n. n < 256) (sym (get_or-area b i less)) (low (place_of Fence i))
   | inr more ↦ beyond (fence_area b) i (omega (arith, more, length-area b))
 ]

@@ -4,6 +4,7 @@ use Rattle.std.specs.Prelude.{MatchBool, Ok, Err}
 use Rattle.std.specs.List.{flat_map}
 use Rattle.std.proofs.lemmas.List.{length-map}
 use Rattle.std.proofs.lemmas.List.Concat.{flat_map-cons}
+use Rattle.fence_records.specs.declared.TheConstants.{FENCE_BYTES}
 use Rattle.storage_lines.specs.declared.lines.LineWrite.{LineWrite}
 use Rattle.storage_lines.specs.Numbers.{bytes_of}
 use Rattle.storage_lines.proofs.NumberLemmas.{length-bytes_of}
@@ -65,12 +66,12 @@ no_room old f gs fs e h =
     let all : length (flat_map record_of fs) ≡ length (record_of f) + length (flat_map record_of gs) = ap (λ t. length (flat_map record_of t)) e ∙ (ap length (flat_map-cons record_of f gs) ∙ length-append (record_of f) (flat_map record_of gs)) in
     omega (arith, all, h)
 
-pub writes_fit : (bytes new : List ℕ) (items : List FenceItem) (fs : List Figure) (ws : List LineWrite) → IsAllowedFence items → figures_of (length items) items ≡ Some fs → new ≡ encoded fs → length new ≤ 416 → ws ≡ fence_writes new bytes
+pub writes_fit : (bytes new : List ℕ) (items : List FenceItem) (fs : List Figure) (ws : List LineWrite) → IsAllowedFence items → figures_of (length items) items ≡ Some fs → new ≡ encoded fs → length new ≤ FENCE_BYTES → ws ≡ fence_writes new bytes
     → replace_writes bytes items ≡ Ok ws
 writes_fit bytes new items fs ws allowed cut e few w =
     let size : length new ≡ length (encoded fs) = ap length e in
-    let fits : nat_lt 416 (length (encoded fs)) ≡ false = le-ltb 416 (length (encoded fs)) (omega (arith, size, few)) in
+    let fits : nat_lt FENCE_BYTES (length (encoded fs)) ≡ false = le-ltb FENCE_BYTES (length (encoded fs)) (omega (arith, size, few)) in
     allowed_writes bytes items fs allowed cut ∙ (ap (or_too_long bytes fs) fits ∙ ap (λ t. Ok t) (sym (w ∙ ap (λ t. fence_writes t bytes) e)))
 
-pub writes_exceed : (bytes : List ℕ) (items : List FenceItem) (fs : List Figure) → IsAllowedFence items → figures_of (length items) items ≡ Some fs → 416 < length (encoded fs) → replace_writes bytes items ≡ Err 4
-writes_exceed bytes items fs allowed cut more = allowed_writes bytes items fs allowed cut ∙ ap (or_too_long bytes fs) (lt-ltb 416 (length (encoded fs)) more)
+pub writes_exceed : (bytes : List ℕ) (items : List FenceItem) (fs : List Figure) → IsAllowedFence items → figures_of (length items) items ≡ Some fs → FENCE_BYTES < length (encoded fs) → replace_writes bytes items ≡ Err 4
+writes_exceed bytes items fs allowed cut more = allowed_writes bytes items fs allowed cut ∙ ap (or_too_long bytes fs) (lt-ltb FENCE_BYTES (length (encoded fs)) more)

@@ -7,6 +7,8 @@ use Rattle.std.specs.Result.{result_unwrap_or}
 use Rattle.std.proofs.Math.Seq.{take-length}
 use Rattle.std.proofs.lemmas.Bool.{cases_lt}
 use Rattle.std.proofs.lemmas.List.Concat.{flat_map-cons}
+use Rattle.storage_lines.specs.declared.lines.TheConstants.{STORAGE_BYTES}
+use Rattle.fence_records.specs.declared.TheConstants.{FENCE_BYTES}
 use Rattle.storage_lines.specs.declared.lines.LineWrite.{LineWrite}
 use Rattle.storage_lines.specs.Lines.{after}
 use Rattle.storage_lines.proofs.ApartLemmas.{each_change}
@@ -34,18 +36,18 @@ few_figures (f ∷ fs) =
 
 -- the items in the area, as `fence_of` has them
 abbrev items_in : List ℕ → List FenceItem
-items_in area = if bytes_eq (take 4 area) version then flat_map items_of (figures_in 416 (drop 4 area)) else []
+items_in area = if bytes_eq (take 4 area) version then flat_map items_of (figures_in FENCE_BYTES (drop 4 area)) else []
 
 -- bytes that begin with encoded figures hold these, as they are read back
-pub begins_items : (b : List ℕ) (fs : List Figure) → length (encoded fs) ≤ 416 → Begins b (encoded fs) → fence_of b ≡ flat_map items_of (map reread fs)
+pub begins_items : (b : List ℕ) (fs : List Figure) → length (encoded fs) ≤ FENCE_BYTES → Begins b (encoded fs) → fence_of b ≡ flat_map items_of (map reread fs)
 begins_items b fs few h =
     let rest = drop (length (encoded fs)) (fence_area b) in
     let area : fence_area b ≡ encoded fs ++ rest = area_begins b (encoded fs) few h in
     let inner : length (flat_map record_of fs ++ 99 ∷ []) ≡ length (flat_map record_of fs) + 1 = length-append (flat_map record_of fs) (99 ∷ []) in
     let all : length (encoded fs) ≡ 4 + length (flat_map record_of fs ++ 99 ∷ []) = length-append version (flat_map record_of fs ++ 99 ∷ []) in
-    let small : length fs ≤ 416 = omega (arith, few_figures fs, inner, all, few) in
-    let figures : figures_in 416 (flat_map record_of fs ++ 99 ∷ rest) ≡ map reread fs = figures_back 416 fs (99 ∷ rest) small (no_figure rest) in
-    ap items_in area ∙ (ap (λ t. flat_map items_of (figures_in 416 t)) (append_assoc (flat_map record_of fs) (99 ∷ []) rest) ∙ ap (flat_map items_of) figures)
+    let small : length fs ≤ FENCE_BYTES = omega (arith, few_figures fs, inner, all, few) in
+    let figures : figures_in FENCE_BYTES (flat_map record_of fs ++ 99 ∷ rest) ≡ map reread fs = figures_back FENCE_BYTES fs (99 ∷ rest) small (no_figure rest) in
+    ap items_in area ∙ (ap (λ t. flat_map items_of (figures_in FENCE_BYTES t)) (append_assoc (flat_map record_of fs) (99 ∷ []) rest) ∙ ap (flat_map items_of) figures)
 
 begins_none : (b : List ℕ) → Begins b (version ++ 99 ∷ []) → fence_of b ≡ []
 begins_none b h = begins_items b [] (omega arith) h
@@ -57,7 +59,7 @@ same_items a b e = ap items_in e
 pub record Replaced (bytes : List ℕ) (items : List FenceItem) (ws : List LineWrite) : Type 0 where
   pub figures : List Figure
   pub cut : figures_of (length items) items ≡ Some figures
-  pub few : length (encoded figures) ≤ 416
+  pub few : length (encoded figures) ≤ FENCE_BYTES
   pub writes : ws ≡ fence_writes (encoded figures) bytes
 
 abbrev pub or_too_long : List ℕ → List Figure → Bool → Result (List LineWrite) ℕ
@@ -69,14 +71,14 @@ taken ws = Ok ws
 ok_writes : (vs ws : List LineWrite) → taken vs ≡ taken ws → vs ≡ ws
 ok_writes vs ws h = ap (λ (r : Result (List LineWrite) ℕ). result_unwrap_or r []) h
 
-by_length : (bytes : List ℕ) (items : List FenceItem) (ws : List LineWrite) (fs : List Figure) (b : Bool) → figures_of (length items) items ≡ Some fs → nat_lt 416 (length (encoded fs)) ≡ b
+by_length : (bytes : List ℕ) (items : List FenceItem) (ws : List LineWrite) (fs : List Figure) (b : Bool) → figures_of (length items) items ≡ Some fs → nat_lt FENCE_BYTES (length (encoded fs)) ≡ b
     → or_too_long bytes fs b ≡ Ok ws → Replaced bytes items ws
 by_length bytes items ws fs true cut e h = absurd (cc)
-by_length bytes items ws fs false cut e h = record { figures = fs; cut = cut; few = ltb-false 416 (length (encoded fs)) e; writes = sym (ok_writes (fence_writes (encoded fs) bytes) ws h) }
+by_length bytes items ws fs false cut e h = record { figures = fs; cut = cut; few = ltb-false FENCE_BYTES (length (encoded fs)) e; writes = sym (ok_writes (fence_writes (encoded fs) bytes) ws h) }
 
 by_figures : (bytes : List ℕ) (items : List FenceItem) (ws : List LineWrite) (o : Option (List Figure)) → figures_of (length items) items ≡ o → figure_writes bytes o ≡ Ok ws → Replaced bytes items ws
 by_figures bytes items ws None cut h = absurd (cc)
-by_figures bytes items ws (Some fs) cut h = by_length bytes items ws fs (nat_lt 416 (length (encoded fs))) cut refl h
+by_figures bytes items ws (Some fs) cut h = by_length bytes items ws fs (nat_lt FENCE_BYTES (length (encoded fs))) cut refl h
 
 by_returns : (bytes : List ℕ) (items : List FenceItem) (ws : List LineWrite) (b : Bool) → (if b then Err 5 else figure_writes bytes (figures_of (length items) items)) ≡ Ok ws → Replaced bytes items ws
 by_returns bytes items ws true h = absurd (cc)
@@ -86,7 +88,7 @@ pub replaced : (bytes : List ℕ) (items : List FenceItem) (ws : List LineWrite)
 replaced bytes items ws h = by_returns bytes items ws (nat_lt 1 (count_by is_return_point items)) h
 
 -- the bytes after all of the writes
-whole_items : (bytes : List ℕ) (fs : List Figure) → length bytes ≡ 15360 → length (encoded fs) ≤ 416 → fence_of (after bytes (fence_writes (encoded fs) bytes)) ≡ flat_map items_of (map reread fs)
+whole_items : (bytes : List ℕ) (fs : List Figure) → length bytes ≡ STORAGE_BYTES → length (encoded fs) ≤ FENCE_BYTES → fence_of (after bytes (fence_writes (encoded fs) bytes)) ≡ flat_map items_of (map reread fs)
 whole_items bytes fs size few = ap fence_of (whole_writes bytes (encoded fs) size) ∙ begins_items (with_fence (encoded fs) bytes) fs few (written_begins bytes (encoded fs) size few)
 
 pub fences_are_replaced : FencesAreReplaced
@@ -108,7 +110,7 @@ up_to_all ws j = elim (cases_lt (length ws) j) [
   | inl more ↦ (length ws, omega arith, take_past j ws (omega (arith, more)) ∙ sym (take-length ws))
 ]
 
-clears : (bytes : List ℕ) (j : ℕ) → length bytes ≡ 15360 → (fence_of (after bytes (take j (clear_writes bytes))) ≡ fence_of bytes) ⊎ (fence_of (after bytes (take j (clear_writes bytes))) ≡ [])
+clears : (bytes : List ℕ) (j : ℕ) → length bytes ≡ STORAGE_BYTES → (fence_of (after bytes (take j (clear_writes bytes))) ≡ fence_of bytes) ⊎ (fence_of (after bytes (take j (clear_writes bytes))) ≡ [])
 clears bytes j size =
     let k = up_to_all (clear_writes bytes) j in
     let now = after bytes (take k.0 (clear_writes bytes)) in
@@ -119,7 +121,7 @@ clears bytes j size =
       | inr none ↦ inr (e ∙ begins_none now none)
     ]
 
-replaces : (bytes : List ℕ) (items : List FenceItem) (ws : List LineWrite) (j : ℕ) → length bytes ≡ 15360 → replace_writes bytes items ≡ Ok ws
+replaces : (bytes : List ℕ) (items : List FenceItem) (ws : List LineWrite) (j : ℕ) → length bytes ≡ STORAGE_BYTES → replace_writes bytes items ≡ Ok ws
     → (fence_of (after bytes (take j ws)) ≡ fence_of bytes) ⊎ ((fence_of (after bytes (take j ws)) ≡ []) ⊎ (fence_of (after bytes (take j ws)) ≡ fence_of (after bytes ws)))
 replaces bytes items ws j size h =
     let r = replaced bytes items ws h in

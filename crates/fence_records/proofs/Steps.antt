@@ -6,6 +6,8 @@ use Rattle.std.proofs.Math.Seq.{take-append-add, take-length}
 use Rattle.std.proofs.lemmas.Bool.{cases_lt}
 use Rattle.std.proofs.lemmas.List.{ext_get_or, get_or-take, get_or-drop, take-append-drop, take-append-le}
 use Rattle.std.proofs.lemmas.Grind.{common_steps, fold-append}
+use Rattle.storage_lines.specs.declared.lines.TheConstants.{STORAGE_BYTES}
+use Rattle.fence_records.specs.declared.TheConstants.{FENCE_BYTES}
 use Rattle.storage_lines.specs.declared.areas.Area.TheVariants.{Fence}
 use Rattle.storage_lines.specs.declared.lines.LineWrite.{LineWrite}
 use Rattle.storage_lines.specs.Areas.{place_of, place_in, put_in, IsAscending, spans_of}
@@ -37,13 +39,13 @@ fence_of_encoded area rest figures e right =
 abbrev pub Begins : List ℕ → List ℕ → Type 0
 Begins b xs = (i : ℕ) → i < length xs → get_or b (place_of Fence i) 0 ≡ get_or xs i 0
 
-pub length-area : (b : List ℕ) → length (fence_area b) ≡ 416
-length-area b = length-listed 416 (λ i. get_or b (place_of Fence i) 0)
+pub length-area : (b : List ℕ) → length (fence_area b) ≡ FENCE_BYTES
+length-area b = length-listed FENCE_BYTES (λ i. get_or b (place_of Fence i) 0)
 
-pub get_or-area : (b : List ℕ) (i : ℕ) → i < 416 → get_or (fence_area b) i 0 ≡ get_or b (place_of Fence i) 0
-get_or-area b i h = get_or-listed 416 (λ k. get_or b (place_of Fence k) 0) i 0 h
+pub get_or-area : (b : List ℕ) (i : ℕ) → i < FENCE_BYTES → get_or (fence_area b) i 0 ≡ get_or b (place_of Fence i) 0
+get_or-area b i h = get_or-listed FENCE_BYTES (λ k. get_or b (place_of Fence k) 0) i 0 h
 
-pub area_begins : (b xs : List ℕ) → length xs ≤ 416 → Begins b xs → fence_area b ≡ xs ++ drop (length xs) (fence_area b)
+pub area_begins : (b xs : List ℕ) → length xs ≤ FENCE_BYTES → Begins b xs → fence_area b ≡ xs ++ drop (length xs) (fence_area b)
 area_begins b xs few h =
     let area = length-area b in
     let size : length (take (length xs) (fence_area b)) ≡ length xs = length-first (length xs) (fence_area b) (omega arith) in
@@ -54,7 +56,7 @@ area_begins b xs few h =
     length-first : (n : ℕ) (xs : List ℕ) → n ≤ length xs → length (take n xs) ≡ n
     length-first n xs h = grind (arith, common_steps)
 
-begins_fence : (b : List ℕ) (figures : List Figure) → length (encoded figures) ≤ 416 → All IsFigure figures → Begins b (encoded figures) → IsFence (fence_area b) (flat_map items_of figures)
+begins_fence : (b : List ℕ) (figures : List Figure) → length (encoded figures) ≤ FENCE_BYTES → All IsFigure figures → Begins b (encoded figures) → IsFence (fence_area b) (flat_map items_of figures)
 begins_fence b figures few right h = fence_of_encoded (fence_area b) (drop (length (encoded figures)) (fence_area b)) figures (area_begins b (encoded figures) few h) right
 
 no_figures : All IsFigure []
@@ -63,9 +65,9 @@ no_figures k d h = absurd (omega arith)
 begins_empty : (b : List ℕ) → Begins b (version ++ 99 ∷ []) → IsFence (fence_area b) []
 begins_empty b h = begins_fence b [] (omega arith) no_figures h
 
-same_area : (a b : List ℕ) → ((i : ℕ) → i < 416 → get_or a (place_of Fence i) 0 ≡ get_or b (place_of Fence i) 0) → fence_area a ≡ fence_area b
+same_area : (a b : List ℕ) → ((i : ℕ) → i < FENCE_BYTES → get_or a (place_of Fence i) 0 ≡ get_or b (place_of Fence i) 0) → fence_area a ≡ fence_area b
 same_area a b h = ext_get_or 0 (fence_area a) (fence_area b) (length-area a ∙ sym (length-area b))
-    (λ i less. let below : i < 416 = omega (arith, length-area a, length-area b) in get_or-area a i below ∙ (h i below ∙ sym (get_or-area b i below)))
+    (λ i less. let below : i < FENCE_BYTES = omega (arith, length-area a, length-area b) in get_or-area a i below ∙ (h i below ∙ sym (get_or-area b i below)))
 
 rising : IsAscending (spans_of Fence)
 rising = record { first = omega arith; second = omega arith; third = omega arith }
@@ -74,13 +76,13 @@ pub first_place : (i : ℕ) → i < 160 → place_of Fence i ≡ 3936 + i
 first_place i h = rw (lt-ltb i 160 h) refl
 
 -- a byte of another place is kept
-kept_byte : (at : ℕ) (xs b : List ℕ) (k : ℕ) → at + length xs ≤ 416 → k < 416 → (k < at) ⊎ (at + length xs ≤ k) → get_or (put_in (spans_of Fence) at xs b) (place_of Fence k) 0 ≡ get_or b (place_of Fence k) 0
+kept_byte : (at : ℕ) (xs b : List ℕ) (k : ℕ) → at + length xs ≤ FENCE_BYTES → k < FENCE_BYTES → (k < at) ⊎ (at + length xs ≤ k) → get_or (put_in (spans_of Fence) at xs b) (place_of Fence k) 0 ≡ get_or b (place_of Fence k) 0
 kept_byte at xs b k few less out = put_in-other (spans_of Fence) at xs b (place_of Fence k) 0 (λ i h e. elim out [
   | inl below ↦ let rise = place_rises (spans_of Fence) k (at + i) rising (omega arith) (omega arith) in omega (arith, rise)
   | inr above ↦ let rise = place_rises (spans_of Fence) (at + i) k rising (omega arith) (omega arith) in omega (arith, rise)
 ])
 
-put_byte : (at : ℕ) (xs b : List ℕ) (i : ℕ) → length b ≡ 15360 → at + length xs ≤ 416 → i < length xs → get_or (put_in (spans_of Fence) at xs b) (place_of Fence (at + i)) 0 ≡ get_or xs i 0
+put_byte : (at : ℕ) (xs b : List ℕ) (i : ℕ) → length b ≡ STORAGE_BYTES → at + length xs ≤ FENCE_BYTES → i < length xs → get_or (put_in (spans_of Fence) at xs b) (place_of Fence (at + i)) 0 ≡ get_or xs i 0
 put_byte at xs b i size few h = put_in-at (spans_of Fence) at xs b i 0 rising size few h
 
 pub length-cleared : (b : List ℕ) → length (without_fence b) ≡ length b
@@ -107,13 +109,13 @@ take_two j xs ys b = elim (cases_lt (length xs) j) [
     take_past : (j : ℕ) (xs ys : List LineWrite) → length xs ≤ j → take j (xs ++ ys) ≡ xs ++ take (j - length xs) ys
     take_past j xs ys h = let e : j ≡ length xs + (j - length xs) = omega arith in ap (λ k. take k (xs ++ ys)) e ∙ take-append-add xs ys (j - length xs)
 
-pub step_of : (b new : List ℕ) (j : ℕ) → length b ≡ 15360 → j ≤ length (fence_writes new b) → Step b new (after b (take j (fence_writes new b)))
+pub step_of : (b new : List ℕ) (j : ℕ) → length b ≡ STORAGE_BYTES → j ≤ length (fence_writes new b) → Step b new (after b (take j (fence_writes new b)))
 step_of b new j size few =
     let xs = changes b (without_fence b) in
     let ys = changes (without_fence b) (with_records new b) in
     let zs = changes (with_records new b) (with_fence new b) in
-    let s1 : length (without_fence b) ≡ 15360 = length-cleared b ∙ size in
-    let s2 : length (with_records new b) ≡ 15360 = length-behind new b ∙ size in
+    let s1 : length (without_fence b) ≡ STORAGE_BYTES = length-cleared b ∙ size in
+    let s2 : length (with_records new b) ≡ STORAGE_BYTES = length-behind new b ∙ size in
     let e1 : after b (changes b (without_fence b)) ≡ without_fence b = whole_changes b (without_fence b) size s1 in
     let e2 : after (without_fence b) (changes (without_fence b) (with_records new b)) ≡ with_records new b = whole_changes (without_fence b) (with_records new b) s1 s2 in
     let all : j ≤ length xs + (length ys + length zs) = omega (arith, length-append xs (ys ++ zs), length-append ys zs, few) in
@@ -130,17 +132,17 @@ step_of b new j size few =
           ]
     ]
 
-place_low : (i : ℕ) → i < 416 → 3936 ≤ place_of Fence i
+place_low : (i : ℕ) → i < FENCE_BYTES → 3936 ≤ place_of Fence i
 place_low zero h = omega (arith, first_place 0 (omega arith))
 place_low (suc i) h = let rise = place_rises (spans_of Fence) 0 (suc i) rising (omega arith) h in omega (arith, rise, first_place 0 (omega arith))
 
-put_first : (xs b : List ℕ) (i : ℕ) → length b ≡ 15360 → length xs ≤ 416 → i < length xs → get_or (put_in (spans_of Fence) 0 xs b) (place_of Fence i) 0 ≡ get_or xs i 0
+put_first : (xs b : List ℕ) (i : ℕ) → length b ≡ STORAGE_BYTES → length xs ≤ FENCE_BYTES → i < length xs → get_or (put_in (spans_of Fence) 0 xs b) (place_of Fence i) 0 ≡ get_or xs i 0
 put_first xs b i size few h =
     let e : i ≡ 0 + i = omega arith in
     ap (λ k. get_or (put_in (spans_of Fence) 0 xs b) (place_of Fence k) 0) e ∙ put_byte 0 xs b i size (omega arith) h
 
 -- clearing has with_fence the first line or nothing
-pub clearing_begins : (border : ℕ) (b now : List ℕ) → length b ≡ 15360 → UpToLine border b (without_fence b) now → (fence_area b ≡ fence_area now) ⊎ Begins now (version ++ 99 ∷ [])
+pub clearing_begins : (border : ℕ) (b now : List ℕ) → length b ≡ STORAGE_BYTES → UpToLine border b (without_fence b) now → (fence_area b ≡ fence_area now) ⊎ Begins now (version ++ 99 ∷ [])
 clearing_begins border b now size m = elim (cases_lt 492 border) [
   | inl above ↦ inr (λ i less.
       let place = first_place i (omega arith) in
@@ -151,15 +153,15 @@ clearing_begins border b now size m = elim (cases_lt 492 border) [
       sym (m.back (place_of Fence i) (omega (arith, low)) (omega (arith, inside)))))
 ]
 
-cleared_head : (b : List ℕ) → length b ≡ 15360 → Begins (without_fence b) (version ++ 99 ∷ [])
+cleared_head : (b : List ℕ) → length b ≡ STORAGE_BYTES → Begins (without_fence b) (version ++ 99 ∷ [])
 cleared_head b size i less = put_first (version ++ 99 ∷ []) b i size (omega arith) less
 
-behind_head : (new b : List ℕ) → length b ≡ 15360 → length new ≤ 416 → Begins (with_records new b) (version ++ 99 ∷ [])
+behind_head : (new b : List ℕ) → length b ≡ STORAGE_BYTES → length new ≤ FENCE_BYTES → Begins (with_records new b) (version ++ 99 ∷ [])
 behind_head new b size few i less =
-    let rest : 8 + length (drop 8 new) ≤ 416 = grind (arith, common_steps) in
+    let rest : 8 + length (drop 8 new) ≤ FENCE_BYTES = grind (arith, common_steps) in
     kept_byte 8 (drop 8 new) (without_fence b) i rest (omega arith) (inl (omega arith)) ∙ cleared_head b size i less
 
-on_filling : (border : ℕ) (new b now : List ℕ) → length b ≡ 15360 → length new ≤ 416 → UpToLine border (without_fence b) (with_records new b) now → Begins now (version ++ 99 ∷ [])
+on_filling : (border : ℕ) (new b now : List ℕ) → length b ≡ STORAGE_BYTES → length new ≤ FENCE_BYTES → UpToLine border (without_fence b) (with_records new b) now → Begins now (version ++ 99 ∷ [])
 on_filling border new b now size few m i less =
     let inside = place_inside (spans_of Fence) i rising (omega arith) in
     let long = length-cleared b in
@@ -168,22 +170,22 @@ on_filling border new b now size few m i less =
       | inr back ↦ m.back (place_of Fence i) (omega (arith, back)) (omega (arith, inside, long)) ∙ cleared_head b size i less
     ]
 
-behind_rest : (new b : List ℕ) (i : ℕ) → length b ≡ 15360 → length new ≤ 416 → 8 ≤ i → i < length new → get_or (with_records new b) (place_of Fence i) 0 ≡ get_or new i 0
+behind_rest : (new b : List ℕ) (i : ℕ) → length b ≡ STORAGE_BYTES → length new ≤ FENCE_BYTES → 8 ≤ i → i < length new → get_or (with_records new b) (place_of Fence i) 0 ≡ get_or new i 0
 behind_rest new b i size few high less =
     let e : i ≡ 8 + (i - 8) = omega arith in
-    let rest : 8 + length (drop 8 new) ≤ 416 = grind (arith, common_steps) in
+    let rest : 8 + length (drop 8 new) ≤ FENCE_BYTES = grind (arith, common_steps) in
     let below : i - 8 < length (drop 8 new) = grind (arith, common_steps) in
-    let s1 : length (without_fence b) ≡ 15360 = length-cleared b ∙ size in
+    let s1 : length (without_fence b) ≡ STORAGE_BYTES = length-cleared b ∙ size in
     ap (λ k. get_or (with_records new b) (place_of Fence k) 0) e ∙ (put_byte 8 (drop 8 new) (without_fence b) (i - 8) s1 rest below ∙ (get_or-drop 8 new (i - 8) 0 ∙ ap (λ k. get_or new k 0) (sym e)))
 
 length-front : (new : List ℕ) → length (take 8 new) ≤ 8
 length-front new = grind (arith, common_steps)
 
 -- once the first line of the last step is with_fence
-closed_head : (border : ℕ) (new b now : List ℕ) → 492 < border → length b ≡ 15360 → length new ≤ 416 → UpToLine border (with_records new b) (with_fence new b) now → Begins now new
+closed_head : (border : ℕ) (new b now : List ℕ) → 492 < border → length b ≡ STORAGE_BYTES → length new ≤ FENCE_BYTES → UpToLine border (with_records new b) (with_fence new b) now → Begins now new
 closed_head border new b now above size few m i less =
     let long = length-behind new b in
-    let s2 : length (with_records new b) ≡ 15360 = length-behind new b ∙ size in
+    let s2 : length (with_records new b) ≡ STORAGE_BYTES = length-behind new b ∙ size in
     let eight = length-front new in
     let inside = place_inside (spans_of Fence) i rising (omega arith) in
     elim (cases_lt i 8) [
@@ -197,7 +199,7 @@ closed_head border new b now above size few m i less =
       ]
     ]
 
-on_closing : (border : ℕ) (new b now : List ℕ) → length b ≡ 15360 → length new ≤ 416 → UpToLine border (with_records new b) (with_fence new b) now → Begins now (version ++ 99 ∷ []) ⊎ Begins now new
+on_closing : (border : ℕ) (new b now : List ℕ) → length b ≡ STORAGE_BYTES → length new ≤ FENCE_BYTES → UpToLine border (with_records new b) (with_fence new b) now → Begins now (version ++ 99 ∷ []) ⊎ Begins now new
 on_closing border new b now size few m =
     let long = length-behind new b in
     elim (cases_lt 492 border) [
@@ -209,26 +211,26 @@ on_closing border new b now size few m =
     ]
 
 -- after each number of the writes the area is the old one, or begins with an end, or with the new bytes
-pub step_begins : (b new now : List ℕ) → length b ≡ 15360 → length new ≤ 416 → Step b new now → (fence_area b ≡ fence_area now) ⊎ (Begins now (version ++ 99 ∷ []) ⊎ Begins now new)
+pub step_begins : (b new now : List ℕ) → length b ≡ STORAGE_BYTES → length new ≤ FENCE_BYTES → Step b new now → (fence_area b ≡ fence_area now) ⊎ (Begins now (version ++ 99 ∷ []) ⊎ Begins now new)
 step_begins b new now size few (clearing border m) = elim (clearing_begins border b now size m) [ inl h ↦ inl h | inr h ↦ inr (inl h) ]
 step_begins b new now size few (filling border m) = inr (inl (on_filling border new b now size few m))
 step_begins b new now size few (closing border m) = inr (on_closing border new b now size few m)
 
 -- all of the writes
-pub whole_writes : (b new : List ℕ) → length b ≡ 15360 → after b (fence_writes new b) ≡ with_fence new b
+pub whole_writes : (b new : List ℕ) → length b ≡ STORAGE_BYTES → after b (fence_writes new b) ≡ with_fence new b
 whole_writes b new size =
     let xs = changes b (without_fence b) in
     let ys = changes (without_fence b) (with_records new b) in
     let zs = changes (with_records new b) (with_fence new b) in
-    let s1 : length (without_fence b) ≡ 15360 = length-cleared b ∙ size in
-    let s2 : length (with_records new b) ≡ 15360 = length-behind new b ∙ size in
-    let s3 : length (with_fence new b) ≡ 15360 = length-written new b ∙ size in
+    let s1 : length (without_fence b) ≡ STORAGE_BYTES = length-cleared b ∙ size in
+    let s2 : length (with_records new b) ≡ STORAGE_BYTES = length-behind new b ∙ size in
+    let s3 : length (with_fence new b) ≡ STORAGE_BYTES = length-written new b ∙ size in
     let e1 : after b xs ≡ without_fence b = whole_changes b (without_fence b) size s1 in
     let e2 : after (without_fence b) ys ≡ with_records new b = whole_changes (without_fence b) (with_records new b) s1 s2 in
     let e3 : after (with_records new b) zs ≡ with_fence new b = whole_changes (with_records new b) (with_fence new b) s2 s3 in
     fold-append put_line b xs (ys ++ zs) ∙ (ap (λ t. after t (ys ++ zs)) e1 ∙ (fold-append put_line (without_fence b) ys zs ∙ (ap (λ t. after t zs) e2 ∙ e3)))
 
-pub written_begins : (b new : List ℕ) → length b ≡ 15360 → length new ≤ 416 → Begins (with_fence new b) new
+pub written_begins : (b new : List ℕ) → length b ≡ STORAGE_BYTES → length new ≤ FENCE_BYTES → Begins (with_fence new b) new
 written_begins b new size few = closed_head 1920 new b (with_fence new b) (omega arith) size few (record {
   size = length-written new b ∙ sym (length-behind new b);
   front = λ k h g. refl;
@@ -236,11 +238,11 @@ written_begins b new size few = closed_head 1920 new b (with_fence new b) (omega
 })
 
 -- the area that is read
-pub area_read : (area b : List ℕ) → area ≡ take 416 (drop 0 (fence_area b)) → area ≡ fence_area b
+pub area_read : (area b : List ℕ) → area ≡ take FENCE_BYTES (drop 0 (fence_area b)) → area ≡ fence_area b
 area_read area b h = h ∙ (ap (λ k. take k (fence_area b)) (sym (length-area b)) ∙ take-length (fence_area b))
 
 -- the first line alone changes
-pub one_line : (b : List ℕ) → length b ≡ 15360 → length (changes b (without_fence b)) ≤ 1
+pub one_line : (b : List ℕ) → length b ≡ STORAGE_BYTES → length (changes b (without_fence b)) ≤ 1
 one_line b size =
     let place : place_in (spans_of Fence) 0 ≡ 3936 = first_place 0 (omega arith) in
     let last : place_in (spans_of Fence) 4 ≡ 3940 = first_place 4 (omega arith) in

@@ -6,6 +6,8 @@ use Rattle.std.proofs.lemmas.Bool.{cases_lt}
 use Rattle.std.proofs.lemmas.List.{take_rest}
 use Rattle.std.proofs.lemmas.List.Concat.{flat_map-cons}
 use Rattle.std.proofs.lemmas.Grind.{fold-append}
+use Rattle.storage_lines.specs.declared.lines.TheConstants.{STORAGE_BYTES}
+use Rattle.fence_records.specs.declared.TheConstants.{FENCE_BYTES}
 use Rattle.storage_lines.specs.declared.areas.Area.TheVariants.{Fence}
 use Rattle.storage_lines.specs.declared.lines.LineWrite.{LineWrite}
 use Rattle.storage_lines.specs.Areas.{place_of, put_in, spans_of}
@@ -41,22 +43,22 @@ few_more m (suc k) a c =
     let h = few_more m k a c in
     omega (arith, f, g, h)
 
-second_place : (i : ℕ) → 160 ≤ i → i < 416 → place_of Fence i ≡ 5676 + (i - 160)
+second_place : (i : ℕ) → 160 ≤ i → i < FENCE_BYTES → place_of Fence i ≡ 5676 + (i - 160)
 second_place i low high = rw (le-ltb i 160 low, lt-ltb i 416 high) refl
 
 -- a place of the fence lies in lines 492 to 511 or 709 to 741
-place_lines : (i : ℕ) → i < 416 → ((492 ≤ place_of Fence i / 8) × (place_of Fence i / 8 ≤ 511)) ⊎ ((709 ≤ place_of Fence i / 8) × (place_of Fence i / 8 ≤ 741))
+place_lines : (i : ℕ) → i < FENCE_BYTES → ((492 ≤ place_of Fence i / 8) × (place_of Fence i / 8 ≤ 511)) ⊎ ((709 ≤ place_of Fence i / 8) × (place_of Fence i / 8 ≤ 741))
 place_lines i h = elim (cases_lt i 160) [
   | inl low ↦ let e = first_place i low in inl (omega (arith, e, low), omega (arith, e, low))
   | inr high ↦ let e = second_place i high h in inr (omega (arith, e, high, h), omega (arith, e, high, h))
 ]
 
-apart_lines : (at : ℕ) (xs b : List ℕ) (m k : ℕ) → length b ≡ 15360 → m + k ≤ 1920 → ((n : ℕ) (i : ℕ) → m ≤ n → n < m + k → i < length xs → place_of Fence (at + i) / 8 ≢ n)
+apart_lines : (at : ℕ) (xs b : List ℕ) (m k : ℕ) → length b ≡ STORAGE_BYTES → m + k ≤ 1920 → ((n : ℕ) (i : ℕ) → m ≤ n → n < m + k → i < length xs → place_of Fence (at + i) / 8 ≢ n)
     → changes_below (m + k) b (put_in (spans_of Fence) at xs b) ≡ changes_below m b (put_in (spans_of Fence) at xs b)
 apart_lines at xs b m k size fits apart = no_changes m k b (put_in (spans_of Fence) at xs b) (λ n h g. line_untouched (spans_of Fence) at xs b n (omega (arith, size, fits, g)) (λ i less. apart n i h g less))
 
 -- a piece of the first eight bytes has one write at most
-pub few_head : (xs b : List ℕ) → length b ≡ 15360 → length xs ≤ 8 → length (writes_of_piece Fence 0 xs b) ≤ 1
+pub few_head : (xs b : List ℕ) → length b ≡ STORAGE_BYTES → length xs ≤ 8 → length (writes_of_piece Fence 0 xs b) ≤ 1
 few_head xs b size few =
     let now = put_in (spans_of Fence) 0 xs b in
     let place : (i : ℕ) → i < length xs → place_of Fence (0 + i) ≡ 3936 + (0 + i) = λ i less. first_place (0 + i) (omega (arith, less, few)) in
@@ -69,7 +71,7 @@ few_head xs b size few =
     omega (arith, one, none, e1, e2)
 
 -- the others have 53 lines
-pub few_others : (xs b : List ℕ) → length b ≡ 15360 → 8 + length xs ≤ 416 → length (writes_of_piece Fence 8 xs b) ≤ 53
+pub few_others : (xs b : List ℕ) → length b ≡ STORAGE_BYTES → 8 + length xs ≤ FENCE_BYTES → length (writes_of_piece Fence 8 xs b) ≤ 53
 few_others xs b size few =
     let now = put_in (spans_of Fence) 8 xs b in
     let place : (i : ℕ) → i < length xs → ((492 ≤ place_of Fence (8 + i) / 8) × (place_of Fence (8 + i) / 8 ≤ 511)) ⊎ ((709 ≤ place_of Fence (8 + i) / 8) × (place_of Fence (8 + i) / 8 ≤ 741)) = λ i less. place_lines (8 + i) (omega (arith, less, few)) in
@@ -111,16 +113,16 @@ head_cases n head e = elim (cases_lt 8 n) [
 ]
 
 -- clearing gives one write at most
-pub few_first : (b : List ℕ) (none first : List LineWrite) → length b ≡ 15360 → none ≡ [] → first ≡ none ++ writes_of_piece Fence 0 (version ++ 99 ∷ []) (after b none) → length first ≤ 1
+pub few_first : (b : List ℕ) (none first : List LineWrite) → length b ≡ STORAGE_BYTES → none ≡ [] → first ≡ none ++ writes_of_piece Fence 0 (version ++ 99 ∷ []) (after b none) → length first ≤ 1
 few_first b none first size e f =
-    let long : length (after b none) ≡ 15360 = length-after b none ∙ size in
+    let long : length (after b none) ≡ STORAGE_BYTES = length-after b none ∙ size in
     let few = few_head (version ++ 99 ∷ []) (after b none) long (omega arith) in
     let zero_length : length none ≡ 0 = ap length e in
     let both : length first ≡ length none + length (writes_of_piece Fence 0 (version ++ 99 ∷ []) (after b none)) = ap length f ∙ length-append none (writes_of_piece Fence 0 (version ++ 99 ∷ []) (after b none)) in
     omega (arith, few, zero_length, both)
 
 -- the three steps are the writes
-pub steps_follow : (b new : List ℕ) (none first second third : List LineWrite) (tail head : List ℕ) → length b ≡ 15360 → none ≡ [] → tail ≡ drop 8 new → head ≡ take 8 new
+pub steps_follow : (b new : List ℕ) (none first second third : List LineWrite) (tail head : List ℕ) → length b ≡ STORAGE_BYTES → none ≡ [] → tail ≡ drop 8 new → head ≡ take 8 new
     → first ≡ none ++ writes_of_piece Fence 0 (version ++ 99 ∷ []) (after b none)
     → second ≡ first ++ writes_of_piece Fence 8 tail (after b first)
     → third ≡ second ++ writes_of_piece Fence 0 head (after b second)
@@ -129,8 +131,8 @@ steps_follow b new none first second third tail head size e0 et eh f1 f2 f3 =
     let xs = changes b (without_fence b) in
     let ys = changes (without_fence b) (with_records new b) in
     let zs = changes (with_records new b) (with_fence new b) in
-    let s1 : length (without_fence b) ≡ 15360 = length-cleared b ∙ size in
-    let s2 : length (with_records new b) ≡ 15360 = length-behind new b ∙ size in
+    let s1 : length (without_fence b) ≡ STORAGE_BYTES = length-cleared b ∙ size in
+    let s2 : length (with_records new b) ≡ STORAGE_BYTES = length-behind new b ∙ size in
     let a1 : after b xs ≡ without_fence b = whole_changes b (without_fence b) size s1 in
     let a2 : after (without_fence b) ys ≡ with_records new b = whole_changes (without_fence b) (with_records new b) s1 s2 in
     let g1 : first ≡ xs = f1 ∙ ap (λ t. t ++ writes_of_piece Fence 0 (version ++ 99 ∷ []) (after b t)) e0 in

@@ -1,5 +1,6 @@
 -- The records of a fence, and the items that they hold.
-use Rattle.std.specs.Prelude.{ℕ, zero, suc, pos, ◌≡◌, ◌≢◌, ◌<◌, ◌^◌, Bool, MatchBool, if◌then◌else◌, List, [], ◌∷◌, ◌++◌, length, take, drop, map, All, FitsSigned}
+use Rattle.std.specs.Prelude.{ℕ, zero, suc, pos, ◌≡◌, ◌≢◌, ◌<◌, ◌^◌, Bool, MatchBool, if◌then◌else◌}
+use Rattle.std.specs.Prelude.{List, [], ◌∷◌, ◌++◌, length, take, drop, map, All, FitsSigned}
 use Rattle.std.specs.Int.{w32}
 use Rattle.std.specs.List.{flat_map}
 use Rattle.std.specs.Str.{bytes_eq}

@@ -1,9 +1,12 @@
 -- Which items a fence can have.
-use Rattle.std.specs.Prelude.{ℕ, pos, ◌≢◌, ◌<◌, ◌^◌, ◌==◌, ◌||◌, IsTrue, if◌then◌else◌, List, [], ◌∷◌}
+use Rattle.std.specs.Prelude.{ℕ, pos, ◌≢◌, ◌<◌, ◌^◌, ◌==◌, ◌||◌, IsTrue, if◌then◌else◌, List, []}
+use Rattle.std.specs.Prelude.{◌∷◌}
 use Rattle.word_bits.specs.Pattern.{IsFinite}
 use Rattle.mission_commands.specs.declared.commands.Item.{Item}
 use Rattle.mission_commands.specs.declared.table.Shape.TheVariants.{Plain}
-use Rattle.mission_commands.specs.Commands.{Rule, Listed, Framed, Param1, Param2, Param3, Param4, Latitude, Longitude, Altitude, IsWithin, IsLatitude, IsLongitude, is_frame}
+use Rattle.mission_commands.specs.Commands.{Rule, Listed, Framed, Param1, Param2, Param3, Param4}
+use Rattle.mission_commands.specs.Commands.{Latitude, Longitude, Altitude, IsWithin, IsLatitude}
+use Rattle.mission_commands.specs.Commands.{IsLongitude, is_frame}
 use Rattle.fence_records.specs.declared.items.Kind.{Kind}
 use Rattle.fence_records.specs.declared.items.Kind.TheVariants.{Return, Vertex, Circle, Unknown}
 use Rattle.fence_records.specs.declared.items.FenceItem.{FenceItem}

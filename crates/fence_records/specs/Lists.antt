@@ -1,5 +1,8 @@
 -- The stored fence as a function, and the fence that a list of items makes.
-use Rattle.std.specs.Prelude.{◌≡◌, ◌⊎◌, ◌↔◌, ◌<◌, FitsSigned, ℕ, zero, suc, ◌+◌, ◌-◌, ◌*◌, ◌/◌, ◌^◌, Bool, ◌==◌, ◌&&◌, ◌||◌, nat_lt, nat_le, List, [], ◌∷◌, length, take, drop, map, count_by, slice_index, if◌then◌else◌, Option, Some, None, option_map, Result, Ok, Err}
+use Rattle.std.specs.Prelude.{◌≡◌, ◌⊎◌, ◌↔◌, ◌<◌, FitsSigned, ℕ, zero, suc, ◌+◌, ◌-◌, ◌*◌, ◌/◌, ◌^◌}
+use Rattle.std.specs.Prelude.{Bool, ◌==◌, ◌&&◌, ◌||◌, nat_lt, nat_le, List, [], ◌∷◌, length, take}
+use Rattle.std.specs.Prelude.{drop, map, count_by, slice_index, if◌then◌else◌, Option, Some, None}
+use Rattle.std.specs.Prelude.{option_map, Result, Ok, Err}
 use Rattle.std.specs.List.{flat_map, range_with_len}
 use Rattle.std.specs.Option.{option_map_or}
 use Rattle.std.specs.Str.{bytes_eq}
@@ -17,7 +20,8 @@ use Rattle.fence_records.specs.declared.items.FenceItem.{FenceItem}
 use Rattle.fence_records.specs.declared.items.Point.{Point}
 use Rattle.fence_records.specs.Items.{kind_of}
 use Rattle.fence_records.specs.Cut.{IsCut, IsAllowedFence}
-use Rattle.fence_records.specs.Fence.{Figure, IsFence, Polygon, Round, ReturnPoint, items_of, record_of, version, point_of, points_from}
+use Rattle.fence_records.specs.Fence.{Figure, IsFence, Polygon, Round, ReturnPoint, items_of}
+use Rattle.fence_records.specs.Fence.{record_of, version, point_of, points_from}
 use Rattle.fence_records.specs.Write.{fence_area, encoded, without_fence, fence_writes}
 
 -- how many of the powers of two from 2 to 2 ^ 23 a number reaches: its highest bit

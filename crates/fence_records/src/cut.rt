@@ -1,6 +1,7 @@
 //! The rule for a whole list of items: circles, return points and whole polygons.
 
-ghost use Rattle.std.specs.Prelude.{◌≡◌, ◌≢◌, ◌<◌, ◌≤◌, ◌++◌, List, length, take, All, MatchOption, MatchBool, MatchResult, count_by};
+ghost use Rattle.std.specs.Prelude.{◌≡◌, ◌≢◌, ◌<◌, ◌≤◌, ◌++◌, List, length, take, All, MatchOption};
+ghost use Rattle.std.specs.Prelude.{MatchBool, MatchResult, count_by};
 ghost use Rattle.fence_records.specs.declared.items.FenceItem.{FenceItem};
 ghost use Rattle.fence_records.specs.Cut.{IsRun, IsCut, IsAlike, IsAllowedFence, is_return};
 

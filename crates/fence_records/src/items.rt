@@ -4,7 +4,8 @@ ghost use Rattle.std.specs.Prelude.{◌≡◌, MatchBool};
 ghost use Rattle.mission_commands.specs.Commands.{IsTested, IsLatitude, IsLongitude, is_frame};
 ghost use Rattle.mission_commands.specs.declared.table.Shape.TheVariants.{Plain};
 ghost use Rattle.fence_records.specs.Results.{item_of};
-ghost use Rattle.fence_records.specs.Items.{kind_of, AllowsKind, MeetsFence, fence_rules, fence_item_of};
+ghost use Rattle.fence_records.specs.Items.{kind_of, AllowsKind, MeetsFence, fence_rules};
+ghost use Rattle.fence_records.specs.Items.{fence_item_of};
 
 use mission_commands::Item;
 use word_bits::{is_finite, whole_of};

@@ -1,12 +1,15 @@
 //! Reading the stored fence: records up to the first place where no whole record begins.
 
-ghost use Rattle.std.specs.Prelude.{◌≡◌, ◌+◌, ◌-◌, ◌*◌, ◌<◌, ◌≤◌, ◌++◌, length, take, drop, map, slice_index, List, ℕ, MatchOption, IfSome, [], ◌∷◌, if◌then◌else◌};
+ghost use Rattle.std.specs.Prelude.{◌≡◌, ◌+◌, ◌-◌, ◌*◌, ◌<◌, ◌≤◌, ◌++◌, length, take, drop, map};
+ghost use Rattle.std.specs.Prelude.{slice_index, List, ℕ, MatchOption, IfSome, [], ◌∷◌};
+ghost use Rattle.std.specs.Prelude.{if◌then◌else◌};
 ghost use Rattle.arrayvec.specs.ArrayVec.{array_vec_len};
 ghost use Rattle.storage_lines.specs.declared.lines.TheConstants.{STORAGE_BYTES};
 ghost use Rattle.fence_records.specs.declared.TheConstants.{FENCE_BYTES};
 ghost use Rattle.fence_records.specs.Write.{fence_area};
 ghost use Rattle.fence_records.specs.Lists.{fence_of};
-ghost use Rattle.fence_records.specs.Fence.{Figure, IsFigure, IsEnd, IsFence, item, items_of, record_of, point_of, points_from};
+ghost use Rattle.fence_records.specs.Fence.{Figure, IsFigure, IsEnd, IsFence, item, items_of};
+ghost use Rattle.fence_records.specs.Fence.{record_of, point_of, points_from};
 
 use crate::FENCE_BYTES;
 use crate::items::{FenceItem, Point};

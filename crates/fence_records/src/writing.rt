@@ -1,6 +1,8 @@
 //! The writes that replace the stored fence, or clear it: the first line goes last.
 
-ghost use Rattle.std.specs.Prelude.{◌≡◌, ◌==◌, ◌+◌, ◌*◌, ◌<◌, ◌≤◌, ◌++◌, [], ◌∷◌, ℕ, List, length, map, flat_map, MatchBool, MatchOption, MatchResult, OnErr, Some, Ok, Err};
+ghost use Rattle.std.specs.Prelude.{◌≡◌, ◌==◌, ◌+◌, ◌*◌, ◌<◌, ◌≤◌, ◌++◌, [], ◌∷◌, ℕ, List, length};
+ghost use Rattle.std.specs.Prelude.{map, flat_map, MatchBool, MatchOption, MatchResult, OnErr};
+ghost use Rattle.std.specs.Prelude.{Some, Ok, Err};
 ghost use Rattle.arrayvec.specs.ArrayVec.{array_vec_len};
 ghost use Rattle.storage_lines.specs.declared.areas.Area.TheVariants.{Fence};
 ghost use Rattle.storage_lines.specs.declared.lines.TheConstants.{STORAGE_BYTES, BATCH_LINES};
@@ -10,9 +12,11 @@ ghost use Rattle.fence_records.specs.declared.TheConstants.{FENCE_BYTES};
 ghost use Rattle.fence_records.specs.declared.items.FenceItem.{FenceItem};
 ghost use Rattle.fence_records.specs.Items.{kind_of};
 ghost use Rattle.fence_records.specs.Cut.{IsRun, IsCut, IsAllowedFence};
-ghost use Rattle.fence_records.specs.Fence.{Figure, ReturnPoint, Round, Polygon, record_of, point_bytes};
+ghost use Rattle.fence_records.specs.Fence.{Figure, ReturnPoint, Round, Polygon, record_of};
+ghost use Rattle.fence_records.specs.Fence.{point_bytes};
 ghost use Rattle.fence_records.specs.Write.{encoded, fence_writes};
-ghost use Rattle.fence_records.specs.Lists.{point, figure_at, figures_of, replace_writes, clear_writes};
+ghost use Rattle.fence_records.specs.Lists.{point, figure_at, figures_of, replace_writes};
+ghost use Rattle.fence_records.specs.Lists.{clear_writes};
 
 use crate::FENCE_BYTES;
 use crate::cut::run_length;
@@ -168,7 +172,8 @@ fn put(at: u16, bytes: &[u8], current: &[u8], batch: &mut Batch)
     requires size { length current.now ≡ STORAGE_BYTES }
     requires inside { at + length bytes.now ≤ FENCE_BYTES }
     requires room { array_vec_len batch.old
-        + length (writes_of_piece Fence at bytes.now (after current.now batch.old.items)) ≤ BATCH_LINES }
+        + length (writes_of_piece Fence at bytes.now (after current.now batch.old.items))
+        ≤ BATCH_LINES }
     ensures { batch.new.items ≡ batch.old.items
         ++ writes_of_piece Fence at bytes.now (after current.now batch.old.items) }
 {

@@ -7,7 +7,8 @@
 --     state alone
 --
 -- or of other words `guard foreign 1 00FF`, `s0 foreign 2 000E`, `s0 void`, `state foreign`.
-use Rattle.std.specs.Prelude.{◌≡◌, ◌≢◌, ℕ, ◌*◌, ◌-◌, List, ◌++◌, length, codes, decimal, Option, Some, None}
+use Rattle.std.specs.Prelude.{◌≡◌, ◌≢◌, ℕ, ◌*◌, ◌-◌, List, ◌++◌, length, codes, decimal, Option}
+use Rattle.std.specs.Prelude.{Some, None}
 use Rattle.flash_traits.specs.Words.{Words}
 use Rattle.flash_traits.specs.declared.board.Region.{Region}
 use Rattle.flash_traits.specs.declared.board.Region.TheVariants.{S0, S1}

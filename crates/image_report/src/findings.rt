@@ -2,7 +2,8 @@
 ghost use Rattle.std.specs.Prelude.{◌≡◌, length, IfOk};
 ghost use Rattle.flash_traits.specs.Words.{halfwords_in, IsSectorRegion, IsSectorSize};
 ghost use Rattle.sector_log.specs.Storage.{storage_bytes};
-ghost use Rattle.image_report.specs.Reports.{IsGuardFound, IsSectorFound, IsStateFound, IsFound, void_in};
+ghost use Rattle.image_report.specs.Reports.{IsGuardFound, IsSectorFound, IsStateFound, IsFound};
+ghost use Rattle.image_report.specs.Reports.{void_in};
 ghost use Rattle.image_report.specs.Steps.Looks.{Looks};
 
 use flash_traits::{Board, Fault, LogError, Region};

@@ -21,9 +21,7 @@ use printed_text::{LINE_BYTES, Line, mark_name, push, push_number, region_name};
 use sector_image::{Images, Shape};
 use sector_log::Log;
 use std::alloc::Global;
-
-/// The bytes of the storage.
-const BYTES: usize = 15360;
+use storage_lines::STORAGE_BYTES;
 
 /// Room for five lines.
 const TEXT_BYTES: usize = 400;
@@ -179,7 +177,7 @@ pub fn report<B: Board, K: Sink>(
     ensures reads { OnlyReads B.Board board.old board.new }
 {
     let mut images = Images::new(alloc)?;
-    let mut buffer = vec![in alloc; 0u8; BYTES]?;
+    let mut buffer = vec![in alloc; 0u8; STORAGE_BYTES]?;
     let sector_bytes = board.geometry().sector_bytes;
     let findings = findings_of(board, &mut images, &mut buffer)?;
     write_report(out, sector_bytes, &findings)?;

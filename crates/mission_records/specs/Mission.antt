@@ -1,5 +1,6 @@
 -- The stored mission, and the line writes that change it.
-use Rattle.std.specs.Prelude.{ℕ, zero, suc, pos, negsuc, ◌+◌, ◌*◌, ◌/◌, ◌%◌, min, ◌==◌, nat_lt, List, [], ◌∷◌, ◌++◌, take, drop, slice_index, codes, if◌then◌else◌}
+use Rattle.std.specs.Prelude.{ℕ, zero, suc, pos, negsuc, ◌+◌, ◌*◌, ◌/◌, ◌%◌, min, ◌==◌, nat_lt}
+use Rattle.std.specs.Prelude.{List, [], ◌∷◌, ◌++◌, take, drop, slice_index, codes, if◌then◌else◌}
 use Rattle.std.specs.Str.{bytes_eq}
 use Rattle.storage_lines.specs.declared.areas.Area.TheVariants as area
 use Rattle.storage_lines.specs.declared.lines.LineWrite.{LineWrite}

@@ -1,5 +1,6 @@
 -- What the mission is while it is written.
-use Rattle.std.specs.Prelude.{◌≡◌, ◌≢◌, ◌⊎◌, ℕ, ◌+◌, ◌<◌, List, [], ◌∷◌, ◌++◌, length, take, Some, slice_get}
+use Rattle.std.specs.Prelude.{◌≡◌, ◌≢◌, ◌⊎◌, ℕ, ◌+◌, ◌<◌, List, [], ◌∷◌, ◌++◌, length, take, Some}
+use Rattle.std.specs.Prelude.{slice_get}
 use Rattle.storage_lines.specs.declared.lines.LineWrite.{LineWrite}
 use Rattle.storage_lines.specs.declared.lines.TheConstants.{STORAGE_BYTES}
 use Rattle.storage_lines.specs.declared.areas.Area.TheVariants.{Param}
@@ -10,11 +11,13 @@ use Rattle.storage_lines.specs.Pieces.{writes_of}
 use Rattle.param_tree.specs.declared.Var.{Var}
 use Rattle.param_tree.specs.Rows.{vehicle_rows}
 use Rattle.param_records.specs.Changes.{set_pieces, formatting, IsFull}
-use Rattle.param_records.specs.Steps.{HasMagic, IsKept, IsInOneLine, records_in_storage, place_of_row}
+use Rattle.param_records.specs.Steps.{HasMagic, IsKept, IsInOneLine, records_in_storage}
+use Rattle.param_records.specs.Steps.{place_of_row}
 use Rattle.mission_commands.specs.declared.commands.Command.{Command}
 use Rattle.mission_commands.specs.Storable.{IsStorable}
 use Rattle.mission_records.specs.declared.reading.TheConstants.{CAPACITY, TOTAL_INDEX}
-use Rattle.mission_records.specs.Mission.{version, total_row, mission_area, mission_of, total_writes, begin_writes, put_writes}
+use Rattle.mission_records.specs.Mission.{version, total_row, mission_area, mission_of}
+use Rattle.mission_records.specs.Mission.{total_writes, begin_writes, put_writes}
 
 -- storage bytes whose parameters are formatted
 pub record IsFormatted (bytes : List ℕ) : Type 0 where

@@ -1,5 +1,6 @@
 //! What the mission is while it is written, on functions that do nothing.
-ghost use Rattle.mission_records.specs.Steps.{ClearsInSteps, BeginsInSteps, PutsInSteps, SetsNoMission, OthersKeepMissions, FormatsInOneLine};
+ghost use Rattle.mission_records.specs.Steps.{ClearsInSteps, BeginsInSteps, PutsInSteps};
+ghost use Rattle.mission_records.specs.Steps.{SetsNoMission, OthersKeepMissions, FormatsInOneLine};
 
 /// Clearing write by write: the mission is the old one or empty.
 pub fn clears_in_steps()

@@ -1,6 +1,7 @@
 //! Reading the mission: how many commands it has, and which.
 ghost use Rattle.std.specs.Prelude.{◌≡◌, ◌<◌, ◌≤◌, ◌↔◌, min, length, IsNone, IsTrue, slice_get};
-ghost use Rattle.mission_records.specs.Mission.{mission_area, count_of, total_of, place_of_command, bytes_at, command_of, mission_of};
+ghost use Rattle.mission_records.specs.Mission.{mission_area, count_of, total_of, place_of_command};
+ghost use Rattle.mission_records.specs.Mission.{bytes_at, command_of, mission_of};
 ghost use Rattle.mission_records.specs.Steps.{HasVersion, IsTotalInOneLine};
 
 use mission_commands::Command;

@@ -1,6 +1,7 @@
 //! The line writes that begin a mission, put a command, or clear the mission. They come after those
 //! of the batch, and go over the storage with these applied.
-ghost use Rattle.std.specs.Prelude.{◌≡◌, ◌<◌, ◌≤◌, ◌+◌, ◌++◌, ◌↔◌, length, drop, OnOk, OnErr, IfErr, IsErr};
+ghost use Rattle.std.specs.Prelude.{◌≡◌, ◌<◌, ◌≤◌, ◌+◌, ◌++◌, ◌↔◌, length, drop, OnOk, OnErr};
+ghost use Rattle.std.specs.Prelude.{IfErr, IsErr};
 ghost use Rattle.arrayvec.specs.ArrayVec.{array_vec_len};
 ghost use Rattle.storage_lines.specs.declared.areas.Area.TheVariants.{Mission, Param};
 ghost use Rattle.storage_lines.specs.Areas.{size_of_area, logical_of};
@@ -12,7 +13,8 @@ ghost use Rattle.param_records.specs.Records.{end_of};
 ghost use Rattle.param_records.specs.Changes.{IsFull, SamePlaces};
 ghost use Rattle.param_records.specs.Steps.{records_in_storage};
 ghost use Rattle.mission_commands.specs.Storable.{IsStorable};
-ghost use Rattle.mission_records.specs.Mission.{total_row, command_bytes, mission_of, total_writes, begin_writes, put_writes};
+ghost use Rattle.mission_records.specs.Mission.{total_row, command_bytes, mission_of, total_writes};
+ghost use Rattle.mission_records.specs.Mission.{begin_writes, put_writes};
 ghost use Rattle.mission_records.specs.Steps.{IsFormatted, HasVersion, Clears, Begins, Puts};
 
 use crate::reading::{CAPACITY, COMMAND_BYTES, TOTAL_INDEX, VERSION, place_of_command};

@@ -5,13 +5,16 @@ use Rattle.mission_commands.specs.declared.commands.Item.{Item}
 use Rattle.mission_commands.specs.Commands.{IsItemOf}
 use Rattle.fence_records.specs.Results.{item_of}
 use Rattle.mav_messages.specs.declared.messages.Message.{Message}
-use Rattle.mav_messages.specs.declared.messages.Message.TheVariants.{MissionCount, MissionAck, MissionRequestInt, MissionItemInt}
+use Rattle.mav_messages.specs.declared.messages.Message.TheVariants.{MissionCount, MissionAck}
+use Rattle.mav_messages.specs.declared.messages.Message.TheVariants.{MissionRequestInt}
+use Rattle.mav_messages.specs.declared.messages.Message.TheVariants.{MissionItemInt}
 use Rattle.mav_messages.specs.declared.messages.Reply.{Reply}
 use Rattle.mav_messages.specs.declared.messages.Sender.{Sender}
 use Rattle.mav_messages.specs.declared.messages.To.TheVariants.{Station}
 use Rattle.storage_lines.specs.declared.lines.LineWrite.{LineWrite}
 use Rattle.mission_service.specs.Uploads.{Target, Missions}
-use Rattle.mission_service.specs.Service.{Content, Answer, Next, Total, MissionItem, FencePart, Told, Did}
+use Rattle.mission_service.specs.Service.{Content, Answer, Next, Total, MissionItem, FencePart}
+use Rattle.mission_service.specs.Service.{Told, Did}
 
 -- a reply goes to the system and component that its message came from
 abbrev pub target_of : Sender → Target

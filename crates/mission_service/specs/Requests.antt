@@ -1,12 +1,17 @@
 -- What a message asks of the missions.
-use Rattle.std.specs.Prelude.{◌≡◌, ℕ, ◌==◌, List, [], ◌∷◌, Option, Some, None, if◌then◌else◌, Result}
+use Rattle.std.specs.Prelude.{◌≡◌, ℕ, ◌==◌, List, [], ◌∷◌, Option, Some, None, if◌then◌else◌}
+use Rattle.std.specs.Prelude.{Result}
 use Rattle.mission_commands.specs.declared.commands.Item.{Item}
 use Rattle.mission_commands.specs.declared.commands.Command.{Command}
 use Rattle.mission_commands.specs.Results.{HasResult}
 use Rattle.fence_records.specs.declared.items.FenceItem.{FenceItem}
 use Rattle.fence_records.specs.Results.{HasFenceResult}
 use Rattle.mav_messages.specs.declared.messages.Message.{Message}
-use Rattle.mav_messages.specs.declared.messages.Message.TheVariants.{MissionRequest, MissionRequestList, MissionCount, MissionClearAll, MissionAck, MissionRequestInt, MissionItemInt}
+use Rattle.mav_messages.specs.declared.messages.Message.TheVariants.{MissionRequest}
+use Rattle.mav_messages.specs.declared.messages.Message.TheVariants.{MissionRequestList}
+use Rattle.mav_messages.specs.declared.messages.Message.TheVariants.{MissionCount, MissionClearAll}
+use Rattle.mav_messages.specs.declared.messages.Message.TheVariants.{MissionAck, MissionRequestInt}
+use Rattle.mav_messages.specs.declared.messages.Message.TheVariants.{MissionItemInt}
 use Rattle.param_service.specs.Requests.{is_for}
 use Rattle.mission_service.specs.Uploads.{MissionType, Mission, Fence, kinds, type_of}
 

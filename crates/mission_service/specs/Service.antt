@@ -1,6 +1,8 @@
 -- The mission protocol: what a request does to the uploads, which lines it writes, and what it
 -- tells.
-use Rattle.std.specs.Prelude.{ℕ, ◌+◌, Bool, false, not, ◌==◌, ◌&&◌, ◌||◌, nat_lt, nat_le, if◌then◌else◌, List, [], ◌∷◌, ◌++◌, length, slice_get, Option, Some, None, Result, Ok, Err}
+use Rattle.std.specs.Prelude.{ℕ, ◌+◌, Bool, false, not, ◌==◌, ◌&&◌, ◌||◌, nat_lt, nat_le}
+use Rattle.std.specs.Prelude.{if◌then◌else◌, List, [], ◌∷◌, ◌++◌, length, slice_get, Option, Some}
+use Rattle.std.specs.Prelude.{None, Result, Ok, Err}
 use Rattle.std.specs.Option.{option_map_or}
 use Rattle.storage_lines.specs.declared.lines.LineWrite.{LineWrite}
 use Rattle.storage_lines.specs.Lines.{after}
@@ -9,13 +11,19 @@ use Rattle.param_records.specs.Changes.{is_full}
 use Rattle.param_service.specs.Budget.{exceeds}
 use Rattle.mission_commands.specs.declared.commands.Command.{Command}
 use Rattle.mission_records.specs.declared.reading.TheConstants.{CAPACITY}
-use Rattle.mission_records.specs.Mission.{total_row, total_of, mission_of, total_writes, begin_writes, put_writes}
+use Rattle.mission_records.specs.Mission.{total_row, total_of, mission_of, total_writes}
+use Rattle.mission_records.specs.Mission.{begin_writes, put_writes}
 use Rattle.fence_records.specs.declared.items.FenceItem.{FenceItem}
 use Rattle.fence_records.specs.Lists as fence
 pub use Rattle.mission_service.specs.declared.replies.Content.{Content}
-pub use Rattle.mission_service.specs.declared.replies.Content.TheVariants.{Answer, Next, Total, MissionItem, FencePart}
-use Rattle.mission_service.specs.Uploads.{MissionType, Mission, Fence, kinds, Target, Upload, Uploads, Quiet, Open, Finished, Missions, uploads_of, with_uploads, number_of}
-use Rattle.mission_service.specs.Requests.{Given, ForMission, ForFence, type_of_given, Request, Begin, Give, Clear, Count, Show, Cancel, Unsupported, Asking, operation_cancelled}
+pub use Rattle.mission_service.specs.declared.replies.Content.TheVariants.{Answer, Next, Total}
+pub use Rattle.mission_service.specs.declared.replies.Content.TheVariants.{MissionItem, FencePart}
+use Rattle.mission_service.specs.Uploads.{MissionType, Mission, Fence, kinds, Target, Upload}
+use Rattle.mission_service.specs.Uploads.{Uploads, Quiet, Open, Finished, Missions, uploads_of}
+use Rattle.mission_service.specs.Uploads.{with_uploads, number_of}
+use Rattle.mission_service.specs.Requests.{Given, ForMission, ForFence, type_of_given, Request}
+use Rattle.mission_service.specs.Requests.{Begin, Give, Clear, Count, Show, Cancel, Unsupported}
+use Rattle.mission_service.specs.Requests.{Asking, operation_cancelled}
 
 -- MAV_MISSION_RESULT: the numbers of the answers that the protocol gives by itself
 abbrev pub accepted : ℕ

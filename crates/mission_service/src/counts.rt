@@ -2,7 +2,9 @@
 ghost use Rattle.std.specs.Prelude.{◌≡◌, ◌<◌, ◌≤◌, [], length};
 ghost use Rattle.arrayvec.specs.ArrayVec.{array_vec_len};
 ghost use Rattle.mission_service.specs.Uploads.{uploads_of, with_uploads};
-ghost use Rattle.mission_service.specs.Service.{is_anothers, any_anothers, all_quiet, most_of, first_writes, type_writes, clear_writes, cleared, begun, opened, does};
+ghost use Rattle.mission_service.specs.Service.{is_anothers, any_anothers, all_quiet, most_of};
+ghost use Rattle.mission_service.specs.Service.{first_writes, type_writes, clear_writes, cleared};
+ghost use Rattle.mission_service.specs.Service.{begun, opened, does};
 ghost use Rattle.mission_service.specs.Steps.Inside.{from_seen, types_seen};
 ghost use Rattle.mission_service.specs.Steps.Parts.{AreSafe};
 

@@ -8,6 +8,7 @@ ghost use Rattle.storage_lines.specs.declared.lines.TheConstants.{STORAGE_BYTES,
 ghost use Rattle.storage_lines.specs.Bytes.{AreInside};
 ghost use Rattle.storage_lines.specs.Lines.{after};
 ghost use Rattle.param_records.specs.Steps.{HasMagic};
+ghost use Rattle.param_service.specs.declared.TheConstants.{STATIONS};
 ghost use Rattle.mav_messages.specs.declared.messages.Reply.{Reply};
 ghost use Rattle.mission_service.specs.Uploads.{no_uploads};
 ghost use Rattle.mission_service.specs.Requests.{Asking, Asks};
@@ -29,6 +30,7 @@ use arrayvec::ArrayVec;
 use fence_records::FenceItem;
 pub use laws::{asks_one_thing, asks_what_fits};
 use mav_messages::{Message, Replies, Sender};
+use param_service::STATIONS;
 pub use replies::Content;
 use replies::{UNSUPPORTED, reply};
 pub use requests::MissionType;
@@ -37,9 +39,6 @@ use std::marker::Model;
 use storage_lines::{BATCH_LINES, Batch, STORAGE_BYTES};
 pub use uploads::Target;
 use uploads::{Asker, FENCE_ITEMS, Uploads};
-
-/// The stations that a vehicle tells apart.
-const STATIONS: usize = 8;
 
 /// The uploads of the mission and of the fence, with the items that came so far of a fence's open
 /// one.

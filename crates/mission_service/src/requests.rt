@@ -2,7 +2,8 @@
 ghost use Rattle.std.specs.Prelude.{◌≡◌, ◌==◌, None, if◌then◌else◌};
 ghost use Rattle.mission_service.specs.Uploads.{number_of, type_of};
 ghost use Rattle.mission_service.specs.Requests as asks;
-ghost use Rattle.mission_service.specs.Requests.{Asks, IsGiven, ask, of_type, if_for, if_supported, types_of, operation_cancelled};
+ghost use Rattle.mission_service.specs.Requests.{Asks, IsGiven, ask, of_type, if_for, if_supported};
+ghost use Rattle.mission_service.specs.Requests.{types_of, operation_cancelled};
 ghost use Rattle.mission_service.specs.Steps.Inside.{asking_seen, request_seen};
 
 use crate::replies::OPERATION_CANCELLED;

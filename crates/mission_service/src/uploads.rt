@@ -1,8 +1,10 @@
 //! What is known of the uploads of a type, and which item is the next one of an open upload.
 ghost use Rattle.std.specs.Prelude.{◌≡◌, ◌<◌, ◌≤◌, ◌+◌, ℕ, List, [], length};
 ghost use Rattle.fence_records.specs.declared.items.FenceItem.{FenceItem};
-ghost use Rattle.mission_service.specs.Service.{is_anothers, is_last, after_item, told_after, cancelled};
-ghost use Rattle.mission_service.specs.Steps.Inside.{uploads_seen, upload_seen, IsOpenRight, AreKept};
+ghost use Rattle.mission_service.specs.Service.{is_anothers, is_last, after_item, told_after};
+ghost use Rattle.mission_service.specs.Service.{cancelled};
+ghost use Rattle.mission_service.specs.Steps.Inside.{uploads_seen, upload_seen, IsOpenRight};
+ghost use Rattle.mission_service.specs.Steps.Inside.{AreKept};
 ghost use Rattle.mission_service.specs.Steps.Parts.{IsExpected};
 
 use crate::replies::{ACCEPTED, Content, DENIED, ERROR, INVALID_SEQUENCE};

@@ -1,5 +1,6 @@
 -- How many lines may still be issued while the vehicle is armed.
-use Rattle.std.specs.Prelude.{ℕ, Bool, false, nat_lt, if◌then◌else◌, List, [], length, Option, Some, None}
+use Rattle.std.specs.Prelude.{ℕ, Bool, false, nat_lt, if◌then◌else◌, List, [], length, Option, Some}
+use Rattle.std.specs.Prelude.{None}
 use Rattle.storage_lines.specs.declared.lines.LineWrite.{LineWrite}
 
 -- these are more lines than may be issued; where there is no limit, any may be

@@ -1,12 +1,15 @@
 -- What a message asks of the parameters.
-use Rattle.std.specs.Prelude.{◌≡◌, ℕ, zero, suc, ℤ, pos, negsuc, Bool, true, false, List, Option, Some, None, option_map, IfSome, nat_lt, nat_le, ◌==◌, ◌&&◌, if◌then◌else◌, slice_get, position}
+use Rattle.std.specs.Prelude.{◌≡◌, ℕ, zero, suc, ℤ, pos, negsuc, Bool, true, false, List, Option}
+use Rattle.std.specs.Prelude.{Some, None, option_map, IfSome, nat_lt, nat_le, ◌==◌, ◌&&◌}
+use Rattle.std.specs.Prelude.{if◌then◌else◌, slice_get, position}
 use Rattle.std.specs.List.{before_first}
 use Rattle.param_tree.specs.declared.Var.{Var}
 use Rattle.param_tree.specs.Rules.{has_name}
 use Rattle.param_tree.specs.Rows.{vehicle_rows}
 use Rattle.param_records.specs.Patterns.{IsNumberOf}
 use Rattle.mav_messages.specs.declared.messages.Message.{Message}
-use Rattle.mav_messages.specs.declared.messages.Message.TheVariants.{ParamRequestRead, ParamRequestList, ParamSet}
+use Rattle.mav_messages.specs.declared.messages.Message.TheVariants.{ParamRequestRead}
+use Rattle.mav_messages.specs.declared.messages.Message.TheVariants.{ParamRequestList, ParamSet}
 
 -- how many parameters the vehicle has
 abbrev pub parameters : ℕ

@@ -1,6 +1,7 @@
 -- The parameter protocol: what a request does to the lists that are being sent, which lines it
 -- writes, and what it shows.
-use Rattle.std.specs.Prelude.{ℕ, ◌+◌, ◌-◌, min, Bool, List, [], ◌∷◌, replicate, Option, Some, None, ◌||◌, if◌then◌else◌, codes, slice_get, slice_set, slice_index}
+use Rattle.std.specs.Prelude.{ℕ, ◌+◌, ◌-◌, min, Bool, List, [], ◌∷◌, replicate, Option, Some, None}
+use Rattle.std.specs.Prelude.{◌||◌, if◌then◌else◌, codes, slice_get, slice_set, slice_index}
 use Rattle.std.specs.List.{flat_map, range_with_len}
 use Rattle.std.specs.Option.{option_map_or}
 use Rattle.param_tree.specs.declared.Var.{Var}

@@ -2,12 +2,14 @@
 //! parameters.
 #![tactic(auto)]
 
-ghost use Rattle.std.specs.Prelude.{◌≡◌, ◌<◌, ◌≤◌, ◌↔◌, [], All, IsTrue, false, length, take, slice_index, ℕ, List, Option, option_map};
+ghost use Rattle.std.specs.Prelude.{◌≡◌, ◌<◌, ◌≤◌, ◌↔◌, [], All, IsTrue, false, length, take};
+ghost use Rattle.std.specs.Prelude.{slice_index, ℕ, List, Option, option_map};
 ghost use Rattle.storage_lines.specs.declared.lines.TheConstants.{STORAGE_BYTES, LINES};
 ghost use Rattle.storage_lines.specs.Lines.{after};
 ghost use Rattle.param_tree.specs.Rows.{vehicle_rows};
 ghost use Rattle.param_records.specs.Steps.{HasMagic};
-ghost use Rattle.param_service.specs.Requests.{Request, Show, Asks, IsSetting, parameters, row_of, row_named};
+ghost use Rattle.param_service.specs.Requests.{Request, Show, Asks, IsSetting, parameters, row_of};
+ghost use Rattle.param_service.specs.Requests.{row_named};
 ghost use Rattle.param_service.specs.Service.{no_lists, did, streamed};
 ghost use Rattle.param_service.specs.State.{State, IsIndexed};
 ghost use Rattle.param_index.specs.Places.{IsIndexOf};
@@ -33,7 +35,7 @@ use std::marker::Model;
 use storage_lines::Batch;
 
 /// The stations that a vehicle tells apart.
-const STATIONS: usize = 8;
+pub const STATIONS: usize = 8;
 
 /// How many values of a list are sent at once.
 const STRETCH: u16 = 8;

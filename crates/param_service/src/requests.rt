@@ -2,7 +2,8 @@
 //! lack its zeros.
 ghost use Rattle.std.specs.Prelude.{◌≡◌, ◌<◌, IfSome};
 ghost use Rattle.param_tree.specs.Rows.{vehicle_rows};
-ghost use Rattle.param_service.specs.Requests.{is_for, parameters, row_named, row_of, sets_parameter};
+ghost use Rattle.param_service.specs.Requests.{is_for, parameters, row_named, row_of};
+ghost use Rattle.param_service.specs.Requests.{sets_parameter};
 
 use mav_messages::Message;
 use param_tree::{Table, name_in};

@@ -1,6 +1,7 @@
 //! Setting a row as a station asks for it: to a value of its kind, and never how many commands or
 //! points there are.
-ghost use Rattle.std.specs.Prelude.{◌≡◌, ◌<◌, ◌≤◌, [], ℕ, All, length, take, slice_get, IfSome, None};
+ghost use Rattle.std.specs.Prelude.{◌≡◌, ◌<◌, ◌≤◌, [], ℕ, All, length, take, slice_get, IfSome};
+ghost use Rattle.std.specs.Prelude.{None};
 ghost use Rattle.storage_lines.specs.declared.lines.TheConstants.{STORAGE_BYTES, LINES};
 ghost use Rattle.storage_lines.specs.Lines.{after};
 ghost use Rattle.param_tree.specs.Rows.{vehicle_rows};

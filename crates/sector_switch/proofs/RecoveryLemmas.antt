@@ -1,6 +1,6 @@
 -- What a survey finds, and what the recovery behind it makes of the image.
 use Rattle.std.proofs.Common.{◌≡◌, ℕ, ◌*◌, ◌≤◌, true, Option, List, [], ◌++◌, refl, sym, ◌∙◌, ap, subst, arith}
-use Rattle.std.specs.Prelude.{Result, Ok, Err, IfOk, IfErr}
+use Rattle.std.specs.Prelude.{Result, Ok, Err, IfOk, IfErr, IsErrAnd}
 use Rattle.std.proofs.lemmas.List.{append-nil}
 use Rattle.std.proofs.lemmas.List.Elements.{All-nil}
 use Rattle.guard_row.specs.Home.{first_of}
@@ -21,6 +21,8 @@ use Rattle.flash_traits.proofs.Moments.{first_words, chained_words}
 use Rattle.sector_image.specs.declared.kept.Kept.{Kept}
 use Rattle.sector_image.specs.declared.kept.Shape.{Shape}
 use Rattle.sector_image.specs.declared.kept.Shape.TheVariants.{Alone, Marked, Spilled, Voided}
+use Rattle.sector_switch.specs.declared.spilled_state.SwitchError.{SwitchError}
+use Rattle.sector_switch.specs.declared.spilled_state.SwitchError.TheVariants as switch_error
 use Rattle.sector_switch.specs.declared.recovery.RecoverError.{RecoverError}
 use Rattle.sector_switch.specs.declared.recovery.RecoverError.TheVariants as errors
 use Rattle.sector_image.specs.Images.{Bytes}
@@ -28,7 +30,8 @@ use Rattle.sector_image.specs.Stands.{Reading, Both, One, Reads, count_in, count
 use Rattle.sector_image.specs.Losses.{KeepsBytes}
 use Rattle.sector_image.specs.Fits.{FitsShape, torn_chunk, left_chunks}
 use Rattle.sector_switch.specs.States.{guard_after, is_full, taken_of, FilledFromZeros, HomeAfter}
-use Rattle.sector_switch.specs.Refusals.{OnWorn}
+use Rattle.sector_switch.specs.Refusals.{OnSwitchWorn, OnWorn}
+use Rattle.sector_switch.specs.Steps.Errors.{error_of_switch}
 use Rattle.sector_image.proofs.ImageLaws.{one_reading}
 use Rattle.sector_image.proofs.Standing.{keeps_all, copied_is}
 
@@ -73,6 +76,16 @@ worn_through (Ok x) P Q more is = tt
 worn_through (Err (errors.Fault kind)) P Q more is = tt
 worn_through (Err (errors.Foreign region offset word)) P Q more is = tt
 worn_through (Err (errors.Worn count)) P Q more is = more count is
+
+-- what a switch says where the guard row is used up, the error of it says
+worn_kept : (P Q : ℕ → Type 0) (e : SwitchError) → ((n : ℕ) → P n → Q n) → OnSwitchWorn e P → OnWorn (error_of_switch e) Q
+worn_kept P Q (switch_error.Fault kind) weaker is = tt
+worn_kept P Q (switch_error.Worn count) weaker is = weaker count is
+
+pub worn_by : {T : Type 0} (P Q : ℕ → Type 0) (e : SwitchError) (r : Result T RecoverError) → ((n : ℕ) → P n → Q n)
+    → IsErrAnd r (λ o. o ≡ error_of_switch e) → OnSwitchWorn e P → IfErr r (λ o. OnWorn o Q)
+worn_by P Q e (Ok x) weaker is worn = tt
+worn_by P Q e (Err o) weaker is worn = subst (λ (x : RecoverError). OnWorn x Q) (sym is) (worn_kept P Q e weaker worn)
 
 -- what home has at the end, by what a survey found
 home_after : {B : Type 0} (g : Ghosts B) (b : B) (name : Shape) (kept : Kept) (images : Bytes) (alone : Kept) → FitsShape name g b kept images → g.tells b

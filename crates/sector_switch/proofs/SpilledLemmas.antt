@@ -4,6 +4,7 @@ use Rattle.std.specs.Prelude.{All}
 use Rattle.std.specs.Option.{option_and_then, is_some}
 use Rattle.std.proofs.lemmas.Bool.{cases_Bool}
 use Rattle.std.proofs.lemmas.List.Elements.{All-append, All-push}
+use Rattle.flash_traits.specs.Budget.{chunks, copy_bytes}
 use Rattle.flash_traits.specs.Words.{Words, halfwords_in, with_halfwords, HasShape, bytes_of, halfwords_of}
 use Rattle.flash_traits.specs.declared.board.Region.{Region}
 use Rattle.flash_traits.specs.declared.board.Mark.TheVariants.{InUse, Full}
@@ -70,7 +71,7 @@ module _ (size : ℕ) (kept : Kept) (log : Log) (images : Bytes) (rules : TwoLog
   one_size : length whole ≡ length upper
   one_size = omega (arith, rules.home.whole_size, rules.home.upper_size)
 
-  all_chunks : 64 * 240 ≤ length upper
+  all_chunks : 64 * chunks ≤ length upper
   all_chunks = omega (arith, rules.home.upper_size)
 
   long : 2 * length (halfwords_in w r) ≡ size
@@ -78,7 +79,7 @@ module _ (size : ℕ) (kept : Kept) (log : Log) (images : Bytes) (rules : TwoLog
 
   -- the other sector has these entries
   reads_with : (hw : List ℕ) (es : List Entry) (value above : List ℕ) → length hw ≡ length (halfwords_in w r) → IsSector hw InUse es → IsValue (told.home ++ es) value → IsValue es above
-      → 66 * left_to_copy value above (finishing value es) + 2 * end_of es ≤ size → IsBoth (with_halfwords w r hw) kept.guard Full InUse told.home es
+      → copy_bytes * left_to_copy value above (finishing value es) + 2 * end_of es ≤ size → IsBoth (with_halfwords w r hw) kept.guard Full InUse told.home es
   reads_with hw es value above same sector is over room =
       reads_spilled (with_halfwords w r hw) kept.guard told.home es value above
       (subst (λ (l : List ℕ). IsGuardRow l kept.guard) (sym (guard_kept w r hw (second_sector kept.guard))) told.reads.guard)
@@ -88,15 +89,15 @@ module _ (size : ℕ) (kept : Kept) (log : Log) (images : Bytes) (rules : TwoLog
       is over (omega (arith, room, ap length (row-with_row w r hw), same, long))
 
   stands_with : (hw : List ℕ) (es : List Entry) (value above : List ℕ) → length hw ≡ length (halfwords_in w r) → IsSector hw InUse es → IsValue (told.home ++ es) value → IsValue es above
-      → 66 * left_to_copy value above (finishing value es) + 2 * end_of es ≤ size → Stands (with_halfwords w r hw) value
+      → copy_bytes * left_to_copy value above (finishing value es) + 2 * end_of es ≤ size → Stands (with_halfwords w r hw) value
   stands_with hw es value above same sector is over room = (Both kept.guard Full InUse told.home es, reads_with hw es value above same sector is over room, is)
 
   words_with : (hw : List ℕ) (es : List Entry) (value above : List ℕ) (next : Log) → length hw ≡ length (halfwords_in w r) → IsSector hw InUse es → IsLogOf next r InUse es → IsValue (told.home ++ es) value → IsValue es above
-      → finishing value es ≡ None → 66 * left_to_copy value above None + 2 * end_of es ≤ size → TwoLogWords (with_other kept next) next (both_bytes value above) (with_halfwords w r hw)
+      → finishing value es ≡ None → copy_bytes * left_to_copy value above None + 2 * end_of es ≤ size → TwoLogWords (with_other kept next) next (both_bytes value above) (with_halfwords w r hw)
   words_with hw es value above next same sector of is over none room = record {
     home = told.home;
     other = es;
-    reads = reads_with hw es value above same sector is over (subst (λ (f : Option ℕ). 66 * left_to_copy value above f + 2 * end_of es ≤ size) (sym none) room);
+    reads = reads_with hw es value above same sector is over (subst (λ (f : Option ℕ). copy_bytes * left_to_copy value above f + 2 * end_of es ≤ size) (sym none) room);
     home_log = told.home_log;
     other_log = of;
     whole = is;
@@ -113,8 +114,8 @@ module _ (size : ℕ) (kept : Kept) (log : Log) (images : Bytes) (rules : TwoLog
   finishing_now : finishing whole told.other ≡ torn_chunk kept.completable log
   finishing_now = finishing_is whole told.other log kept.completable told.other_log.torn told.completable
 
-  room_now : 66 * left_to_copy whole upper (finishing whole told.other) + 2 * end_of told.other ≤ size
-  room_now = subst (λ (f : Option ℕ). 66 * left_to_copy whole upper f + 2 * end_of told.other ≤ size) (sym finishing_now) (omega (arith, rules.room, told.other_log.end))
+  room_now : copy_bytes * left_to_copy whole upper (finishing whole told.other) + 2 * end_of told.other ≤ size
+  room_now = subst (λ (f : Option ℕ). copy_bytes * left_to_copy whole upper f + 2 * end_of told.other ≤ size) (sym finishing_now) (omega (arith, rules.room, told.other_log.end))
 
   second_here : IsSector (halfwords_in w log.region) InUse told.other
   second_here = subst (λ (q : Region). IsSector (halfwords_in w q) InUse told.other) (sym rules.region) told.reads.second
@@ -126,7 +127,7 @@ module _ (size : ℕ) (kept : Kept) (log : Log) (images : Bytes) (rules : TwoLog
   size_here hw same = same ∙ ap (λ (q : Region). length (halfwords_in w q)) rules.region
 
   -- a chunk is copied
-  module _ (c : ℕ) (lt : c < 240) (left : is_left whole upper None c ≡ true) (plain : kept.completable ≡ false) (small : (k : ℕ) → get_or (chunk_at whole c) k 0 < 256) where
+  module _ (c : ℕ) (lt : c < chunks) (left : is_left whole upper None c ≡ true) (plain : kept.completable ≡ false) (small : (k : ℕ) → get_or (chunk_at whole c) k 0 < 256) where
     abbrev content : List ℕ
     content = halfwords_of (chunk_at whole c)
 
@@ -139,8 +140,8 @@ module _ (size : ℕ) (kept : Kept) (log : Log) (images : Bytes) (rules : TwoLog
     lines : length (chunk_at whole c) / 8 ≡ 8
     lines = ap (λ (n : ℕ). n / 8) (length_chunk whole c fits)
 
-    room : 66 * left_to_copy whole upper None + 2 * end_of told.other ≤ size
-    room = subst (λ (f : Option ℕ). 66 * left_to_copy whole upper f + 2 * end_of told.other ≤ size) (finishing_now ∙ ap (λ (b : Bool). torn_chunk b log) plain) room_now
+    room : copy_bytes * left_to_copy whole upper None + 2 * end_of told.other ≤ size
+    room = subst (λ (f : Option ℕ). copy_bytes * left_to_copy whole upper f + 2 * end_of told.other ≤ size) (finishing_now ∙ ap (λ (b : Bool). torn_chunk b log) plain) room_now
 
     torn_entry : (hw old : List ℕ) → length hw ≡ length (halfwords_in w r) → programmable old content ≡ true → IsSector hw InUse (told.other ++ entry_of 1 (8 * c) 8 old ∷ []) → Stands (with_halfwords w r hw) whole
     torn_entry hw old same can sector =
@@ -148,9 +149,9 @@ module _ (size : ℕ) (kept : Kept) (log : Log) (images : Bytes) (rules : TwoLog
         let entry = (all_init told.other e sector.each).1 in
         let values = torn_values told.home told.other whole upper told.reads.first.each told.reads.second.each told.whole told.upper e entry refl in
         let finish = finishing_torn whole told.other c old can in
-        let falls = torn_falls 240 whole upper one_size all_chunks c lt left in
+        let falls = torn_falls chunks whole upper one_size all_chunks c lt left in
         stands_with hw (told.other ++ e ∷ []) whole upper same sector values.0 values.1
-        (subst (λ (f : Option ℕ). 66 * left_to_copy whole upper f + 2 * end_of (told.other ++ e ∷ []) ≤ size) (sym finish) (omega (arith, falls, room, end_push told.other e, entry.whole)))
+        (subst (λ (f : Option ℕ). copy_bytes * left_to_copy whole upper f + 2 * end_of (told.other ++ e ∷ []) ≤ size) (sym finish) (omega (arith, falls, room, end_push told.other e, entry.whole)))
 
     valid_entry : (hw : List ℕ) → length hw ≡ length (halfwords_in w r) → IsSector hw InUse (told.other ++ entry_of 0 (8 * c) 8 content ∷ [])
         → TwoLogWords (with_other kept (appended log 8)) (appended log 8) (both_bytes whole upper_then) (with_halfwords w r hw)
@@ -158,7 +159,7 @@ module _ (size : ℕ) (kept : Kept) (log : Log) (images : Bytes) (rules : TwoLog
         let e = entry_of 0 (8 * c) 8 content in
         let entry = (all_init told.other e sector.each).1 in
         let values = valid_values told.home told.other whole upper told.reads.first.each told.reads.second.each told.whole told.upper e entry refl in
-        let falls = copied_falls 240 whole upper one_size all_chunks c lt left in
+        let falls = copied_falls chunks whole upper one_size all_chunks c lt left in
         words_with hw (told.other ++ e ∷ []) whole upper_then (appended log 8) same sector
         (appended_log log r InUse told.other (8 * c) 8 content told.other_log entry.whole)
         (subst (λ (l : List ℕ). IsValue (told.home ++ (told.other ++ e ∷ [])) l) (chunk_put whole whole c fits small ∙ put_chunk_same whole c fits) values.0)
@@ -185,7 +186,7 @@ module _ (size : ℕ) (kept : Kept) (log : Log) (images : Bytes) (rules : TwoLog
         subst (λ (u : Words). TwoLogWords (with_other kept (appended log 8)) (appended log 8) (both_bytes whole upper_then) u) (sym (row_here v at.halfwords at.whole)) (valid_entry at.halfwords (size_here at.halfwords at.same_length) here)
 
   -- the completable torn last entry is completed
-  module _ (c : ℕ) (lt : c < 240) (chunk : torn_chunk kept.completable log ≡ Some c) (small : (k : ℕ) → get_or (chunk_at whole c) k 0 < 256) where
+  module _ (c : ℕ) (lt : c < chunks) (chunk : torn_chunk kept.completable log ≡ Some c) (small : (k : ℕ) → get_or (chunk_at whole c) k 0 < 256) where
     abbrev wanted : List ℕ
     wanted = halfwords_of (chunk_at whole c)
 
@@ -214,8 +215,8 @@ module _ (size : ℕ) (kept : Kept) (log : Log) (images : Bytes) (rules : TwoLog
           without_torn last.0 e upper init_each (All-push IsEntry last.0 e init_each old_entry) refl (subst (λ (es : List Entry). IsValue es upper) last.2 told.upper),
         )
 
-    room_last : 66 * left_to_copy whole upper (Some c) + 2 * end_of told.other ≤ size
-    room_last = subst (λ (f : Option ℕ). 66 * left_to_copy whole upper f + 2 * end_of told.other ≤ size) (finishing_now ∙ chunk) room_now
+    room_last : copy_bytes * left_to_copy whole upper (Some c) + 2 * end_of told.other ≤ size
+    room_last = subst (λ (f : Option ℕ). copy_bytes * left_to_copy whole upper f + 2 * end_of told.other ≤ size) (finishing_now ∙ chunk) room_now
 
     end_last : (state : ℕ) (words : List ℕ) → length words ≡ 32 → end_of (last.0 ++ entry_of state (8 * c) 8 words ∷ []) ≡ end_of told.other
     end_last state words many =
@@ -228,7 +229,7 @@ module _ (size : ℕ) (kept : Kept) (log : Log) (images : Bytes) (rules : TwoLog
         let entry = (all_init last.0 e sector.each).1 in
         let values = torn_values told.home last.0 whole upper told.reads.first.each init_each base.0 base.1 e entry refl in
         stands_with hw (last.0 ++ e ∷ []) whole upper same sector values.0 values.1
-        (subst (λ (f : Option ℕ). 66 * left_to_copy whole upper f + 2 * end_of (last.0 ++ e ∷ []) ≤ size) (sym (finishing_torn whole last.0 c old can)) (omega (arith, room_last, end_last 1 old entry.whole)))
+        (subst (λ (f : Option ℕ). copy_bytes * left_to_copy whole upper f + 2 * end_of (last.0 ++ e ∷ []) ≤ size) (sym (finishing_torn whole last.0 c old can)) (omega (arith, room_last, end_last 1 old entry.whole)))
 
     completed : (hw : List ℕ) → length hw ≡ length (halfwords_in w r) → IsSector hw InUse (last.0 ++ entry_of 0 (8 * c) 8 wanted ∷ [])
         → TwoLogWords (with_other kept (finished log)) (finished log) (both_bytes whole upper_done) (with_halfwords w r hw)
@@ -236,7 +237,7 @@ module _ (size : ℕ) (kept : Kept) (log : Log) (images : Bytes) (rules : TwoLog
         let e = entry_of 0 (8 * c) 8 wanted in
         let entry = (all_init last.0 e sector.each).1 in
         let values = valid_values told.home last.0 whole upper told.reads.first.each init_each base.0 base.1 e entry refl in
-        let falls = finished_le 240 whole upper one_size all_chunks c lt in
+        let falls = finished_le chunks whole upper one_size all_chunks c lt in
         let many : length wanted ≡ length last.1 = entry.whole ∙ sym old_entry.whole in
         words_with hw (last.0 ++ e ∷ []) whole upper_done (finished log) same sector
         (finished_log log r InUse last.0 (8 * c) 8 last.1 wanted (subst (λ (es : List Entry). IsLogOf log r InUse es) last.2 told.other_log) many)
@@ -266,7 +267,7 @@ module _ (size : ℕ) (kept : Kept) (log : Log) (images : Bytes) (rules : TwoLog
 
   -- a caller's entry is put: it takes so many bytes that 66 for each chunk, and for one more, are left
   module _ (first n : ℕ) (bytes : List ℕ) (lines : length bytes ≡ 8 * n) (inside : 8 * first + length bytes ≤ length whole) (small : (k : ℕ) → get_or bytes k 0 < 256)
-      (room : 66 * left_to_copy whole upper (torn_chunk kept.completable log) + 66 + 2 + length bytes + 2 * log.end ≤ size) where
+      (room : copy_bytes * left_to_copy whole upper (torn_chunk kept.completable log) + copy_bytes + 2 + length bytes + 2 * log.end ≤ size) where
     abbrev given : List ℕ
     given = halfwords_of bytes
 
@@ -285,8 +286,8 @@ module _ (size : ℕ) (kept : Kept) (log : Log) (images : Bytes) (rules : TwoLog
     same_bytes : bytes_of given ≡ bytes
     same_bytes = bytes_of_halfwords (4 * n) bytes (omega (arith, lines)) small
 
-    room_before : 66 * left_to_copy whole upper (finishing whole told.other) + 66 + 2 + length bytes + 2 * end_of told.other ≤ size
-    room_before = subst (λ (f : Option ℕ). 66 * left_to_copy whole upper f + 66 + 2 + length bytes + 2 * end_of told.other ≤ size) (sym finishing_now) (omega (arith, room, told.other_log.end))
+    room_before : copy_bytes * left_to_copy whole upper (finishing whole told.other) + copy_bytes + 2 + length bytes + 2 * end_of told.other ≤ size
+    room_before = subst (λ (f : Option ℕ). copy_bytes * left_to_copy whole upper f + copy_bytes + 2 + length bytes + 2 * end_of told.other ≤ size) (sym finishing_now) (omega (arith, room, told.other_log.end))
 
     put_words : (hw : List ℕ) → length hw ≡ length (halfwords_in w r) → IsSector hw InUse (told.other ++ entry_of 0 first many given ∷ [])
         → TwoLogWords (with_other kept (appended log many)) (appended log many) (both_bytes value_new upper_new) (with_halfwords w r hw)
@@ -294,7 +295,7 @@ module _ (size : ℕ) (kept : Kept) (log : Log) (images : Bytes) (rules : TwoLog
         let e = entry_of 0 first many given in
         let entry = (all_init told.other e sector.each).1 in
         let values = valid_values told.home told.other whole upper told.reads.first.each told.reads.second.each told.whole told.upper e entry refl in
-        let falls = both_le 240 whole upper one_size all_chunks (8 * first) bytes (finishing whole told.other) (omega (arith, inside, one_size)) in
+        let falls = both_le chunks whole upper one_size all_chunks (8 * first) bytes (finishing whole told.other) (omega (arith, inside, one_size)) in
         words_with hw (told.other ++ e ∷ []) value_new upper_new (appended log many) same sector
         (appended_log log r InUse told.other first many given told.other_log entry.whole)
         (subst (λ (l : List ℕ). IsValue (told.home ++ (told.other ++ e ∷ [])) l) (ap (λ (b : List ℕ). put (8 * first) b whole) same_bytes) values.0)
@@ -320,7 +321,7 @@ module _ (size : ℕ) (kept : Kept) (log : Log) (images : Bytes) (rules : TwoLog
                   end_push told.other e,
                   entry.whole,
                   eight,
-                  other_torn 240 whole upper one_size all_chunks (finishing whole told.other) (finishing whole (told.other ++ e ∷ [])),
+                  other_torn chunks whole upper one_size all_chunks (finishing whole told.other) (finishing whole (told.other ++ e ∷ [])),
                 )))
             | inr valid ↦ let there = put_words at.halfwords same valid in inr (Both kept.guard Full InUse there.home there.other, there.reads, there.whole)
           ]
@@ -342,12 +343,12 @@ module _ (size : ℕ) (kept : Kept) (log : Log) (images : Bytes) (rules : TwoLog
   size_of_both : length images.whole ≡ length images.upper
   size_of_both = omega (arith, rules.home.whole_size, rules.home.upper_size)
 
-  chunks_of_all : 64 * 240 ≤ length images.upper
+  chunks_of_all : 64 * chunks ≤ length images.upper
   chunks_of_all = omega (arith, rules.home.upper_size)
 
   -- the same state with another log of the other sector, and other bytes
   with_log : (next : Log) (value above : List ℕ) → length value ≡ length images.whole → length above ≡ length images.upper → next.region ≡ log.region → next.mark ≡ log.mark
-      → IsLogIn (size / 2) next → 66 * left_to_copy value above None + 2 * next.end ≤ size → TwoLogRules size (with_other kept next) next (both_bytes value above)
+      → IsLogIn (size / 2) next → copy_bytes * left_to_copy value above None + 2 * next.end ≤ size → TwoLogRules size (with_other kept next) next (both_bytes value above)
   with_log next value above same_whole same_upper region mark inside room = record {
     home = record {
       attached = rules.home.attached;
@@ -368,45 +369,45 @@ module _ (size : ℕ) (kept : Kept) (log : Log) (images : Bytes) (rules : TwoLog
     room = room;
   }
 
-  same_put : (c : ℕ) → c < 240 → length (put (64 * c) (chunk_at images.whole c) images.upper) ≡ length images.upper
+  same_put : (c : ℕ) → c < chunks → length (put (64 * c) (chunk_at images.whole c) images.upper) ≡ length images.upper
   same_put c lt = length_put (64 * c) (chunk_at images.whole c) images.upper (omega (arith, length_chunk images.whole c (omega (arith, rules.home.whole_size)), rules.home.upper_size))
 
-  room_plain : kept.completable ≡ false → 66 * left_to_copy images.whole images.upper None + 2 * log.end ≤ size
-  room_plain plain = subst (λ (f : Option ℕ). 66 * left_to_copy images.whole images.upper f + 2 * log.end ≤ size) (ap (λ (b : Bool). torn_chunk b log) plain) rules.room
+  room_plain : kept.completable ≡ false → copy_bytes * left_to_copy images.whole images.upper None + 2 * log.end ≤ size
+  room_plain plain = subst (λ (f : Option ℕ). copy_bytes * left_to_copy images.whole images.upper f + 2 * log.end ≤ size) (ap (λ (b : Bool). torn_chunk b log) plain) rules.room
 
-  pub copy_fits : (c : ℕ) → c < 240 → is_left images.whole images.upper None c ≡ true → kept.completable ≡ false → log.end + 33 ≤ size / 2
-  copy_fits c lt left plain = omega (arith, torn_falls 240 images.whole images.upper size_of_both chunks_of_all c lt left, room_plain plain)
+  pub copy_fits : (c : ℕ) → c < chunks → is_left images.whole images.upper None c ≡ true → kept.completable ≡ false → log.end + 33 ≤ size / 2
+  copy_fits c lt left plain = omega (arith, torn_falls chunks images.whole images.upper size_of_both chunks_of_all c lt left, room_plain plain)
 
-  pub rules_copy : (c : ℕ) → c < 240 → is_left images.whole images.upper None c ≡ true → kept.completable ≡ false
+  pub rules_copy : (c : ℕ) → c < chunks → is_left images.whole images.upper None c ≡ true → kept.completable ≡ false
       → TwoLogRules size (with_other kept (appended log 8)) (appended log 8) (both_bytes images.whole (put (64 * c) (chunk_at images.whole c) images.upper))
   rules_copy c lt left plain =
-      let falls = copied_falls 240 images.whole images.upper size_of_both chunks_of_all c lt left in
+      let falls = copied_falls chunks images.whole images.upper size_of_both chunks_of_all c lt left in
       let room = room_plain plain in
       let counts = rules.other_log.counts in
       with_log (appended log 8) images.whole (put (64 * c) (chunk_at images.whole c) images.upper) refl (same_put c lt) refl refl
       (record { sector = rules.other_log.sector; within = omega (arith, falls, room); counts = omega (arith, counts); torn = tt; counted = λ some. absurd (cc) }) (omega (arith, falls, room))
 
-  pub rules_finish : (c : ℕ) → c < 240 → torn_chunk kept.completable log ≡ Some c → 1 ≤ log.gaps
+  pub rules_finish : (c : ℕ) → c < chunks → torn_chunk kept.completable log ≡ Some c → 1 ≤ log.gaps
       → TwoLogRules size (with_other kept (finished log)) (finished log) (both_bytes images.whole (put (64 * c) (chunk_at images.whole c) images.upper))
   rules_finish c lt chunk counted =
-      let falls = finished_le 240 images.whole images.upper size_of_both chunks_of_all c lt in
-      let room = subst (λ (f : Option ℕ). 66 * left_to_copy images.whole images.upper f + 2 * log.end ≤ size) chunk rules.room in
+      let falls = finished_le chunks images.whole images.upper size_of_both chunks_of_all c lt in
+      let room = subst (λ (f : Option ℕ). copy_bytes * left_to_copy images.whole images.upper f + 2 * log.end ≤ size) chunk rules.room in
       let counts = rules.other_log.counts in
       with_log (finished log) images.whole (put (64 * c) (chunk_at images.whole c) images.upper) refl (same_put c lt) refl refl
       (record { sector = rules.other_log.sector; within = rules.other_log.within; counts = omega (arith, counts); torn = tt; counted = λ some. absurd (cc) }) (omega (arith, falls, room))
 
   module _ (first n : ℕ) (bytes : List ℕ) (lines : length bytes ≡ 8 * n) (inside : 8 * first + length bytes ≤ length images.whole) where
     pub put_less : left_to_copy (put (8 * first) bytes images.whole) (put (8 * first) bytes images.upper) None ≤ left_to_copy images.whole images.upper (torn_chunk kept.completable log) + 1
-    put_less = both_le 240 images.whole images.upper size_of_both chunks_of_all (8 * first) bytes (torn_chunk kept.completable log) (omega (arith, inside, size_of_both))
+    put_less = both_le chunks images.whole images.upper size_of_both chunks_of_all (8 * first) bytes (torn_chunk kept.completable log) (omega (arith, inside, size_of_both))
 
     -- no more is left to copy than before, counting the chunk of a completable torn last entry again
     pub put_left : left_to_copy (put (8 * first) bytes images.whole) (put (8 * first) bytes images.upper) None ≤ left_in kept images
     put_left = elim (cases_Bool kept.completable) [
       | inl torn ↦ omega (arith, put_less, left_torn kept log images rules.other torn)
-      | inr plain ↦ omega (arith, both_none 240 images.whole images.upper size_of_both chunks_of_all (8 * first) bytes (omega (arith, inside, size_of_both)), left_plain kept images plain)
+      | inr plain ↦ omega (arith, both_none chunks images.whole images.upper size_of_both chunks_of_all (8 * first) bytes (omega (arith, inside, size_of_both)), left_plain kept images plain)
     ]
 
-    pub rules_put : 66 * left_to_copy images.whole images.upper (torn_chunk kept.completable log) + 66 + 2 + length bytes + 2 * log.end ≤ size
+    pub rules_put : copy_bytes * left_to_copy images.whole images.upper (torn_chunk kept.completable log) + copy_bytes + 2 + length bytes + 2 * log.end ≤ size
         → TwoLogRules size (with_other kept (appended log (length bytes / 8))) (appended log (length bytes / 8)) (both_bytes (put (8 * first) bytes images.whole) (put (8 * first) bytes images.upper))
     rules_put room =
         let counts = rules.other_log.counts in

@@ -1,6 +1,8 @@
 -- What the switch goes through, and what its calls make of what a state keeps.
-use Rattle.std.specs.Prelude.{◌≡◌, ◌≤◌, ℕ, ◌+◌, ◌-◌, ◌*◌, List, length, All, if◌then◌else◌, Bool, true, false, Some, None}
+use Rattle.std.specs.Prelude.{◌≡◌, ◌≤◌, ℕ, ◌+◌, ◌-◌, ◌*◌, List, length, All, if◌then◌else◌, Bool}
+use Rattle.std.specs.Prelude.{true, false, Some, None}
 use Rattle.std.specs.Option.{option_map, option_map_or}
+use Rattle.flash_traits.specs.Budget.{copy_bytes}
 use Rattle.flash_traits.specs.Words.{halfwords_in, IsSectorSize}
 use Rattle.flash_traits.specs.declared.board.Board.{Ghosts}
 use Rattle.flash_traits.specs.declared.board.Region.{Region}
@@ -35,10 +37,11 @@ FitsCopied g b kept images = FitsSpilled g b kept images × (kept.completable �
 abbrev pub left_in : Kept → Bytes → ℕ
 left_in kept images = left_chunks kept images + (if kept.completable then 1 else 0)
 
--- the bytes of the other sector that are written, and 66 for each chunk that is left to copy
+-- the bytes of the other sector that are written, and those of an entry for each chunk that is left
+-- to copy
 abbrev pub taken_of : Kept → Bytes → ℕ
 taken_of kept images = option_map_or
-    (λ log. 2 * log.end + 66 * left_chunks kept images) kept.other 0
+    (λ log. 2 * log.end + copy_bytes * left_chunks kept images) kept.other 0
 
 -- the guard count once a state of this name stands alone again
 abbrev pub guard_after : Shape → ℕ → ℕ
@@ -54,12 +57,13 @@ is_full shape.Marked = true
 is_full shape.Spilled = true
 is_full shape.Voided = false
 
--- How large a caller's entry may be, in bytes: the other sector's free bytes, less 66 for each
--- chunk that is left to copy, and less 66 more. The caller's entry may be torn behind a completable
--- torn one, whose chunk then counts again.
+-- How large a caller's entry may be, in bytes: the other sector's free bytes, less those of an
+-- entry for each chunk that is left to copy, and less those of one more. The caller's entry may be
+-- torn after a completable torn one, whose chunk then counts again.
 abbrev pub room_of : Kept → Bytes → ℕ
 room_of kept images = option_map_or
-    (λ log. kept.sector_bytes - 2 * log.end - 66 * left_chunks kept images - 66) kept.other 0
+    (λ log. kept.sector_bytes - 2 * log.end - copy_bytes * left_chunks kept images - copy_bytes)
+    kept.other 0
 
 -- What the calls make of what a state keeps. Home's log with the mark full:
 abbrev pub full_log : Log → Log
@@ -124,7 +128,7 @@ pub record FilledFromZeros (whole : List ℕ) (home : Log) : Type 0 where
   pub zeros : List ℕ
   pub size : length zeros ≡ storage_bytes
   pub each : All (λ byte. byte ≡ 0) zeros
-  pub most : 2 * home.end ≤ 2 * 2 + 66 * left_to_copy whole zeros None
+  pub most : 2 * home.end ≤ 2 * 2 + copy_bytes * left_to_copy whole zeros None
 
 -- What home has once the image stands alone, by what the words told. From marked and spilled the
 -- other sector has no more than its entries and one copy of each chunk that was to be copied; else

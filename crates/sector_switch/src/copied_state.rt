@@ -41,6 +41,16 @@ pub enum VoidError {
     Worn(Copied),
 }
 
+impl From<Fault> for VoidError {
+    ghost use Rattle.sector_switch.specs.declared.copied_state.VoidError.TheVariants as errors;
+
+    ghost from_gives = { λ fault e. e ≡ errors.Fault fault };
+
+    fn from(fault: Fault) -> VoidError {
+        VoidError::Fault(fault)
+    }
+}
+
 impl Copied {
     /// Makes home void. A loss inside leaves the bytes of before.
     pub fn void<B: Board>(self, board: &mut B) -> Result<Voided, VoidError>
@@ -65,10 +75,8 @@ impl Copied {
         if kept.guard as u32 == GUARD_HALFWORDS {
             return Err(VoidError::Worn(self));
         }
-        match void_home(board, kept) {
-            Ok(kept) => Ok(Voided { kept }),
-            Err(kind) => Err(VoidError::Fault(kind)),
-        }
+        let kept = void_home(board, kept)?;
+        Ok(Voided { kept })
     }
 
     /// Makes home void, erases it and makes it available, beside the other sector as home. A loss
@@ -89,15 +97,9 @@ impl Copied {
             × Rose (B.faults board.old Flash) (B.faults board.new Flash))) }
         ensures counts { (k : Fault) → B.faults board.old k ≤ B.faults board.new k }
     {
-        let voided = match self.void(board) {
-            Ok(voided) => voided,
-            Err(VoidError::Fault(kind)) => return Err(VoidError::Fault(kind)),
-            Err(VoidError::Worn(copied)) => return Err(VoidError::Worn(copied)),
-        };
-        match voided.settle(board) {
-            Ok(alone) => Ok(alone),
-            Err(kind) => Err(VoidError::Fault(kind)),
-        }
+        let voided = self.void(board)?;
+        let alone = voided.settle(board)?;
+        Ok(alone)
     }
 }
 

@@ -7,11 +7,14 @@ ghost use Rattle.flash_traits.specs.Calls.{Changes};
 ghost use Rattle.flash_traits.specs.Causes.{HasCause, Rose};
 ghost use Rattle.sector_image.specs.declared.kept.Kept.{Kept};
 ghost use Rattle.sector_image.specs.Images.{Bytes};
-ghost use Rattle.sector_image.specs.Stands.{Reading, Reads, Stands, count_in, count_after, is_alone, is_due};
+ghost use Rattle.sector_image.specs.Stands.{Reading, Reads, Stands, count_in, count_after};
+ghost use Rattle.sector_image.specs.Stands.{is_alone, is_due};
 ghost use Rattle.sector_image.specs.FirstBad.{Place, FirstBad};
 ghost use Rattle.sector_image.specs.Losses.{KeepsBytes};
-ghost use Rattle.sector_image.specs.Fits.{FitsAlone, FitsMarked, FitsSpilled, FitsVoided, FitsShape};
-ghost use Rattle.sector_switch.specs.States.{FitsCopied, guard_after, is_full, taken_of, FilledFromZeros, HomeAfter, CanServe};
+ghost use Rattle.sector_image.specs.Fits.{FitsAlone, FitsMarked, FitsSpilled, FitsVoided};
+ghost use Rattle.sector_image.specs.Fits.{FitsShape};
+ghost use Rattle.sector_switch.specs.States.{FitsCopied, guard_after, is_full, taken_of};
+ghost use Rattle.sector_switch.specs.States.{FilledFromZeros, HomeAfter, CanServe};
 ghost use Rattle.sector_switch.specs.Refusals.{OnRecoverForeign, OnRecoverFault, OnWorn, LeftAlone};
 
 use crate::{
@@ -44,6 +47,40 @@ impl From<Fault> for RecoverError {
 
     fn from(fault: Fault) -> RecoverError {
         RecoverError::Fault(fault)
+    }
+}
+
+impl From<SurveyError> for RecoverError {
+    ghost use Rattle.sector_switch.specs.Steps.Errors.{error_of_survey};
+
+    ghost from_gives = { λ survey e. e ≡ error_of_survey survey };
+
+    fn from(survey: SurveyError) -> RecoverError {
+        match survey {
+            SurveyError::Fault(kind) => RecoverError::Fault(kind),
+            SurveyError::Foreign {
+                region,
+                offset,
+                word,
+            } => RecoverError::Foreign {
+                region,
+                offset,
+                word,
+            },
+        }
+    }
+}
+
+impl From<SwitchError> for RecoverError {
+    ghost use Rattle.sector_switch.specs.Steps.Errors.{error_of_switch};
+
+    ghost from_gives = { λ switch e. e ≡ error_of_switch switch };
+
+    fn from(switch: SwitchError) -> RecoverError {
+        match switch {
+            SwitchError::Fault(kind) => RecoverError::Fault(kind),
+            SwitchError::Worn { count } => RecoverError::Worn { count },
+        }
     }
 }
 
@@ -94,21 +131,8 @@ pub fn recover<B: Board>(board: &mut B, images: &mut Images) -> Result<Alone, Re
         × Rose (B.faults board.old kind) (B.faults board.new kind))) }
     ensures counts { (k : Fault) → B.faults board.old k ≤ B.faults board.new k }
 {
-    match survey(board, images) {
-        Ok(survey) => settle(survey.shape, survey.kept, board, images),
-        Err(SurveyError::Fault(kind)) => Err(RecoverError::Fault(kind)),
-        Err(
-            SurveyError::Foreign {
-                region,
-                offset,
-                word,
-            },
-        ) => Err(RecoverError::Foreign {
-            region,
-            offset,
-            word,
-        }),
-    }
+    let found = survey(board, images)?;
+    settle(found.shape, found.kept, board, images)
 }
 
 /// From any of the four states to one sector alone.
@@ -146,10 +170,10 @@ fn settle<B: Board>(
         Shape::Alone => Ok(Alone { kept }),
         Shape::Marked => finish_marked(Marked { kept }, board, images),
         Shape::Spilled => finish_spilled(Spilled { kept }, board, images),
-        Shape::Voided => match (Voided { kept }).settle(board) {
-            Ok(alone) => Ok(alone),
-            Err(kind) => Err(RecoverError::Fault(kind)),
-        },
+        Shape::Voided => {
+            let alone = (Voided { kept }).settle(board)?;
+            Ok(alone)
+        }
     }
 }
 
@@ -176,10 +200,8 @@ fn finish_marked<B: Board>(
         (λ kind. (kind ≡ Flash) × Rose (B.faults board.old Flash) (B.faults board.new Flash))) }
     ensures counts { (k : Fault) → B.faults board.old k ≤ B.faults board.new k }
 {
-    match marked.open(board, images) {
-        Ok(spilled) => finish_spilled(spilled, board, images),
-        Err(kind) => Err(RecoverError::Fault(kind)),
-    }
+    let spilled = marked.open(board, images)?;
+    finish_spilled(spilled, board, images)
 }
 
 /// From both sectors to one alone: the copy, the guard row's next halfword and the erase.
@@ -205,9 +227,6 @@ fn finish_spilled<B: Board>(
         (λ kind. (kind ≡ Flash) × Rose (B.faults board.old Flash) (B.faults board.new Flash))) }
     ensures counts { (k : Fault) → B.faults board.old k ≤ B.faults board.new k }
 {
-    match spilled.switch(board, images) {
-        Ok(alone) => Ok(alone),
-        Err(SwitchError::Fault(kind)) => Err(RecoverError::Fault(kind)),
-        Err(SwitchError::Worn { count }) => Err(RecoverError::Worn { count }),
-    }
+    let alone = spilled.switch(board, images)?;
+    Ok(alone)
 }

@@ -1,5 +1,6 @@
 //! The image in both sectors: entries go to the other one, and the copy makes it whole.
-ghost use Rattle.std.specs.Prelude.{◌≡◌, ◌+◌, ◌-◌, ◌*◌, ◌/◌, ◌<◌, ◌≤◌, ◌↔◌, ℕ, List, true, false, length, IsTrue, IfOk, OnOk, OnErr, IfErr, IfSome, Some, None};
+ghost use Rattle.std.specs.Prelude.{◌≡◌, ◌+◌, ◌-◌, ◌*◌, ◌/◌, ◌<◌, ◌≤◌, ◌↔◌, ℕ, List, true, false};
+ghost use Rattle.std.specs.Prelude.{length, IsTrue, IfOk, OnOk, OnErr, IfErr, IfSome, Some, None};
 ghost use Rattle.flash_traits.specs.declared.numbers.TheConstants.{GUARD_HALFWORDS};
 ghost use Rattle.flash_traits.specs.declared.board.Fault.TheVariants.{Flash};
 ghost use Rattle.flash_traits.specs.Losses.{ByResult};
@@ -26,6 +27,9 @@ use flash_traits::{Board, Fault, GUARD_HALFWORDS};
 use sector_image::torn_chunk;
 use sector_log::{append, finish_torn};
 use std::marker::Model;
+
+/// The bytes of a chunk's entry: its header and eight lines.
+const COPY_BYTES: u64 = 66;
 
 /// Home is full, and the other sector takes the entries. What home has and the other hasn't is
 /// still to be copied.
@@ -177,17 +181,9 @@ impl Spilled {
             × Rose (B.faults board.old Flash) (B.faults board.new Flash))) }
         ensures counts { (k : Fault) → B.faults board.old k ≤ B.faults board.new k }
     {
-        let copied = match self.copy(board, images) {
-            Ok(copied) => copied,
-            Err(kind) => return Err(SwitchError::Fault(kind)),
-        };
-        match copied.settle(board) {
-            Ok(alone) => Ok(alone),
-            Err(VoidError::Fault(kind)) => Err(SwitchError::Fault(kind)),
-            Err(VoidError::Worn(_)) => Err(SwitchError::Worn {
-                count: GUARD_HALFWORDS as u16,
-            }),
-        }
+        let copied = self.copy(board, images)?;
+        let alone = copied.settle(board)?;
+        Ok(alone)
     }
 }
 
@@ -210,6 +206,21 @@ impl From<Fault> for SwitchError {
     }
 }
 
+impl From<VoidError> for SwitchError {
+    ghost use Rattle.sector_switch.specs.Steps.Errors.{error_of_void};
+
+    ghost from_gives = { λ void e. e ≡ error_of_void void };
+
+    fn from(void: VoidError) -> SwitchError {
+        match void {
+            VoidError::Fault(kind) => SwitchError::Fault(kind),
+            VoidError::Worn(_) => SwitchError::Worn {
+                count: GUARD_HALFWORDS as u16,
+            },
+        }
+    }
+}
+
 /// How large a caller's entry may be.
 fn room_in(kept: &Kept, images: &Images) -> u32
     ensures { result ≡ room_of kept.now images.now }
@@ -218,7 +229,7 @@ fn room_in(kept: &Kept, images: &Images) -> u32
         return 0;
     };
     let left = images.count_left(torn_chunk(kept.completable, log));
-    let used = 2 * log.end as u64 + 66 * left as u64 + 66;
+    let used = 2 * log.end as u64 + COPY_BYTES * left as u64 + COPY_BYTES;
     (kept.sector_bytes as u64).saturating_sub(used) as u32
 }
 

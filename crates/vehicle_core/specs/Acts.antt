@@ -1,12 +1,16 @@
 -- The vehicle machine: what it does at each act of an event.
-use Rattle.std.specs.Prelude.{◌≡◌, ℕ, ◌+◌, ◌≤◌, Bool, List, [], ◌∷◌, length, map, Option, Some, None, if◌then◌else◌}
+use Rattle.std.specs.Prelude.{◌≡◌, ℕ, ◌+◌, ◌≤◌, Bool, List, [], ◌∷◌, length, map, Option, Some}
+use Rattle.std.specs.Prelude.{None, if◌then◌else◌}
 use Rattle.storage_lines.specs.declared.lines.LineWrite.{LineWrite}
 use Rattle.param_service.specs.Service as parameters
 use Rattle.mav_messages.specs.declared.messages.To.TheVariants.{Station}
 use Rattle.mission_service.specs.Service as missions
 use Rattle.mission_service.specs.declared.uploads.Target.{Target}
-use Rattle.vehicle_core.specs.Orders.{Need, Nothing, FlushAll, Order, result_of, need_of, armed_after}
-use Rattle.vehicle_core.specs.Vehicle.{Vehicle, Asked, Parameters, Missions, Orders, Alive, Acknowledged, Told, tells_value, tells_of_missions, is_heard, is_armed, hears, allowed_of, issues}
+use Rattle.vehicle_core.specs.Orders.{Need, Nothing, FlushAll, Order, result_of, need_of}
+use Rattle.vehicle_core.specs.Orders.{armed_after}
+use Rattle.vehicle_core.specs.Vehicle.{Vehicle, Asked, Parameters, Missions, Orders, Alive}
+use Rattle.vehicle_core.specs.Vehicle.{Acknowledged, Told, tells_value, tells_of_missions, is_heard}
+use Rattle.vehicle_core.specs.Vehicle.{is_armed, hears, allowed_of, issues}
 
 -- What was heard: whether the frame was of version 2, and what its message asks for.
 pub record Heard : Type 0 where
@@ -88,8 +92,8 @@ beaten vehicle station d = record (by_missions vehicle station d) {
       ∷ map (tells_of_missions station) d.told;
 }
 
--- What the vehicle does at an act, over these storage bytes. Where it is armed, no more lines may be
--- issued than the budget says. Stations that weren't heard are told nothing.
+-- What the vehicle does at an act, over these storage bytes. Where it is armed, no more lines may
+-- be issued than the budget says. Stations that weren't heard are told nothing.
 unfoldable pub did : ℕ → List ℕ → Vehicle → Act → Did
 did budget bytes vehicle (Said station heard) =
     lines_counted (asked_of budget bytes (hears vehicle station heard.v2) station heard.asked)
@@ -104,8 +108,8 @@ did budget bytes vehicle (Stream station) =
 
 -- What an act makes of the number of lines since arming. While the vehicle is armed it rises by the
 -- lines that are written, and stays within the budget where it was. Where the vehicle is armed or
--- disarmed, nothing is written, and all lines are flushed before that is told; where it is armed, no
--- line was issued since.
+-- disarmed, nothing is written, and all lines are flushed before that is told; where it is armed,
+-- no line was issued since.
 abbrev pub SinceArming : ℕ → Option ℕ → Option ℕ → List LineWrite → Need → Type 0
 SinceArming budget None None writes need = Unit {0}
 SinceArming budget None (Some now) writes need = (now ≡ 0) × (writes ≡ []) × (need ≡ FlushAll)

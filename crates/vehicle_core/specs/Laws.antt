@@ -2,7 +2,7 @@
 use Rattle.std.specs.Prelude.{◌≡◌, ℕ, List, [], ◌∷◌, All, IsTrue}
 use Rattle.mav_messages.specs.declared.messages.To.TheVariants.{Station}
 use Rattle.mission_service.specs.declared.uploads.Target.{Target}
-use Rattle.vehicle_core.specs.Orders.{FlushAll, accepted}
+use Rattle.vehicle_core.specs.Orders.{FlushAll, mav_result_accepted}
 use Rattle.vehicle_core.specs.Vehicle.{Vehicle, Acknowledged, Told, is_storage_acknowledgement}
 use Rattle.vehicle_core.specs.Acts.{Act, Did, did, SinceArming}
 
@@ -11,8 +11,10 @@ pub record IsAccepted (told : List Told) : Type 0 where
   pub station : ℕ
   pub target : Target
   pub command : ℕ
-  pub answer : told
-      ≡ record { to = Station station; content = Acknowledged target command accepted } ∷ []
+  pub answer : told ≡ record {
+    to = Station station;
+    content = Acknowledged target command mav_result_accepted;
+  } ∷ []
 
 -- Where all lines are to be flushed, the act writes none, and a command is answered as accepted.
 pub record FlushesAlone (d : Did) : Type 0 where

@@ -7,7 +7,8 @@ use Rattle.param_service.specs.Requests.{is_for}
 pub use Rattle.vehicle_core.specs.declared.orders.Need.{Need}
 pub use Rattle.vehicle_core.specs.declared.orders.Need.TheVariants.{Nothing, FlushAll}
 pub use Rattle.vehicle_core.specs.declared.orders.Order.{Order}
-pub use Rattle.vehicle_core.specs.declared.orders.Order.TheVariants.{Flush, Arm, Disarm, Deny, Refuse}
+pub use Rattle.vehicle_core.specs.declared.orders.Order.TheVariants.{Flush, Arm, Disarm, Deny}
+pub use Rattle.vehicle_core.specs.declared.orders.Order.TheVariants.{Refuse}
 pub use Rattle.vehicle_core.specs.declared.orders.VehicleCommand.{VehicleCommand}
 
 -- MAV_CMD_PREFLIGHT_STORAGE
@@ -45,21 +46,21 @@ command_of (CommandLong param1 param2 param3 param4 param5 param6 param7 number 
 command_of _ = None
 
 -- MAV_RESULT: how an order is answered
-abbrev pub accepted : ℕ
-accepted = 0
+abbrev pub mav_result_accepted : ℕ
+mav_result_accepted = 0
 
-abbrev pub denied : ℕ
-denied = 2
+abbrev pub mav_result_denied : ℕ
+mav_result_denied = 2
 
-abbrev pub unsupported : ℕ
-unsupported = 3
+abbrev pub mav_result_unsupported : ℕ
+mav_result_unsupported = 3
 
 abbrev pub result_of : Order → ℕ
-result_of Flush = accepted
-result_of Arm = accepted
-result_of Disarm = accepted
-result_of Deny = denied
-result_of Refuse = unsupported
+result_of Flush = mav_result_accepted
+result_of Arm = mav_result_accepted
+result_of Disarm = mav_result_accepted
+result_of Deny = mav_result_denied
+result_of Refuse = mav_result_unsupported
 
 -- All lines are flushed before an order is answered as accepted.
 abbrev pub need_of : Order → Need

@@ -8,7 +8,8 @@ use Rattle.mav_messages.specs.declared.messages.Reply.{Reply}
 use Rattle.storage_lines.specs.declared.lines.LineWrite.{LineWrite}
 use Rattle.mission_service.specs.Replies as missions
 use Rattle.vehicle_core.specs.Orders.{Need}
-use Rattle.vehicle_core.specs.Vehicle.{Vehicle, Content, Parameter, Alive, OfMissions, Acknowledged, Told}
+use Rattle.vehicle_core.specs.Vehicle.{Vehicle, Content, Parameter, Alive, OfMissions, Acknowledged}
+use Rattle.vehicle_core.specs.Vehicle.{Told}
 use Rattle.vehicle_core.specs.Acts.{Did}
 
 -- MAV_MODE_FLAG: the vehicle has modes of its own (1), and it is armed (128)

@@ -1,5 +1,7 @@
 -- The vehicle's state, and what it tells.
-use Rattle.std.specs.Prelude.{◌≡◌, ℕ, ◌+◌, ◌-◌, ◌==◌, ◌&&◌, ◌||◌, Bool, true, false, List, length, replicate, Option, Some, None, option_map, is_some, slice_get, slice_set}
+use Rattle.std.specs.Prelude.{◌≡◌, ℕ, ◌+◌, ◌-◌, ◌==◌, ◌&&◌, ◌||◌, Bool, true, false, List, length}
+use Rattle.std.specs.Prelude.{replicate, Option, Some, None, option_map, is_some, slice_get}
+use Rattle.std.specs.Prelude.{slice_set}
 use Rattle.std.specs.Option.{option_map_or}
 use Rattle.param_records.specs.declared.values.Value.{Value}
 use Rattle.param_service.specs.Requests as parameters
@@ -12,7 +14,8 @@ use Rattle.mission_service.specs.declared.uploads.Target.{Target}
 use Rattle.mission_service.specs.Requests as missions
 use Rattle.mission_service.specs.Service as service
 use Rattle.storage_lines.specs.declared.lines.LineWrite.{LineWrite}
-use Rattle.vehicle_core.specs.Orders.{Order, preflight_storage, arm_disarm, accepted, VehicleCommand, command_of}
+use Rattle.vehicle_core.specs.Orders.{Order, preflight_storage, arm_disarm, mav_result_accepted}
+use Rattle.vehicle_core.specs.Orders.{VehicleCommand, command_of}
 
 -- whether the station was heard, and whether its last right frame was of version 2
 pub record StationState : Type 0 where
@@ -103,7 +106,8 @@ pub data Content : Type 0 where
 -- to flush, to arm or to disarm was accepted.
 abbrev pub is_storage_acknowledgement : Content → Bool
 is_storage_acknowledgement (Acknowledged target command result) =
-    (result == accepted) && ((command == preflight_storage) || (command == arm_disarm))
+    (result == mav_result_accepted)
+    && ((command == preflight_storage) || (command == arm_disarm))
 is_storage_acknowledgement (Parameter index value) = false
 is_storage_acknowledgement (Alive armed) = false
 is_storage_acknowledgement (OfMissions told) = false

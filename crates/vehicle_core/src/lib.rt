@@ -2,17 +2,22 @@
 //! a list. Each protocol is a service of its own below.
 #![tactic(auto)]
 
-ghost use Rattle.std.specs.Prelude.{◌≡◌, ◌⊎◌, ◌<◌, ◌≤◌, ◌+◌, [], All, length, take, List, ℕ, true, false, Option, None, IsFalse, IfSome};
-ghost use Rattle.storage_lines.specs.declared.lines.TheConstants.{STORAGE_BYTES, LINES, BATCH_LINES};
+ghost use Rattle.std.specs.Prelude.{◌≡◌, ◌⊎◌, ◌<◌, ◌≤◌, ◌+◌, [], All, length, take, List, ℕ, true};
+ghost use Rattle.std.specs.Prelude.{false, Option, None, IsFalse, IfSome};
+ghost use Rattle.storage_lines.specs.declared.lines.TheConstants.{STORAGE_BYTES, LINES};
+ghost use Rattle.storage_lines.specs.declared.lines.TheConstants.{BATCH_LINES};
 ghost use Rattle.storage_lines.specs.Lines.{after};
 ghost use Rattle.param_records.specs.Steps.{HasMagic};
+ghost use Rattle.param_service.specs.declared.TheConstants.{STATIONS};
 ghost use Rattle.param_service.specs.Requests as parameters;
 ghost use Rattle.mission_service.specs.Requests as missions;
 ghost use Rattle.mission_service.specs.Replies.{target_of};
 ghost use Rattle.vehicle_core.specs.Orders as orders;
 ghost use Rattle.vehicle_core.specs.CoreState.{CoreState, IsIndexed};
-ghost use Rattle.vehicle_core.specs.Vehicle.{Asked, Asks, Alive, new_vehicle, is_heard, is_armed, speaks_v2, allowed_of, issues};
-ghost use Rattle.vehicle_core.specs.Acts.{Said, Beat, Stream, SinceArming, heard_as, nothing, asked_of, ordered, did};
+ghost use Rattle.vehicle_core.specs.Vehicle.{Asked, Asks, Alive, new_vehicle, is_heard, is_armed};
+ghost use Rattle.vehicle_core.specs.Vehicle.{speaks_v2, allowed_of, issues};
+ghost use Rattle.vehicle_core.specs.Acts.{Said, Beat, Stream, SinceArming, heard_as, nothing};
+ghost use Rattle.vehicle_core.specs.Acts.{asked_of, ordered, did};
 ghost use Rattle.vehicle_core.specs.Replies.{AreRepliesOf, IsAnswered, Tells};
 
 mod laws;
@@ -24,7 +29,7 @@ use mission_service::MissionState;
 pub use orders::{Need, Order, VehicleCommand};
 use orders::{acknowledgement, command_of, need_of};
 pub use param_service::sets_parameter;
-use param_service::{ParamState, stream};
+use param_service::{ParamState, STATIONS, stream};
 use std::marker::Model;
 use storage_lines::Batch;
 
@@ -40,7 +45,7 @@ struct StationState {
 /// the storage.
 #[derive(Drop)]
 pub struct Core {
-    stations: [StationState; 8],
+    stations: [StationState; STATIONS],
     parameters: ParamState,
     missions: MissionState,
     armed: Option<u32>,
@@ -48,6 +53,7 @@ pub struct Core {
 
 impl Model for Core {
     ghost use Rattle.std.specs.Prelude.{◌≡◌, length};
+    ghost use Rattle.param_service.specs.declared.TheConstants.{STATIONS};
     ghost use Rattle.vehicle_core.specs.CoreState.{CoreState};
     ghost use Rattle.vehicle_core.specs.Inside.{view_of};
 
@@ -58,7 +64,7 @@ impl Model for Core {
       index = core.parameters.index;
     } };
 
-    ghost invariant = { λ core. length core.stations ≡ 8 };
+    ghost invariant = { λ core. length core.stations ≡ STATIONS };
 }
 
 /// The vehicle's HEARTBEAT, with numbers of MAVLink's common message set: a quadrotor (MAV_TYPE 2)
@@ -103,7 +109,7 @@ impl Core {
             v2: false,
         };
         Core {
-            stations: [unheard; 8],
+            stations: [unheard; STATIONS],
             parameters: ParamState::new(),
             missions: MissionState::new(),
             armed: None,
@@ -153,7 +159,7 @@ impl Core {
     )
         requires size { length current.now ≡ STORAGE_BYTES }
         requires index { IsIndexed current.now self.old }
-        requires station { from.station < 8 }
+        requires station { from.station < STATIONS }
         requires order { orders.command_of message.now ≡ None }
         requires batch { batch.old.items ≡ [] }
         requires replies { replies.old.items ≡ [] }
@@ -228,7 +234,7 @@ impl Core {
     ) -> Need
         requires size { length current.now ≡ STORAGE_BYTES }
         requires index { IsIndexed current.now self.old }
-        requires station { from.station < 8 }
+        requires station { from.station < STATIONS }
         requires batch { batch.old.items ≡ [] }
         requires replies { replies.old.items ≡ [] }
         ensures answered { (asked : Option Asked) × Asks (target_of from) message.now asked ×
@@ -256,7 +262,7 @@ impl Core {
     /// What an idle turn tells a station, where it was heard: that the vehicle is there and whether
     /// it is armed, and which item of each of its open uploads is the next.
     pub fn idle(&mut self, station: u8, replies: &mut Replies)
-        requires station { station < 8 }
+        requires station { station < STATIONS }
         requires replies { replies.old.items ≡ [] }
         ensures next { (budget : ℕ) →
             self.new.vehicle ≡ (did budget [] self.old.vehicle (Beat station)).vehicle }
@@ -277,7 +283,7 @@ impl Core {
     pub fn stream(&mut self, current: &[u8], station: u8, replies: &mut Replies)
         requires size { length current.now ≡ STORAGE_BYTES }
         requires index { IsIndexed current.now self.old }
-        requires station { station < 8 }
+        requires station { station < STATIONS }
         requires replies { replies.old.items ≡ [] }
         ensures next { (budget : ℕ) → self.new.vehicle
             ≡ (did budget current.now self.old.vehicle (Stream station)).vehicle }
@@ -293,7 +299,7 @@ impl Core {
 
     /// Whether a list goes to the station: it was heard, and values of its list are left.
     pub fn streams(&self, station: u8) -> bool
-        requires { station < 8 }
+        requires { station < STATIONS }
         ensures { IsFalse result → (budget : ℕ) (bytes : List ℕ) →
             did budget bytes self.now.vehicle (Stream station) ≡ nothing self.now.vehicle }
     {
@@ -313,7 +319,7 @@ impl Core {
 
     /// Whether a right frame came from the station.
     pub fn heard(&self, station: u8) -> bool
-        requires { station < 8 }
+        requires { station < STATIONS }
         ensures { result ≡ is_heard self.now.vehicle station }
     {
         self.stations[station as usize].heard
@@ -321,7 +327,7 @@ impl Core {
 
     /// Whether the station's last right frame was of version 2.
     pub fn version_two(&self, station: u8) -> bool
-        requires { station < 8 }
+        requires { station < STATIONS }
         ensures { result ≡ speaks_v2 self.now.vehicle station }
     {
         self.stations[station as usize].v2

@@ -23,14 +23,14 @@ const ONE: u32 = 0x3F80_0000;
 /// The binary32 pattern of minus 0.
 const MINUS_ZERO: u32 = 0x8000_0000;
 
-/// MAV_RESULT_ACCEPTED.
-const ACCEPTED: u8 = 0;
+/// The command was accepted.
+const MAV_RESULT_ACCEPTED: u8 = 0;
 
-/// MAV_RESULT_DENIED: the first parameter isn't one that is known.
-const DENIED: u8 = 2;
+/// The first parameter isn't one that is known.
+const MAV_RESULT_DENIED: u8 = 2;
 
-/// MAV_RESULT_UNSUPPORTED: the command isn't one that is known.
-const UNSUPPORTED: u8 = 3;
+/// The command isn't one that is known.
+const MAV_RESULT_UNSUPPORTED: u8 = 3;
 
 /// What has to be done after the lines of a message were issued, before its replies are sent.
 #[derive(Clone, Copy, Debug, PartialEq, Eq, Drop)]
@@ -96,9 +96,9 @@ fn result_of(order: Order) -> u8
     ensures { result ≡ result_of order }
 {
     match order {
-        Order::Flush | Order::Arm | Order::Disarm => ACCEPTED,
-        Order::Deny => DENIED,
-        Order::Refuse => UNSUPPORTED,
+        Order::Flush | Order::Arm | Order::Disarm => MAV_RESULT_ACCEPTED,
+        Order::Deny => MAV_RESULT_DENIED,
+        Order::Refuse => MAV_RESULT_UNSUPPORTED,
     }
 }
 

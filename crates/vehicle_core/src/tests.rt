@@ -9,7 +9,7 @@ const BUDGET: u32 = 47;
 
 /// A station asks for the list, in a frame of this version.
 fn ask(core: &mut Core, station: u8, version_two: bool)
-    requires { station < 8 }
+    requires { station < STATIONS }
 {
     let from = Sender {
         station,
@@ -34,7 +34,7 @@ fn ask(core: &mut Core, station: u8, version_two: bool)
 
 /// The values that a station is sent next.
 fn next_values(core: &mut Core, station: u8) -> Replies
-    requires { station < 8 }
+    requires { station < STATIONS }
 {
     let mut replies = Replies::new();
     core.refresh(&[0; STORAGE_BYTES]);
