@@ -1,6 +1,6 @@
 -- A node opened: the lines of boot are issued and put; and closed: all pending lines are put.
 use Rattle.std.proofs.Common.{◌≡◌, ◌≢◌, inl, ℕ, ◌+◌, ◌*◌, ◌-◌, ◌^◌, ◌<◌, ◌≤◌, min, Bool, true, false, cond, List, [], ◌++◌, length, get_or, take, drop, refl, sym, ◌∙◌, ap, subst, arith, append-nil, append_assoc, Some, Result, Ok, Err}
-use Rattle.std.specs.Prelude.{◌↔◌, ⊤, OnOk, IfErr, IfSome, IsTrue, map, slice_get}
+use Rattle.std.specs.Prelude.{◌↔◌, ⊤, OnOk, IfOk, IfErr, IfSome, IsTrue, map, slice_get}
 use Rattle.std.specs.Str.{bytes_eq}
 use Rattle.std.proofs.lemmas.Option.{slice_get-get_or}
 use Rattle.std.proofs.lemmas.Slice.Eq.{bytes_eq-Decides}
@@ -29,7 +29,8 @@ use Rattle.param_convert.specs.declared.rules.Rule.{Rule}
 use Rattle.param_convert.specs.Rules.{to_servo1_trim, vehicle_rules}
 use Rattle.param_convert.proofs.ConvertSteps.{from_step}
 use Rattle.sector_log.specs.Bytes.{value_of}
-use Rattle.sector_image.specs.Stands.{Stands, Reading, Both, One, Reads, entries_in, count_in}
+use Rattle.sector_image.specs.Stands.{Stands, Reading, Both, One, Reads, entries_in, count_in, count_after}
+use Rattle.sector_switch.specs.States.{HomeAfter}
 use Rattle.sector_image.proofs.Values.{is_value}
 use Rattle.sector_image.specs.Losses.{KeepsBytes}
 use Rattle.sector_image.proofs.ImageLaws.{one_value}
@@ -37,10 +38,12 @@ use Rattle.sector_image.specs.FirstBad.{Place}
 use Rattle.block_store.specs.declared.OpenError.{OpenError}
 use Rattle.block_store.specs.declared.OpenError.TheVariants as open_error
 use Rattle.block_store.specs.Refusals.{OnOpenFault, OnOpenForeign, OnOpenWorn}
-use Rattle.block_store.specs.Store.{Store, durable_of, guard_of, guard_ahead, is_alone}
+use Rattle.block_store.specs.Store.{Store, durable_of, guard_of, guard_ahead, is_alone, OnHome}
 use Rattle.block_store.specs.Store as store
 use Rattle.dirty_lines.specs.Lines.{Lines, lines_of, current_of}
+use Rattle.dirty_lines.specs.Entries.{CutIntoEntries}
 use Rattle.dirty_lines.specs.Losses.{IsWornForNext}
+use Rattle.dirty_lines.specs.Wearing.{NoneWears}
 use Rattle.vehicle_core.specs.Vehicle.{is_armed}
 use Rattle.vehicle_node.specs.declared.NodeError.{NodeError}
 use Rattle.vehicle_node.specs.declared.NodeError.TheVariants as node_error
@@ -52,13 +55,15 @@ use Rattle.vehicle_node.specs.Guard.{CountsUpTo, RisesWithin, MayWear}
 use Rattle.vehicle_node.specs.Safe.{Safe, SafeSince, Adds}
 use Rattle.vehicle_node.specs.Standing.{Node, Fits, HasRoomSince, IsAlone, IsAloneUnlessArmed, StandsAt, StandsForRun, StaysWithin, armed_in, counts, ceiling, raised_in}
 use Rattle.vehicle_node.specs.Steps.Calls.{IsWornAlone, WornAlone}
-use Rattle.vehicle_node.specs.Steps.Answering.{OnlyPuts, Flushing, FlushedAll, FlushDone}
+use Rattle.vehicle_node.specs.Wearing.{PendingVoids, AllUnworn, BootUnworn}
+use Rattle.vehicle_node.specs.Steps.Answering.{OnlyPuts, Flushing, Flushed, FlushedAll, FlushDone}
 use Rattle.vehicle_node.specs.Steps.Opening.{error_of, IsBooted}
 use Rattle.vehicle_node.proofs.RunLaws.{run_of_none, safe_by}
 use Rattle.vehicle_node.proofs.At.{current_is}
 use Rattle.vehicle_node.proofs.ActAnswers.{counts_more}
 use Rattle.vehicle_node.proofs.Fitting.{puts_index}
 use Rattle.vehicle_node.proofs.Events.{since_put, rises_still}
+use Rattle.vehicle_node.proofs.UsedUp.{all_fits}
 use Rattle.vehicle_node.proofs.Finishing.{Leaves}
 use Rattle.block_store.proofs.StoreLaws.{fits_stands, fits_guard}
 use Rattle.vehicle_node.proofs.Putting.{guard_alone, nothing_sent}
@@ -320,6 +325,43 @@ closed_at g armed (Ok v) node board last new f none fits =
     let w : FlushedAll g (length node.lines.pending) armed node board last new = f.done in
     closed g armed node last new w.flushed.puts none fits
 closed_at g armed (Err e) node board last new f none fits = tt
+
+-- and none of their entries wears the guard row
+pub closed_unworn : {B : Type 0} (g : Ghosts B) (armed : Bool) (result : Result ⊤ NodeError) (node : Node) (board : B) (last : Node) (new : B) → armed ≡ armed_in node
+    → FlushDone g (length node.lines.pending) armed node board result last new → OnOk result (last.lines.pending ≡ []) → OnOk result (store.Fits g new last.lines.store)
+    → OnOk result (AllUnworn g (armed_in node) node.lines new)
+closed_unworn g armed (Ok v) node board last new is f none fits =
+    let w : FlushedAll g (length node.lines.pending) armed node board last new = f.done in
+    record {
+      entries = w.flushed.entries;
+      cut = subst (λ (l : List LineWrite). CutIntoEntries w.flushed.entries l node.lines.pending) none w.flushed.cut;
+      last = last.lines.store;
+      each = subst (λ (b : Bool). NoneWears b w.flushed.entries node.lines.store last.lines.store) is w.flushed.each;
+      fits = fits;
+    }
+closed_unworn g armed (Err e) node board last new is f none fits = tt
+
+pub closed_fits : {B : Type 0} (g : Ghosts B) (result : Result ⊤ NodeError) (node : Node) (new : B) → OnOk result (AllUnworn g (armed_in node) node.lines new) → armed_in node ≡ false
+    → PendingVoids node.lines → guard_of node.lines.store ≡ GUARD_HALFWORDS → IfOk result (λ done. ⊥)
+closed_fits g (Ok v) node new w not voids full =
+    let all : AllUnworn g (armed_in node) node.lines new = w in
+    all_fits (armed_in node) node.lines all.entries all.last all.cut all.each not full voids
+closed_fits g (Err e) node new w not voids full = tt
+
+-- the lines of boot were put, and none of their entries wears the guard row
+pub booted_unworn : (words : Words) (taken : ℕ) (lines : Lines) (node last : Node) → IsBooted taken lines node → IsTrue (is_alone lines.store) → Stands words (durable_of lines.store)
+    → ((reading : Reading) → Reads words reading → guard_of lines.store ≡ count_after reading) → ((reading : Reading) → Reads words reading → OnHome lines.store (HomeAfter reading))
+    → (n : ℕ) → Flushed n false node last → last.lines.pending ≡ [] → BootUnworn words last.lines
+booted_unworn words taken lines node last booted alone stands guard home n f none = record {
+  opened = lines.store;
+  alone = alone;
+  stands = stands;
+  guard = guard;
+  home = home;
+  entries = f.entries;
+  cut = subst (λ (l : List LineWrite). CutIntoEntries f.entries [] l) (ap (λ (l : Lines). l.pending) booted.lines_are) (subst (λ (l : List LineWrite). CutIntoEntries f.entries l node.lines.pending) none f.cut);
+  each = subst (λ (s : Store). NoneWears false f.entries s last.lines.store) (ap (λ (l : Lines). l.store) booted.lines_are) f.each;
+}
 
 -- where the flush of a closing finds the guard row used up, the vehicle isn't armed
 pub closed_worn : {B : Type 0} (g : Ghosts B) (armed : Bool) (node last : Node) (new : B) (r : Result ⊤ NodeError) → armed ≡ armed_in node → IfErr r (WornAlone g armed (ceiling node) node last new)

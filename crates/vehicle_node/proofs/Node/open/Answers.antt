@@ -17,7 +17,7 @@ use Rattle.sector_image.specs.Stands.{Stands, IsUsedUp}
 use Rattle.dirty_lines.specs.Losses.{IsWornForNext}
 use Rattle.vehicle_node.proofs.Passing.{adds_both, error_at, worn_more}
 use Rattle.vehicle_node.proofs.Putting.{nothing_sent}
-use Rattle.vehicle_node.proofs.Boot.{open_losses, boot_losses, open_rises, boot_rises, boot_within, boot_wears, read_wears, stands_booted, booted_fits, booted_unarmed, foreign_at, worn_at, fault_at, booted_alone, read_stands}
+use Rattle.vehicle_node.proofs.Boot.{open_losses, boot_losses, open_rises, boot_rises, boot_within, boot_wears, read_wears, stands_booted, booted_fits, booted_unarmed, foreign_at, worn_at, fault_at, booted_alone, booted_unworn, read_stands}
 use Rattle.vehicle_node.proofs.Node.open.Goals as goal
 
 pub returns-in-Err-clause-losses : goal.returns-in-Err-clause-losses
@@ -134,3 +134,9 @@ returns-in_err-flush_all-clause-left_alone g c = λ told place bad. absurd (c.in
 
 pub returns-clause-left_alone : goal.returns-clause-left_alone
 returns-clause-left_alone g c = λ told place bad. absurd (c.in-Ok.ensures.left_alone (c.flush_all.ensures.keeps.told told) place bad).refused
+
+pub returns-clause-unworn : goal.returns-clause-unworn
+returns-clause-unworn g c = λ tells.
+    let told = c.flush_all.ensures.keeps.told tells in
+    booted_unworn (g.B.Board.words c.args.board.now) c.budget.result c.in-Ok.lines c.booted-node.result c.flush_all.new.self c.booted-node.ensures c.in-Ok.ensures.alone (c.in-Ok.ensures.stands told)
+    (λ reading reads. c.in-Ok.ensures.guard told reading reads) (λ reading reads. c.in-Ok.ensures.copied told reading reads) _ c.in_ok-flush_all.ensures.done.done.flushed c.in_ok-flush_all.ensures.nothing
