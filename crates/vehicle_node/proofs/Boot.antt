@@ -1,6 +1,6 @@
 -- A node opened: the lines of boot are issued and put; and closed: all pending lines are put.
 use Rattle.std.proofs.Common.{◌≡◌, ◌≢◌, inl, ℕ, ◌+◌, ◌*◌, ◌-◌, ◌^◌, ◌<◌, ◌≤◌, min, Bool, true, false, cond, List, [], ◌++◌, length, get_or, take, drop, refl, sym, ◌∙◌, ap, subst, arith, append-nil, append_assoc, Some, Result, Ok, Err}
-use Rattle.std.specs.Prelude.{◌↔◌, ⊤, OnOk, IfOk, IfErr, IfSome, IsTrue, map, slice_get}
+use Rattle.std.specs.Prelude.{◌↔◌, ⊤, OnOk, IfOk, IfErr, IsErrAnd, IfSome, IsTrue, map, slice_get}
 use Rattle.std.specs.Str.{bytes_eq}
 use Rattle.std.proofs.lemmas.Option.{slice_get-get_or}
 use Rattle.std.proofs.lemmas.Slice.Eq.{bytes_eq-Decides}
@@ -8,6 +8,7 @@ use Rattle.flash_traits.specs.Words.{Words}
 use Rattle.flash_traits.specs.Budget.{budget_of}
 use Rattle.flash_traits.specs.declared.board.Board.{Ghosts}
 use Rattle.flash_traits.specs.declared.board.Fault.{Fault}
+use Rattle.flash_traits.specs.declared.board.Fault.TheVariants.{Read}
 use Rattle.flash_traits.specs.Calls.{Passes, Changes}
 use Rattle.flash_traits.specs.declared.numbers.TheConstants.{GUARD_HALFWORDS}
 use Rattle.flash_traits.specs.Losses.{Received, SentFrame, Outcome, After, OnWords}
@@ -37,7 +38,7 @@ use Rattle.sector_image.proofs.ImageLaws.{one_value}
 use Rattle.sector_image.specs.FirstBad.{Place}
 use Rattle.block_store.specs.declared.OpenError.{OpenError}
 use Rattle.block_store.specs.declared.OpenError.TheVariants as open_error
-use Rattle.block_store.specs.Refusals.{OnOpenFault, OnOpenForeign, OnOpenWorn}
+use Rattle.block_store.specs.Refusals.{OnOpenFault, OnOpenForeign, OnOpenWorn, OpenLeavesAlone}
 use Rattle.block_store.specs.Store.{Store, durable_of, guard_of, guard_ahead, is_alone, OnHome}
 use Rattle.block_store.specs.Store as store
 use Rattle.dirty_lines.specs.Lines.{Lines, lines_of, current_of}
@@ -47,7 +48,7 @@ use Rattle.dirty_lines.specs.Wearing.{NoneWears}
 use Rattle.vehicle_core.specs.Vehicle.{is_armed}
 use Rattle.vehicle_node.specs.declared.NodeError.{NodeError}
 use Rattle.vehicle_node.specs.declared.NodeError.TheVariants as node_error
-use Rattle.vehicle_node.specs.Refusals.{OnFault, OnForeign, OnWorn}
+use Rattle.vehicle_node.specs.Refusals.{OnFault, OnForeign, OnWorn, LeavesAlone}
 use Rattle.vehicle_node.specs.Frames.{Machine}
 use Rattle.vehicle_node.specs.Reading.{no_rests}
 use Rattle.vehicle_node.specs.Runs.{Run, BootStep, format_step, convert_step, boot_steps, boot, run_of}
@@ -57,7 +58,8 @@ use Rattle.vehicle_node.specs.Standing.{Node, Fits, HasRoomSince, IsAlone, IsAlo
 use Rattle.vehicle_node.specs.Steps.Calls.{IsWornAlone, WornAlone}
 use Rattle.vehicle_node.specs.Wearing.{PendingVoids, AllUnworn, BootUnworn}
 use Rattle.vehicle_node.specs.Steps.Answering.{OnlyPuts, Flushing, Flushed, FlushedAll, FlushDone}
-use Rattle.vehicle_node.specs.Steps.Opening.{error_of, IsBooted}
+use Rattle.vehicle_node.specs.Steps.Errors.{opens_not}
+use Rattle.vehicle_node.specs.Steps.Opening.{IsBooted}
 use Rattle.vehicle_node.proofs.RunLaws.{run_of_none, safe_by}
 use Rattle.vehicle_node.proofs.At.{current_is}
 use Rattle.vehicle_node.proofs.ActAnswers.{counts_more}
@@ -67,7 +69,7 @@ use Rattle.vehicle_node.proofs.UsedUp.{all_fits}
 use Rattle.vehicle_node.proofs.Finishing.{Leaves}
 use Rattle.block_store.proofs.StoreLaws.{fits_stands, fits_guard}
 use Rattle.vehicle_node.proofs.Putting.{guard_alone, nothing_sent}
-use Rattle.vehicle_node.proofs.Passing.{worn_more, going_on}
+use Rattle.vehicle_node.proofs.Passing.{worn_more, going_on, error_at, error_passed}
 use Rattle.std.proofs.lemmas.Result.{IfErr-weaker}
 
 boot_cases : (due begins : Bool) (x : List ℕ) (writes : List LineWrite) → ((due ≡ true) ↔ (x ≢ magic)) → (begins ≡ true → x ≡ magic) → (x ≡ magic → begins ≡ true) → cond due writes [] ≡ cond begins [] writes
@@ -147,23 +149,22 @@ few_lines top n count is le = omega arith
 pub boot_count : (count : ℕ) (lines : Lines) (store : Store) → count ≡ length lines.pending → count ≤ 2048 → lines ≡ lines_of store (boot (durable_of store)) → count ≡ counts (length (boot (durable_of store)))
 boot_count count lines store is le are = few_lines (2 ^ 64 - 1) (length (boot (durable_of store))) count (is ∙ ap (λ (l : Lines). length l.pending) are) (omega arith)
 
-pub on_foreign : (e : OpenError) (P : Place → Type 0) → OnOpenForeign e P → OnForeign (error_of e) P
+pub on_foreign : (e : OpenError) (P : Place → Type 0) → OnOpenForeign e P → OnForeign (opens_not e) P
 on_foreign open_error.Memory P p = tt
 on_foreign (open_error.Fault kind) P p = tt
 on_foreign (open_error.Foreign region offset word) P p = p
 on_foreign (open_error.Worn count) P p = tt
 
-pub foreign_at : (e : OpenError) (error : NodeError) (P : Place → Type 0) → error ≡ error_of e → OnOpenForeign e P → OnForeign error P
-foreign_at e error P is p = subst (λ (n : NodeError). OnForeign n P) (sym is) (on_foreign e P p)
+on_fault : (e : OpenError) (P : Fault → Type 0) → OnOpenFault e P → OnFault (opens_not e) P
+on_fault open_error.Memory P p = tt
+on_fault (open_error.Fault kind) P p = p
+on_fault (open_error.Foreign region offset word) P p = tt
+on_fault (open_error.Worn count) P p = tt
 
-pub fault_at : (e : OpenError) (error : NodeError) (P : Fault → Type 0) → error ≡ error_of e → OnOpenFault e P → OnFault error P
-fault_at e error P is p = subst (λ (n : NodeError). OnFault n P) (sym is) (on_fault e P p)
-  where
-    on_fault : (e : OpenError) (P : Fault → Type 0) → OnOpenFault e P → OnFault (error_of e) P
-    on_fault open_error.Memory P p = tt
-    on_fault (open_error.Fault kind) P p = p
-    on_fault (open_error.Foreign region offset word) P p = tt
-    on_fault (open_error.Worn count) P p = tt
+-- a node whose store isn't opened leaves the words alone as the store does
+pub left_alone_by : {B S T : Type 0} (g : Ghosts B) (a b : B) (e : OpenError) (r : Result T NodeError) → IsErrAnd r (λ d. d ≡ opens_not e) → (let refused : Result S OpenError = Err e in OpenLeavesAlone g a b refused) → LeavesAlone g a b r
+left_alone_by g a b e r err alone =
+    error_passed r (opens_not e) (λ r. LeavesAlone g a b r) err (record { moment = alone.moment; words = alone.words; refused = tt; read = on_fault e (λ kind. kind ≡ Read) alone.read })
 
 -- a prefix of the lines of boot is put
 safe_boot : (budget : ℕ) (b : List ℕ) (put rest : List LineWrite) (words : Words) → put ++ rest ≡ boot b → Stands words (after b put) → Safe budget b [] [] 0 words
@@ -409,10 +410,10 @@ read_wears w reading reads full budget count b row = record {
   enough = omega (arith, one_count w.guard count (count_in reading) row (reads_guard w reading reads), full);
 }
 
-pub worn_at : (error : OpenError) (result : NodeError) (P Q : ℕ → Type 0) → result ≡ error_of error → ((count : ℕ) → P count → Q count) → OnOpenWorn error P → OnWorn result Q
-worn_at error result P Q is weaker given = subst (λ (e : NodeError). OnWorn e Q) (sym is) (worn_of error P Q weaker given)
+pub worn_at : {T : Type 0} (error : OpenError) (r : Result T NodeError) (P Q : ℕ → Type 0) → IsErrAnd r (λ d. d ≡ opens_not error) → ((count : ℕ) → P count → Q count) → OnOpenWorn error P → IfErr r (λ e. OnWorn e Q)
+worn_at error r P Q err weaker given = error_at r (opens_not error) (λ e. OnWorn e Q) err (worn_of error P Q weaker given)
   where
-    worn_of : (error : OpenError) (P Q : ℕ → Type 0) → ((count : ℕ) → P count → Q count) → OnOpenWorn error P → OnWorn (error_of error) Q
+    worn_of : (error : OpenError) (P Q : ℕ → Type 0) → ((count : ℕ) → P count → Q count) → OnOpenWorn error P → OnWorn (opens_not error) Q
     worn_of open_error.Memory P Q weaker given = tt
     worn_of (open_error.Fault kind) P Q weaker given = tt
     worn_of (open_error.Foreign region offset word) P Q weaker given = tt

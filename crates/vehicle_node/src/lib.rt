@@ -35,7 +35,8 @@ mod hearing;
 mod laws;
 mod opening;
 
-use crate::opening::{booted, error_of};
+use crate::opening::booted;
+use block_store::OpenError;
 use dirty_lines::{DirtyLines, PENDING_LINES};
 use flash_traits::{Board, Event, Fault, Region, budget};
 pub use laws::{
@@ -69,6 +70,29 @@ pub enum NodeError {
     Worn {
         count: u16,
     },
+}
+
+impl From<OpenError> for NodeError {
+    ghost use Rattle.vehicle_node.specs.Steps.Errors.{opens_not};
+
+    ghost from_gives = { λ refusal e. e ≡ opens_not refusal };
+
+    fn from(refusal: OpenError) -> NodeError {
+        match refusal {
+            OpenError::Memory => NodeError::Memory,
+            OpenError::Fault(kind) => NodeError::Fault(kind),
+            OpenError::Foreign {
+                region,
+                offset,
+                word,
+            } => NodeError::Foreign {
+                region,
+                offset,
+                word,
+            },
+            OpenError::Worn { count } => NodeError::Worn { count },
+        }
+    }
 }
 
 /// Whether the finished event was the end.
@@ -175,10 +199,7 @@ impl Node {
             Rose (B.faults board.old kind) (B.faults board.new kind))) }
         ensures counts { (k : Fault) → B.faults board.old k ≤ B.faults board.new k }
     {
-        let lines = match DirtyLines::open(alloc, board) {
-            Ok(lines) => lines,
-            Err(error) => return Err(error_of(error)),
-        };
+        let lines = DirtyLines::open(alloc, board)?;
         let mut node = booted(budget(board.geometry()), lines);
         node.flush_all(board, false)?;
         Ok(node)
@@ -225,8 +246,8 @@ impl Node {
             ⊎ WasArmed B.Board self.old board.old board.new)) }
         ensures worn_lines { IfErr result (λ e. OnWorn e (λ n.
             WearsIn B.Board self.old board.old board.new)) }
-        // where the guard count is 8,192 at the start: no sector is voided, neither for the next entry
-        // nor, once the vehicle isn't armed any more, for a store that was spilled
+        // where the guard count is 8,192 at the start no sector is voided, neither for the next
+        // entry nor, once the vehicle isn't armed any more, for a store that was spilled
         ensures used_up { armed_in self.old ≡ false →
             NextVoids false self.old.lines.store self.old.lines.pending →
             guard_of self.old.lines.store ≡ GUARD_HALFWORDS → IfOk result (λ turn. ⊥) }
@@ -285,8 +306,8 @@ impl Node {
         ensures worn_lines { IfErr result (λ e. OnWorn e (λ n. B.tells board.new →
             (count : ℕ) (b : List ℕ) (events : List Received) (frames : List SentFrame) (m : ℕ) →
             StaysWithin count self b events frames m → MayWear self.budget count b events)) }
-        // always where a sector is to be voided and the guard count is 8,192: so at the start, and at
-        // none of the entries that were put
+        // always where a sector is to be voided and the guard count is 8,192: so at the start, and
+        // at none of the entries that were put
         ensures used_up { armed_in self ≡ false → PendingVoids self.lines →
             guard_of self.lines.store ≡ GUARD_HALFWORDS → IfOk result (λ done. ⊥) }
         ensures unworn { OnOk result
