@@ -7,9 +7,10 @@ use Rattle.std.proofs.lemmas.Grind.{flat_map-append}
 use Rattle.storage_lines.specs.declared.lines.LineWrite.{LineWrite}
 use Rattle.storage_lines.specs.Lines.{after}
 use Rattle.storage_lines.proofs.LineLemmas.{after-append}
-use Rattle.block_store.specs.Store.{durable_of, guard_of, guard_ahead, free_of, spare_of, is_spent}
+use Rattle.block_store.specs.Store.{Store, durable_of, guard_of, guard_ahead, free_of, spare_of, is_spent}
 use Rattle.dirty_lines.specs.Lines.{Lines}
 use Rattle.dirty_lines.specs.Entries.{CutIntoEntries, joined, flash_bytes, Wrote}
+use Rattle.dirty_lines.specs.Wearing.{NoneWears}
 use Rattle.dirty_lines.specs.Steps.Flushing.{IsHeld}
 
 pub cut_then : (xs ys : List (List LineWrite)) (rest mid pending : List LineWrite) → CutIntoEntries xs mid pending → CutIntoEntries ys rest mid → CutIntoEntries (xs ++ ys) rest pending
@@ -97,6 +98,11 @@ no_entries (entry ∷ entries) rest pending cut same = absurd (omega (
   ap (λ (l : List LineWrite). length l) same,
 ))
 
+-- more entries of which none wears the guard row
+pub none_then : (armed : Bool) (xs ys : List (List LineWrite)) (old mid new : Store) → NoneWears armed xs old mid → NoneWears armed ys mid new → NoneWears armed (xs ++ ys) old new
+none_then armed [] ys old mid new first second = subst (λ (s : Store). NoneWears armed ys s new) first second
+none_then armed (x ∷ xs) ys old mid new first second = (first.0, first.1, first.2, none_then armed xs ys first.1 mid new first.3 second)
+
 -- what was put, and more
 pub wrote_then : (xs ys : List (List LineWrite)) (armed : Bool) (old mid new : Lines) → Wrote xs armed old mid → Wrote ys armed mid new → IsFalse (is_spent mid.store)
     → guard_of old.store ≤ guard_of mid.store → guard_of mid.store ≤ guard_of new.store → Wrote (xs ++ ys) armed old new
@@ -107,6 +113,7 @@ wrote_then xs ys armed old mid new first second fit up more = record {
   guard = λ whole. omega (arith, second.guard whole, first.guard fit, length-append xs ys);
   ahead = λ whole. omega (arith, second.ahead whole, first.ahead fit, length-append xs ys);
   spare = λ whole is. omega (arith, second.spare whole is, first.spare fit is, length-joined xs ys);
+  each = λ whole. none_then armed xs ys old.store mid.store new.store (first.each fit) (second.each whole);
 }
 
 -- what was put, and then a refusal
@@ -118,6 +125,7 @@ wrote_held xs armed old mid new first held fit = record {
   guard = λ whole. let is = held.same whole in omega (arith, first.guard fit, ap guard_of is);
   ahead = λ whole. let is = held.same whole in omega (arith, first.ahead fit, ap guard_ahead is);
   spare = λ whole armed_is. let is = held.same whole in omega (arith, first.spare fit armed_is, ap spare_of is);
+  each = λ whole. subst (λ (s : Store). NoneWears armed xs old.store s) (sym (held.same whole)) (first.each fit);
 }
 
 pub wrote_none : (armed : Bool) (lines : Lines) → Wrote [] armed lines lines
@@ -128,4 +136,5 @@ wrote_none armed lines = record {
   guard = λ whole. omega arith;
   ahead = λ whole. omega arith;
   spare = λ whole is. omega arith;
+  each = λ whole. refl;
 }

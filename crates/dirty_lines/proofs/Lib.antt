@@ -1,3 +1,4 @@
 pub mod RunLemmas
 pub mod Cuts
 pub mod Puts
+pub mod Wearing

@@ -14,9 +14,10 @@ use Rattle.storage_lines.specs.Lines.{after}
 use Rattle.sector_image.specs.Stands.{Stands}
 use Rattle.sector_image.specs.Losses.{RaisesGuard}
 use Rattle.sector_image.specs.Fits as fits
+use Rattle.sector_image.specs.Images.{Bytes}
 use Rattle.sector_image.proofs.ImageLaws.{one_value}
 use Rattle.sector_image.proofs.Standing.{raises_none, raises_then}
-use Rattle.block_store.specs.Store.{State, Alone, Spilled, Spent, Store, Fits, durable_of, guard_of, guard_ahead, free_of, spare_of, room_of, home_free, home_free_in, is_alone, is_spilled, is_spent, in_one_sector, in_both_sectors, has_failed, entry_bytes, lacks_in, lacks_room, Voids, raise}
+use Rattle.block_store.specs.Store.{State, Alone, Spilled, Spent, Store, Fits, FitsState, durable_of, guard_of, guard_ahead, free_of, free_in, spare_of, room_of, room_in, home_free, home_free_in, is_alone, is_spilled, is_spent, in_one_sector, in_both_sectors, has_failed, entry_bytes, lacks_in, lacks_room, Voids, raise}
 use Rattle.block_store.specs.Refusals.{OnWorn, IsWornWith}
 use Rattle.block_store.specs.declared.PutError.{PutError}
 use Rattle.block_store.specs.declared.PutError.TheVariants as put_error
@@ -40,6 +41,20 @@ raise_of false false = omega arith
 
 pub raise_most : (armed : Bool) (store : Store) (entry : List LineWrite) → raise armed store entry ≤ 2
 raise_most armed store entry = raise_of armed (lacks_room store entry)
+
+raise_fits : (armed lacks : Bool) → IsFalse lacks → (if armed then 0 else (if lacks then 2 else 0)) ≤ 0
+raise_fits true lacks has = omega arith
+raise_fits false true has = absurd (cc)
+raise_fits false false has = omega arith
+
+-- where there was room, it falls by what is taken
+room_put : {B : Type 0} (g : Ghosts B) (a b : B) (s t : State) (old new : Bytes) (size : ℕ) → FitsState g a s old → FitsState g b t new → g.sector_bytes b ≡ g.sector_bytes a → IsFalse (lacks_in s size)
+    → IsTrue (in_one_sector t) → free_in t + size ≡ free_in s → room_in t new + size ≡ room_in s old
+room_put g a b (Alone kept) (Alone next) old new size was now geometry has alone free = omega (arith, was.0.home.size, now.0.home.size, geometry, free)
+room_put g a b (Alone kept) (Spilled next) old new size was now geometry has alone free = absurd (cc)
+room_put g a b (Alone kept) Spent old new size was now geometry has alone free = absurd now
+room_put g a b (Spilled kept) t old new size was now geometry has alone free = absurd (cc)
+room_put g a b Spent t old new size was now geometry has alone free = absurd was
 
 -- a put that is refused
 pub may_put_next : (pending entry behind : List LineWrite) (most : ℕ) (bytes : List ℕ) (w v : Words) → pending ≡ entry ++ behind → IsLongest entry behind → most ≤ 2 → Stands w bytes
@@ -228,10 +243,12 @@ module _ {B : Type 0} (g : Ghosts B) (reads : (b : B) (o : Outcome) → g.now b 
       → durable_of next ≡ after (durable_of store) entry → (armed ≡ false → IsTrue (is_alone next)) → guard_of next ≡ guard_of store + raise armed store entry
       → guard_ahead next ≤ guard_ahead store + 2 → (guard_of next ≡ guard_of store → free_of next + entry_bytes entry ≡ free_of store)
       → (armed ≡ true → spare_of store ≤ spare_of next + line_bytes * length entry)
+      → (IsFalse (lacks_room store entry) → IsTrue (is_alone next)) → (armed ≡ true → IsTrue (lacks_room store entry) → IsTrue (is_spilled next))
+      → (Voids armed store entry → guard_of store ≡ GUARD_HALFWORDS → ⊥)
       → Changes g a b (MayPutLines (raise armed store entry) entry) (PutsLines (raise armed store entry) entry)
       → (raise armed store entry ≡ 0 → ErasesNothing g a b) → ((k : Fault) → g.faults a k ≤ g.faults b k)
       → HasPut g armed (entry ∷ []) (lines_of store items) (lines_of next rest) a b
-  one_put armed entry behind items rest store next was whole longest rest_is fits durable alone guard ahead free spare changes erases counts =
+  one_put {a} {b} armed entry behind items rest store next was whole longest rest_is fits durable alone guard ahead free spare stays spills used_up changes erases counts =
       let most : raise armed store entry ≤ 2 = raise_most armed store entry in
       let one : joined (entry ∷ []) ≡ entry = joined_one entry in
       record {
@@ -242,6 +259,21 @@ module _ {B : Type 0} (g : Ghosts B) (reads : (b : B) (o : Outcome) → g.now b 
           guard = λ fit. omega (arith, guard, most);
           ahead = λ fit. omega (arith, ahead);
           spare = λ fit is. omega (arith, spare is, ap (λ (l : List LineWrite). length l) one);
+          each = λ fit. (
+            λ voids. used_up voids,
+            next,
+            record {
+              durable = durable;
+              guard = guard;
+              free = free;
+              room = λ has. room_put g a b store.state next.state store.bytes next.bytes (entry_bytes entry) was fits changes.geometry has (stays has)
+                  (free (omega (arith, guard, raise_fits armed (lacks_room store entry) has)));
+              alone = alone;
+              stays = stays;
+              spills = spills;
+            },
+            refl,
+          );
         };
         fits = fits;
         rises = omega (arith, guard);

@@ -6,6 +6,7 @@ use Rattle.storage_lines.specs.declared.lines.LineWrite.{LineWrite}
 use Rattle.storage_lines.specs.Lines.{after}
 use Rattle.block_store.specs.Store.{Ascend, durable_of, entry_bytes, guard_of, guard_ahead, free_of, spare_of, is_spent}
 use Rattle.dirty_lines.specs.Lines.{Lines}
+use Rattle.dirty_lines.specs.Wearing.{NoneWears}
 
 -- the first of these lines, if there is one, doesn't have this number
 abbrev pub DoesNotBegin : ℕ → List LineWrite → Type 0
@@ -51,7 +52,8 @@ pub record IsFewest (n : ℕ) (entries : List (List LineWrite)) (rest : List Lin
 
 -- These entries were put, and nothing else. As long as the store isn't spent, the free bytes of
 -- both sectors fall by just what the entries take where there was no switch, the guard count rises
--- by at most two for each entry, and while armed the spare bytes fall by at most ten for each line.
+-- by at most two for each entry, and while armed the spare bytes fall by at most ten for each line;
+-- and none of the entries had a sector to be voided where the guard row was used up.
 pub record Wrote (entries : List (List LineWrite)) (armed : Bool) (old new : Lines) : Type 0 where
   pub cut : CutIntoEntries entries new.pending old.pending
   pub durable : durable_of new.store ≡ after (durable_of old.store) (joined entries)
@@ -63,3 +65,4 @@ pub record Wrote (entries : List (List LineWrite)) (armed : Bool) (old new : Lin
       → guard_ahead new.store ≤ guard_ahead old.store + 2 * length entries
   pub spare : IsFalse (is_spent new.store) → armed ≡ true
       → spare_of old.store ≤ spare_of new.store + line_bytes * length (joined entries)
+  pub each : IsFalse (is_spent new.store) → NoneWears armed entries old.store new.store

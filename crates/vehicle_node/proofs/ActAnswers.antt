@@ -1,5 +1,5 @@
 -- One act answered: its lines are issued, all are put where it needs that, and then its frames are sent.
-use Rattle.std.proofs.Common.{◌≡◌, inl, inr, ℕ, ◌+◌, ◌*◌, ◌≤◌, Bool, false, List, [], ◌++◌, length, take, Result, Ok, Err, refl, sym, ◌∙◌, ap, subst, arith, append_assoc, append-nil}
+use Rattle.std.proofs.Common.{◌≡◌, inl, inr, ℕ, ◌+◌, ◌*◌, ◌≤◌, Bool, List, [], ◌++◌, length, take, Result, Ok, Err, refl, sym, ◌∙◌, ap, subst, arith, append_assoc, append-nil}
 use Rattle.std.specs.Prelude.{⊤, IsErrAnd, IfErr, IsTrue, ◌&&◌}
 use Rattle.std.proofs.lemmas.List.Sums.{fold-append}
 use Rattle.std.proofs.lemmas.Result.{IfErr-weaker}
@@ -15,7 +15,6 @@ use Rattle.param_index.specs.Places.{Places}
 use Rattle.block_store.specs.Store.{durable_of, guard_ahead, is_alone, HasSpare}
 use Rattle.block_store.specs.Store as store
 use Rattle.dirty_lines.specs.Lines.{Lines, current_of}
-use Rattle.dirty_lines.specs.Losses.{IsWornForNext}
 use Rattle.vehicle_core.specs.declared.orders.Need.{Need}
 use Rattle.vehicle_core.specs.declared.orders.Need.TheVariants.{Nothing}
 use Rattle.vehicle_core.specs.Vehicle.{Vehicle, is_armed}
@@ -26,12 +25,14 @@ use Rattle.vehicle_node.specs.Frames.{Machine, Answer, Delivery, deliveries, cou
 use Rattle.vehicle_node.specs.Guard.{CountsUpTo}
 use Rattle.vehicle_node.specs.Refusals.{OnWorn}
 use Rattle.vehicle_node.specs.Safe.{Adds}
-use Rattle.vehicle_node.specs.Standing.{Node, Fits, IsAlone, armed_in, ceiling, raised_by}
+use Rattle.vehicle_node.specs.Standing.{Node, Fits, armed_in, ceiling, raised_by}
+use Rattle.vehicle_node.specs.Wearing.{Unworn}
 use Rattle.vehicle_node.specs.Steps.Calls.{HasSent, IsWornAlone, WornAlone}
 use Rattle.vehicle_node.specs.Steps.Inside.{view_of}
 use Rattle.vehicle_node.specs.Steps.Answering.{did_at, armed_over, Answering, AnsweredAs, AnswerDone, ActDone, Flushing, SettledAll, SettleDone, IssuedAll, IssueDone}
 use Rattle.vehicle_node.specs.Steps.Sending.{SendsPrefix, SentAll, SendDone, answers_to}
 use Rattle.vehicle_node.specs.declared.Node.TheInside.{Inside}
+use Rattle.vehicle_node.proofs.Wearing.{unworn_none, unworn_then}
 use Rattle.vehicle_node.proofs.Putting.{now_stands, now_within}
 use Rattle.vehicle_node.proofs.Keeping.{no_wear}
 use Rattle.vehicle_node.proofs.Passing.{on_ok, worn_more, passed_on, cut_call, begun, going_on, lists_kept, lists_then, sent_nothing, sent_both}
@@ -150,6 +151,12 @@ module _ {B : Type 0} (g : Ghosts B) where
       ahead_so_far : ceiling last ≤ ceiling old + 2 * length writes
       ahead_so_far = omega (arith, settled.settled.puts.ahead, ceilings counted.lines mid.lines lines, all.issued.ahead)
 
+      unworn_so_far : (new : Node) → new.lines ≡ last.lines → Unworn armed writes old.lines new.lines
+      unworn_so_far new same =
+          subst (λ (l : Lines). Unworn armed writes old.lines l) (sym same)
+          (subst (λ (l : List LineWrite). Unworn armed l old.lines last.lines) (append-nil writes)
+          (unworn_then armed writes [] old.lines mid.lines last.lines all.issued.unworn (subst (λ (l : Lines). Unworn armed [] l last.lines) lines settled.settled.puts.unworn)))
+
       sent_so_far : HasSent g [] (Adds [] []) a c
       sent_so_far = sent_both g [] [] a b c all.sent settled.sent
 
@@ -202,6 +209,7 @@ module _ {B : Type 0} (g : Ghosts B) where
                     | inl alone ↦ settled.settled.puts.alone not (subst (λ (l : Lines). IsTrue (is_alone l.store)) (sym lines) (all.issued.alone not alone))
                     | inr needs ↦ settled.settled.alone needs not
                   ]);
+              unworn = unworn_so_far new x.sent.lines;
             };
             sent = record {
               lists = λ e f stood. x.told.lists e f (subst (g.has_lists c e) (append-nil f) (sent_so_far.lists e f stood));
@@ -255,6 +263,7 @@ module _ {B : Type 0} (g : Ghosts B) where
         ahead = x.answered.ahead;
         spare = x.answered.spare;
         alone = x.answered.alone;
+        unworn = x.answered.unworn;
       };
       sent = x.sent;
       still = x.still;
@@ -323,6 +332,7 @@ module _ {B : Type 0} (g : Ghosts B) (reads : (b : B) (o : Outcome) → g.now b 
         ahead = omega arith;
         spare = λ is more has. omega (arith, has);
         alone = λ not given. elim given [ inl alone ↦ alone | inr all ↦ absurd (cc) ];
+        unworn = unworn_none armed node.lines;
       };
       sent = sent_nothing g board;
       still = λ is. record { erases = refl };

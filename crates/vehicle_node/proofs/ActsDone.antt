@@ -1,6 +1,6 @@
 -- The acts of an event, one after another.
-use Rattle.std.proofs.Common.{◌≡◌, ◌⊎◌, inl, inr, Bool, true, false, ℕ, ◌+◌, ◌*◌, ◌<◌, ◌≤◌, List, [], ◌∷◌, ◌++◌, length, map, take, drop, take-append-drop, refl, sym, ◌∙◌, ap, subst, arith, append_assoc, append-nil, length-append, Option, Some, None, Result, Ok, Err}
-use Rattle.std.specs.Prelude.{⊤, IsErrAnd}
+use Rattle.std.proofs.Common.{◌≡◌, inl, inr, Bool, true, false, ℕ, ◌+◌, ◌*◌, ◌<◌, ◌≤◌, List, [], ◌∷◌, ◌++◌, length, map, take, drop, take-append-drop, refl, sym, ◌∙◌, ap, subst, arith, append_assoc, append-nil, length-append, Option, Some, None, Result, Ok, Err}
+use Rattle.std.specs.Prelude.{⊤, IsErrAnd, ◌&&◌}
 use Rattle.std.specs.Option.{option_map_or}
 use Rattle.std.proofs.lemmas.Bool.{cases_Bool, and_from, and_right}
 use Rattle.std.proofs.lemmas.List.{take_more}
@@ -15,7 +15,6 @@ use Rattle.sector_image.specs.Stands.{Stands}
 use Rattle.block_store.specs.Store.{durable_of}
 use Rattle.block_store.specs.Store as store
 use Rattle.dirty_lines.specs.Lines.{current_of}
-use Rattle.dirty_lines.specs.Losses.{IsWornForNext}
 use Rattle.vehicle_core.specs.declared.orders.Need.TheVariants.{Nothing, FlushAll}
 use Rattle.vehicle_core.specs.declared.orders.Order.{Order}
 use Rattle.vehicle_core.specs.declared.orders.Order.TheVariants.{Flush, Arm, Disarm, Deny, Refuse}
@@ -29,7 +28,8 @@ use Rattle.vehicle_node.specs.Frames.{Machine, stations}
 use Rattle.vehicle_node.specs.Guard.{CountsUpTo}
 use Rattle.vehicle_node.specs.Runs.{Run, act_done, all_acts, did_in}
 use Rattle.vehicle_node.specs.Safe.{SafeAt, Adds}
-use Rattle.vehicle_node.specs.Standing.{Node, IsAlone, IsAloneUnlessArmed, StandsAt, armed_in, ceiling, raised_by}
+use Rattle.vehicle_node.specs.Standing.{Node, IsAloneUnlessArmed, StandsAt, armed_in, ceiling, raised_by}
+use Rattle.vehicle_node.specs.Wearing.{Unworn, ActsUnworn}
 use Rattle.vehicle_node.specs.Steps.Calls.{IsWornAlone, WornAlone, IsWornWhere, WornWhere}
 use Rattle.vehicle_node.specs.Steps.Answering.{did_at, deliveries_at, node_after, armed_over, Answering, AnsweredAs, ActDone}
 use Rattle.vehicle_node.specs.Steps.Hearing.{StandsBelow, SafeInside, SafeIn, AnsweredAll, ActsAnswered, ActsDone, MayWearIn}
@@ -37,6 +37,7 @@ use Rattle.vehicle_node.proofs.RunLaws.{all_acts_floor, all_acts-append, Extends
 use Rattle.vehicle_node.proofs.Orders.{did_arms, did_needs, armed-append, once_before, once_after, throughout_before, throughout_after, none_before, none_after}
 use Rattle.vehicle_node.proofs.At.{did_is, safe_still, safe_answering, stands_answered}
 use Rattle.vehicle_node.proofs.FramesSent.{raised-more, counted-vehicle}
+use Rattle.vehicle_node.proofs.Wearing.{acts_unworn}
 use Rattle.vehicle_node.proofs.Putting.{now_stands, now_within}
 use Rattle.vehicle_node.proofs.ActAnswers.{counts_more}
 use Rattle.vehicle_node.proofs.Passing.{on_ok, worn_more, cut_call, begun, going_on, lists_kept, lists_then, sent_nothing, sent_both}
@@ -142,6 +143,7 @@ module _ {B : Type 0} (g : Ghosts B) where
     armed = refl;
     alone = λ unless. unless;
     still = λ throughout. record { erases = refl };
+    unworn = (refl, refl);
   }
 
   module _ (old : Node) (board : B) (act : Act) where
@@ -175,6 +177,17 @@ module _ {B : Type 0} (g : Ghosts B) where
             | inr off ↦ a.answered.alone over (inl (unless off))
           ];
       still = λ throughout. a.still (and_from (armed_in old) (is_armed (did_at old act).vehicle) throughout.0 (arms ∙ throughout.1));
+      unworn = (
+        (did_at old act).writes,
+        [],
+        new.lines,
+        sym (append-nil (did_at old act).writes),
+        record {
+          unworn = subst (λ (b : Bool). Unworn (armed_in old && b) (did_at old act).writes old.lines new.lines) arms a.answered.unworn;
+          whole = λ all. a.answered.whole (needs ∙ all);
+        },
+        (refl, refl),
+      );
     }
       where
         after : armed_in new ≡ is_armed_after (armed_in old) act
@@ -225,6 +238,8 @@ module _ {B : Type 0} (g : Ghosts B) where
         let before = first.still (throughout_before (armed_in old) ps qs throughout) in
         let after = second.still (subst (λ (b : Bool). IsArmedThroughout b qs) (sym first.armed) (throughout_after (armed_in old) ps qs throughout)) in
         record { erases = after.erases ∙ before.erases };
+    unworn = acts_unworn (armed_in old) ps qs first.issued second.issued old.lines mid.lines new.lines first.unworn
+        (subst (λ (b : Bool). ActsUnworn b qs second.issued mid.lines new.lines) first.armed second.unworn);
   }
     where
       goes_on : (b : List ℕ) (r : Run) → all_acts mid.budget b (all_acts old.budget b r ps) qs ≡ all_acts old.budget b r (ps ++ qs)

@@ -1,6 +1,6 @@
 -- A node opened: the lines of boot are issued and put; and closed: all pending lines are put.
 use Rattle.std.proofs.Common.{◌≡◌, ◌≢◌, inl, ℕ, ◌+◌, ◌*◌, ◌-◌, ◌^◌, ◌<◌, ◌≤◌, min, Bool, true, false, cond, List, [], ◌++◌, length, get_or, take, drop, refl, sym, ◌∙◌, ap, subst, arith, append-nil, append_assoc, Some, Result, Ok, Err}
-use Rattle.std.specs.Prelude.{◌↔◌, ⊤, OnOk, IfErr, IfSome, IsTrue, map, slice_get}
+use Rattle.std.specs.Prelude.{◌↔◌, ⊤, OnOk, IfOk, IfErr, IsErrAnd, IfSome, IsTrue, map, slice_get}
 use Rattle.std.specs.Str.{bytes_eq}
 use Rattle.std.proofs.lemmas.Option.{slice_get-get_or}
 use Rattle.std.proofs.lemmas.Slice.Eq.{bytes_eq-Decides}
@@ -8,6 +8,7 @@ use Rattle.flash_traits.specs.Words.{Words}
 use Rattle.flash_traits.specs.Budget.{budget_of}
 use Rattle.flash_traits.specs.declared.board.Board.{Ghosts}
 use Rattle.flash_traits.specs.declared.board.Fault.{Fault}
+use Rattle.flash_traits.specs.declared.board.Fault.TheVariants.{Read}
 use Rattle.flash_traits.specs.Calls.{Passes, Changes}
 use Rattle.flash_traits.specs.declared.numbers.TheConstants.{GUARD_HALFWORDS}
 use Rattle.flash_traits.specs.Losses.{Received, SentFrame, Outcome, After, OnWords}
@@ -29,22 +30,25 @@ use Rattle.param_convert.specs.declared.rules.Rule.{Rule}
 use Rattle.param_convert.specs.Rules.{to_servo1_trim, vehicle_rules}
 use Rattle.param_convert.proofs.ConvertSteps.{from_step}
 use Rattle.sector_log.specs.Bytes.{value_of}
-use Rattle.sector_image.specs.Stands.{Stands, Reading, Both, One, Reads, entries_in, count_in}
+use Rattle.sector_image.specs.Stands.{Stands, Reading, Both, One, Reads, entries_in, count_in, count_after}
+use Rattle.sector_switch.specs.States.{HomeAfter}
 use Rattle.sector_image.proofs.Values.{is_value}
 use Rattle.sector_image.specs.Losses.{KeepsBytes}
 use Rattle.sector_image.proofs.ImageLaws.{one_value}
 use Rattle.sector_image.specs.FirstBad.{Place}
 use Rattle.block_store.specs.declared.OpenError.{OpenError}
 use Rattle.block_store.specs.declared.OpenError.TheVariants as open_error
-use Rattle.block_store.specs.Refusals.{OnOpenFault, OnOpenForeign, OnOpenWorn}
-use Rattle.block_store.specs.Store.{Store, durable_of, guard_of, guard_ahead, is_alone}
+use Rattle.block_store.specs.Refusals.{OnOpenFault, OnOpenForeign, OnOpenWorn, OpenLeavesAlone}
+use Rattle.block_store.specs.Store.{Store, durable_of, guard_of, guard_ahead, is_alone, OnHome}
 use Rattle.block_store.specs.Store as store
 use Rattle.dirty_lines.specs.Lines.{Lines, lines_of, current_of}
+use Rattle.dirty_lines.specs.Entries.{CutIntoEntries}
 use Rattle.dirty_lines.specs.Losses.{IsWornForNext}
+use Rattle.dirty_lines.specs.Wearing.{NoneWears}
 use Rattle.vehicle_core.specs.Vehicle.{is_armed}
 use Rattle.vehicle_node.specs.declared.NodeError.{NodeError}
 use Rattle.vehicle_node.specs.declared.NodeError.TheVariants as node_error
-use Rattle.vehicle_node.specs.Refusals.{OnFault, OnForeign, OnWorn}
+use Rattle.vehicle_node.specs.Refusals.{OnFault, OnForeign, OnWorn, LeavesAlone}
 use Rattle.vehicle_node.specs.Frames.{Machine}
 use Rattle.vehicle_node.specs.Reading.{no_rests}
 use Rattle.vehicle_node.specs.Runs.{Run, BootStep, format_step, convert_step, boot_steps, boot, run_of}
@@ -52,17 +56,20 @@ use Rattle.vehicle_node.specs.Guard.{CountsUpTo, RisesWithin, MayWear}
 use Rattle.vehicle_node.specs.Safe.{Safe, SafeSince, Adds}
 use Rattle.vehicle_node.specs.Standing.{Node, Fits, HasRoomSince, IsAlone, IsAloneUnlessArmed, StandsAt, StandsForRun, StaysWithin, armed_in, counts, ceiling, raised_in}
 use Rattle.vehicle_node.specs.Steps.Calls.{IsWornAlone, WornAlone}
-use Rattle.vehicle_node.specs.Steps.Answering.{OnlyPuts, Flushing, FlushedAll, FlushDone}
-use Rattle.vehicle_node.specs.Steps.Opening.{error_of, IsBooted}
+use Rattle.vehicle_node.specs.Wearing.{PendingVoids, AllUnworn, BootUnworn}
+use Rattle.vehicle_node.specs.Steps.Answering.{OnlyPuts, Flushing, Flushed, FlushedAll, FlushDone}
+use Rattle.vehicle_node.specs.Steps.Errors.{opens_not}
+use Rattle.vehicle_node.specs.Steps.Opening.{IsBooted}
 use Rattle.vehicle_node.proofs.RunLaws.{run_of_none, safe_by}
 use Rattle.vehicle_node.proofs.At.{current_is}
 use Rattle.vehicle_node.proofs.ActAnswers.{counts_more}
 use Rattle.vehicle_node.proofs.Fitting.{puts_index}
 use Rattle.vehicle_node.proofs.Events.{since_put, rises_still}
+use Rattle.vehicle_node.proofs.UsedUp.{all_fits}
 use Rattle.vehicle_node.proofs.Finishing.{Leaves}
 use Rattle.block_store.proofs.StoreLaws.{fits_stands, fits_guard}
 use Rattle.vehicle_node.proofs.Putting.{guard_alone, nothing_sent}
-use Rattle.vehicle_node.proofs.Passing.{worn_more, going_on}
+use Rattle.vehicle_node.proofs.Passing.{worn_more, going_on, error_at, error_passed}
 use Rattle.std.proofs.lemmas.Result.{IfErr-weaker}
 
 boot_cases : (due begins : Bool) (x : List ℕ) (writes : List LineWrite) → ((due ≡ true) ↔ (x ≢ magic)) → (begins ≡ true → x ≡ magic) → (x ≡ magic → begins ≡ true) → cond due writes [] ≡ cond begins [] writes
@@ -142,23 +149,22 @@ few_lines top n count is le = omega arith
 pub boot_count : (count : ℕ) (lines : Lines) (store : Store) → count ≡ length lines.pending → count ≤ 2048 → lines ≡ lines_of store (boot (durable_of store)) → count ≡ counts (length (boot (durable_of store)))
 boot_count count lines store is le are = few_lines (2 ^ 64 - 1) (length (boot (durable_of store))) count (is ∙ ap (λ (l : Lines). length l.pending) are) (omega arith)
 
-pub on_foreign : (e : OpenError) (P : Place → Type 0) → OnOpenForeign e P → OnForeign (error_of e) P
+pub on_foreign : (e : OpenError) (P : Place → Type 0) → OnOpenForeign e P → OnForeign (opens_not e) P
 on_foreign open_error.Memory P p = tt
 on_foreign (open_error.Fault kind) P p = tt
 on_foreign (open_error.Foreign region offset word) P p = p
 on_foreign (open_error.Worn count) P p = tt
 
-pub foreign_at : (e : OpenError) (error : NodeError) (P : Place → Type 0) → error ≡ error_of e → OnOpenForeign e P → OnForeign error P
-foreign_at e error P is p = subst (λ (n : NodeError). OnForeign n P) (sym is) (on_foreign e P p)
+on_fault : (e : OpenError) (P : Fault → Type 0) → OnOpenFault e P → OnFault (opens_not e) P
+on_fault open_error.Memory P p = tt
+on_fault (open_error.Fault kind) P p = p
+on_fault (open_error.Foreign region offset word) P p = tt
+on_fault (open_error.Worn count) P p = tt
 
-pub fault_at : (e : OpenError) (error : NodeError) (P : Fault → Type 0) → error ≡ error_of e → OnOpenFault e P → OnFault error P
-fault_at e error P is p = subst (λ (n : NodeError). OnFault n P) (sym is) (on_fault e P p)
-  where
-    on_fault : (e : OpenError) (P : Fault → Type 0) → OnOpenFault e P → OnFault (error_of e) P
-    on_fault open_error.Memory P p = tt
-    on_fault (open_error.Fault kind) P p = p
-    on_fault (open_error.Foreign region offset word) P p = tt
-    on_fault (open_error.Worn count) P p = tt
+-- a node whose store isn't opened leaves the words alone as the store does
+pub left_alone_by : {B S T : Type 0} (g : Ghosts B) (a b : B) (e : OpenError) (r : Result T NodeError) → IsErrAnd r (λ d. d ≡ opens_not e) → (let refused : Result S OpenError = Err e in OpenLeavesAlone g a b refused) → LeavesAlone g a b r
+left_alone_by g a b e r err alone =
+    error_passed r (opens_not e) (λ r. LeavesAlone g a b r) err (record { moment = alone.moment; words = alone.words; refused = tt; read = on_fault e (λ kind. kind ≡ Read) alone.read })
 
 -- a prefix of the lines of boot is put
 safe_boot : (budget : ℕ) (b : List ℕ) (put rest : List LineWrite) (words : Words) → put ++ rest ≡ boot b → Stands words (after b put) → Safe budget b [] [] 0 words
@@ -321,6 +327,43 @@ closed_at g armed (Ok v) node board last new f none fits =
     closed g armed node last new w.flushed.puts none fits
 closed_at g armed (Err e) node board last new f none fits = tt
 
+-- and none of their entries wears the guard row
+pub closed_unworn : {B : Type 0} (g : Ghosts B) (armed : Bool) (result : Result ⊤ NodeError) (node : Node) (board : B) (last : Node) (new : B) → armed ≡ armed_in node
+    → FlushDone g (length node.lines.pending) armed node board result last new → OnOk result (last.lines.pending ≡ []) → OnOk result (store.Fits g new last.lines.store)
+    → OnOk result (AllUnworn g (armed_in node) node.lines new)
+closed_unworn g armed (Ok v) node board last new is f none fits =
+    let w : FlushedAll g (length node.lines.pending) armed node board last new = f.done in
+    record {
+      entries = w.flushed.entries;
+      cut = subst (λ (l : List LineWrite). CutIntoEntries w.flushed.entries l node.lines.pending) none w.flushed.cut;
+      last = last.lines.store;
+      each = subst (λ (b : Bool). NoneWears b w.flushed.entries node.lines.store last.lines.store) is w.flushed.each;
+      fits = fits;
+    }
+closed_unworn g armed (Err e) node board last new is f none fits = tt
+
+pub closed_fits : {B : Type 0} (g : Ghosts B) (result : Result ⊤ NodeError) (node : Node) (new : B) → OnOk result (AllUnworn g (armed_in node) node.lines new) → armed_in node ≡ false
+    → PendingVoids node.lines → guard_of node.lines.store ≡ GUARD_HALFWORDS → IfOk result (λ done. ⊥)
+closed_fits g (Ok v) node new w not voids full =
+    let all : AllUnworn g (armed_in node) node.lines new = w in
+    all_fits (armed_in node) node.lines all.entries all.last all.cut all.each not full voids
+closed_fits g (Err e) node new w not voids full = tt
+
+-- the lines of boot were put, and none of their entries wears the guard row
+pub booted_unworn : (words : Words) (taken : ℕ) (lines : Lines) (node last : Node) → IsBooted taken lines node → IsTrue (is_alone lines.store) → Stands words (durable_of lines.store)
+    → ((reading : Reading) → Reads words reading → guard_of lines.store ≡ count_after reading) → ((reading : Reading) → Reads words reading → OnHome lines.store (HomeAfter reading))
+    → (n : ℕ) → Flushed n false node last → last.lines.pending ≡ [] → BootUnworn words last.lines
+booted_unworn words taken lines node last booted alone stands guard home n f none = record {
+  opened = lines.store;
+  alone = alone;
+  stands = stands;
+  guard = guard;
+  home = home;
+  entries = f.entries;
+  cut = subst (λ (l : List LineWrite). CutIntoEntries f.entries [] l) (ap (λ (l : Lines). l.pending) booted.lines_are) (subst (λ (l : List LineWrite). CutIntoEntries f.entries l node.lines.pending) none f.cut);
+  each = subst (λ (s : Store). NoneWears false f.entries s last.lines.store) (ap (λ (l : Lines). l.store) booted.lines_are) f.each;
+}
+
 -- where the flush of a closing finds the guard row used up, the vehicle isn't armed
 pub closed_worn : {B : Type 0} (g : Ghosts B) (armed : Bool) (node last : Node) (new : B) (r : Result ⊤ NodeError) → armed ≡ armed_in node → IfErr r (WornAlone g armed (ceiling node) node last new)
     → IfErr r (λ e. OnWorn e (λ count. IsAloneUnlessArmed node → (lines : Lines) × IsWornForNext g new lines))
@@ -367,10 +410,10 @@ read_wears w reading reads full budget count b row = record {
   enough = omega (arith, one_count w.guard count (count_in reading) row (reads_guard w reading reads), full);
 }
 
-pub worn_at : (error : OpenError) (result : NodeError) (P Q : ℕ → Type 0) → result ≡ error_of error → ((count : ℕ) → P count → Q count) → OnOpenWorn error P → OnWorn result Q
-worn_at error result P Q is weaker given = subst (λ (e : NodeError). OnWorn e Q) (sym is) (worn_of error P Q weaker given)
+pub worn_at : {T : Type 0} (error : OpenError) (r : Result T NodeError) (P Q : ℕ → Type 0) → IsErrAnd r (λ d. d ≡ opens_not error) → ((count : ℕ) → P count → Q count) → OnOpenWorn error P → IfErr r (λ e. OnWorn e Q)
+worn_at error r P Q err weaker given = error_at r (opens_not error) (λ e. OnWorn e Q) err (worn_of error P Q weaker given)
   where
-    worn_of : (error : OpenError) (P Q : ℕ → Type 0) → ((count : ℕ) → P count → Q count) → OnOpenWorn error P → OnWorn (error_of error) Q
+    worn_of : (error : OpenError) (P Q : ℕ → Type 0) → ((count : ℕ) → P count → Q count) → OnOpenWorn error P → OnWorn (opens_not error) Q
     worn_of open_error.Memory P Q weaker given = tt
     worn_of (open_error.Fault kind) P Q weaker given = tt
     worn_of (open_error.Foreign region offset word) P Q weaker given = tt

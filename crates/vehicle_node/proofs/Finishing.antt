@@ -1,5 +1,5 @@
 -- One event, from its reception to the flush at its end.
-use Rattle.std.proofs.Common.{◌≡◌, ◌⊎◌, inl, inr, Bool, true, false, ℕ, ◌+◌, ◌*◌, ◌≤◌, List, [], ◌∷◌, ◌++◌, length, refl, sym, ◌∙◌, ap, subst, arith, append_assoc, append-nil, length-append, Result, Ok, Err, Option, Some, None}
+use Rattle.std.proofs.Common.{◌≡◌, inl, inr, Bool, true, false, ℕ, ◌+◌, ◌*◌, ◌≤◌, List, [], ◌∷◌, ◌++◌, length, refl, sym, ◌∙◌, ap, subst, arith, append_assoc, append-nil, length-append, Result, Ok, Err, Option, Some, None}
 use Rattle.std.specs.Prelude.{◌↔◌, ⊤, IsErr, option_to_list}
 use Rattle.flash_traits.specs.declared.board.Board.{Ghosts}
 use Rattle.flash_traits.specs.declared.numbers.TheConstants.{GUARD_HALFWORDS}
@@ -10,17 +10,18 @@ use Rattle.flash_traits.specs.Losses.{Received, received, IsEventInRange, End, M
 use Rattle.flash_traits.proofs.Moments.{weaker}
 use Rattle.storage_lines.specs.declared.lines.LineWrite.{LineWrite}
 use Rattle.block_store.specs.Store as store
-use Rattle.dirty_lines.specs.Losses.{IsWornForNext}
+use Rattle.dirty_lines.specs.Entries.{IsFewest}
+use Rattle.dirty_lines.specs.Wearing.{NoneWears}
 use Rattle.vehicle_core.specs.Vehicle.{is_armed}
 use Rattle.vehicle_node.specs.declared.NodeError.{NodeError}
 use Rattle.vehicle_node.specs.declared.Turn.{Turn}
 use Rattle.vehicle_node.specs.declared.Turn.TheVariants as turn
 use Rattle.vehicle_node.specs.Frames.{Machine}
-use Rattle.vehicle_node.specs.Guard.{RisesWithin, MayWear, WearsIn}
+use Rattle.vehicle_node.specs.Guard.{RisesWithin, WearsIn}
 use Rattle.vehicle_node.specs.Reading.{IsEvent, no_rests}
 use Rattle.vehicle_node.specs.Runs.{Run, all_acts, run_of}
 use Rattle.vehicle_node.specs.Safe.{SafeSince, Adds}
-use Rattle.vehicle_node.specs.Standing.{Node, IsAlone, IsAloneUnlessArmed, StandsForRun, StaysWithin, Finished, WasArmed, armed_in, ceiling, raised_in}
+use Rattle.vehicle_node.specs.Standing.{Node, IsAloneUnlessArmed, StandsForRun, StaysWithin, Finished, WasArmed, armed_in, ceiling, raised_in}
 use Rattle.vehicle_node.specs.Steps.Calls.{MaySend, IsWornAlone, WornAlone, IsWornWhere, WornWhere}
 use Rattle.vehicle_node.specs.Steps.Answering.{Flushing, FlushedAll, FlushDone}
 use Rattle.vehicle_node.specs.Steps.Hearing.{StandsBelow, SafeTaken, ArmedTaking, WearingTaking, TakenAll, TakeDone}
@@ -38,6 +39,9 @@ pub received_in_range : (e : Event) (buffer : List ℕ) → IsEventInRange e →
 received_in_range (event.Datagram peer len) buffer in_range = in_range.0
 received_in_range event.Idle buffer in_range = tt
 received_in_range event.End buffer in_range = tt
+
+is_eight : (n : ℕ) → 8 ≤ n → n ≤ 8 → n ≡ 8
+is_eight n least most = omega (arith, least, most)
 
 -- What a loss leaves of a node inside an event or while it is closed: of whatever run it stood for.
 pub record Leaves (node : Node) (from o : Outcome) : Type 0 where
@@ -226,6 +230,14 @@ module _ {B : Type 0} (g : Ghosts B) (reads : (b : B) (o : Outcome) → g.now b 
           split = split_twice all.answered.put w.flushed.puts.put mid.lines.pending new.lines.pending old.lines.pending all.answered.issued all.answered.split w.flushed.puts.split;
           few = λ none few. omega (arith, most, w.flushed.few, ap length (all.answered.few none few), length-append all.answered.put w.flushed.puts.put);
           within = done_within;
+          unworn = record {
+            mid = mid.lines;
+            acted = all.answered.unworn;
+            entries = w.flushed.entries;
+            cut = w.flushed.cut;
+            fewest = subst (λ (k : ℕ). IsFewest k w.flushed.entries new.lines.pending) (is_eight n eight most) w.flushed.fewest;
+            last = subst (λ (b : Bool). NoneWears b w.flushed.entries mid.lines.store new.lines.store) (is ∙ all.answered.armed) w.flushed.each;
+          };
         }
 
 -- what clauses say of losses, where the call was cut short

@@ -56,6 +56,7 @@ answered_from g old rests board acts new last a = record {
   armed = a.armed;
   alone = a.alone;
   still = a.still;
+  unworn = a.unworn;
 }
 
 at_ok_result : (result : Result ⊤ NodeError) (P : Result ⊤ NodeError → Type 0) → IsOk result → P (Ok tt) → P result

@@ -6,6 +6,8 @@ pub mod Floors
 pub mod Readings
 pub mod At
 pub mod Passing
+pub mod Wearing
+pub mod UsedUp
 pub mod Keeping
 pub mod ActsDone
 pub mod Heard

@@ -5,6 +5,7 @@ use Rattle.std.proofs.lemmas.Result.{IfErr-weaker}
 use Rattle.std.proofs.lemmas.Bool.{both_ways}
 use Rattle.std.proofs.lemmas.List.Sums.{fold-append}
 use Rattle.flash_traits.specs.Words.{Words}
+use Rattle.flash_traits.specs.declared.numbers.TheConstants.{GUARD_HALFWORDS}
 use Rattle.flash_traits.specs.declared.board.Board.{Ghosts}
 use Rattle.flash_traits.specs.Losses.{Outcome, OnWords, ByResult}
 use Rattle.flash_traits.specs.Calls.{Changes, Passes}
@@ -30,10 +31,12 @@ use Rattle.vehicle_core.specs.declared.orders.Need.TheVariants.{Nothing, FlushAl
 use Rattle.vehicle_node.specs.Guard.{CountsUpTo}
 use Rattle.vehicle_node.specs.Safe.{Adds}
 use Rattle.vehicle_node.specs.Standing.{Node, IsAlone, ceiling}
+use Rattle.vehicle_node.specs.Wearing.{Unworn}
 use Rattle.vehicle_node.specs.Steps.Calls.{HasSent, IsWornAlone, WornAlone}
 use Rattle.vehicle_node.specs.Steps.Answering.{OnlyPuts, Flushing, Flushed, FlushedAll, FlushDone, Compacted, CompactedAll, CompactDone, SettledAll, SettleDone, Issued, IssueDone}
 use Rattle.vehicle_node.specs.declared.NodeError.{NodeError}
 use Rattle.vehicle_node.specs.declared.TheConstants.{ROOM_FROM}
+use Rattle.vehicle_node.proofs.Wearing.{unworn_none, unworn_then, unworn_put, unworn_compact, unworn_issue}
 use Rattle.vehicle_node.proofs.Passing.{on_ok, worn_more, cut_call, begun, going_on, lists_kept, lists_then, sent_nothing, sent_both}
 
 pub guard_le : (state : State) → guard_in state ≤ guard_in state + (if in_both_sectors state then 2 else 0)
@@ -136,9 +139,14 @@ flushed n old new {armed} entries wrote fewest unspent alone same = record {
     ahead = omega (arith, wrote.ahead unspent, entries_few entries new.lines.pending old.lines.pending wrote.cut);
     spare = λ is more has. entries_spare entries armed old.lines new.lines wrote unspent is more has;
     alone = alone;
+    unworn = unworn_put armed old.lines new.lines entries wrote.cut (wrote.each unspent);
   };
   enough = fewest.enough;
   few = few_joined entries new.lines.pending old.lines.pending n wrote.cut fewest.fewest;
+  entries = entries;
+  cut = wrote.cut;
+  fewest = fewest;
+  each = wrote.each unspent;
 }
 
 -- nothing is put
@@ -156,6 +164,7 @@ puts_none armed node = record {
   ahead = omega arith;
   spare = λ is more has. has;
   alone = λ is alone. alone;
+  unworn = unworn_none armed node.lines;
 }
 
 -- lines are put, and then others
@@ -173,6 +182,7 @@ puts_then armed old mid new p q = record {
   ahead = omega (arith, p.ahead, q.ahead);
   spare = λ is more has. q.spare is more (p.spare is more has);
   alone = λ is alone. q.alone is (p.alone is alone);
+  unworn = unworn_then armed [] [] old.lines mid.lines new.lines p.unworn q.unworn;
 }
 
 pub puts_compacted : (armed : Bool) (old new : Node) → armed ≡ false → Compacted old new → OnlyPuts armed old new
@@ -189,10 +199,19 @@ puts_compacted armed old new not c = record {
   ahead = c.ahead;
   spare = λ is more has. absurd (both_ways armed not is);
   alone = λ is alone. c.alone;
+  unworn = unworn_compact armed old.lines new.lines not c.compacts;
 }
 
 pub flushed_none : (node : Node) (armed : Bool) (n : ℕ) → n ≡ 0 → Flushed n armed node node
-flushed_none node armed n none = record { puts = puts_none armed node; enough = inl (omega arith); few = omega arith }
+flushed_none node armed n none = record {
+  puts = puts_none armed node;
+  enough = inl (omega arith);
+  few = omega arith;
+  entries = [];
+  cut = refl;
+  fewest = record { enough = inl (omega arith); fewest = λ k lt. absurd (omega arith) };
+  each = refl;
+}
 
 -- a store that fits stands alone or is spilled
 state_kinds : {B : Type 0} (g : Ghosts B) (b : B) (state : State) (bytes : Bytes) → FitsState g b state bytes → IsTrue (in_one_sector state) ⊎ IsTrue (in_both_sectors state)
@@ -211,13 +230,15 @@ guard_alone (Spilled kept) is = cc
 guard_alone Spent is = cc
 
 pub compacted : (old new : Node) → guard_of new.lines.store ≡ guard_ahead old.lines.store → IsAlone new → new.lines.pending ≡ old.lines.pending → durable_of new.lines.store ≡ durable_of old.lines.store
+    → (IsAlone old → new.lines ≡ old.lines) → (IsTrue (is_spilled old.lines.store) → guard_of old.lines.store ≡ GUARD_HALFWORDS → ⊥)
     → new ≡ record old { lines = new.lines } → Compacted old new
-compacted old new guard alone pending durable same = record {
+compacted old new guard alone pending durable idle used_up same = record {
   same = same;
   pending = pending;
   durable = durable;
   ahead = omega (arith, guard, guard_alone new.lines.store.state alone, ap length pending);
   alone = alone;
+  compacts = record { pending = pending; durable = durable; alone = alone; guard = guard; idle = idle; unworn = used_up };
 }
 
 module _ {B : Type 0} (g : Ghosts B) (reads : (b : B) (o : Outcome) → g.now b o → g.tells b × (o.words ≡ g.words b)) where
@@ -271,6 +292,7 @@ module _ {B : Type 0} (g : Ghosts B) (reads : (b : B) (o : Outcome) → g.now b 
         ahead = omega arith;
         spare = λ is more has. omega (arith, has, ap length none);
         alone = λ is alone. alone;
+        unworn = subst (λ (l : List LineWrite). Unworn armed l node.lines node.lines) (sym none) (unworn_none armed node.lines);
       };
       sent = sent_nothing g b;
       still = λ is. record { erases = refl };
@@ -381,6 +403,7 @@ issued_after n armed old mid new writes f is few = subst (Issued armed old write
   ahead = omega (arith, f.puts.ahead, length-append mid.lines.pending writes);
   spare = λ armed more has. omega (arith, f.puts.spare armed (length writes + more) has, length-append mid.lines.pending writes);
   alone = f.puts.alone;
+  unworn = unworn_then armed [] writes old.lines mid.lines (lines_of mid.lines.store (mid.lines.pending ++ writes)) f.puts.unworn (unworn_issue armed mid.lines writes);
 })
 
 pub issued_done : {B : Type 0} (g : Ghosts B) (n : ℕ) (armed : Bool) (old : Node) (a : B) (mid : Node) (b : B) → FlushDone g n armed old a (Ok tt) mid b → (new : Node) (writes : List LineWrite)

@@ -2,6 +2,7 @@ pub mod Frames
 pub mod Reading
 pub mod Runs
 pub mod Arming
+pub mod Wearing
 pub mod Boot
 pub mod Safe
 pub mod Standing

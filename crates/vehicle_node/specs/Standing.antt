@@ -19,6 +19,7 @@ use Rattle.vehicle_node.specs.Frames.{Machine, AreFramesOf, acknowledged}
 use Rattle.vehicle_node.specs.Reading.{IsEvent, Reads, no_rests}
 use Rattle.vehicle_node.specs.Runs.{Run, event_done, run_of}
 use Rattle.vehicle_node.specs.Safe.{Adds}
+use Rattle.vehicle_node.specs.Wearing.{EventUnworn}
 use Rattle.vehicle_node.specs.declared.Turn.{Turn}
 use Rattle.vehicle_node.specs.declared.Turn.TheVariants as turn
 use Rattle.vehicle_node.specs.declared.TheConstants.{ROOM_FROM}
@@ -147,6 +148,8 @@ pub record Finished {B : Type 0} (g : Ghosts B) (old : Node) (board : B) (new : 
   pub within : (count : ℕ) (b : List ℕ) (events : List Received) (sent : List SentFrame) (m : ℕ)
       → StaysWithin count old b events sent m
       → StaysWithin count new b (events ++ event ∷ []) (sent ++ frames) (m + 1)
+  -- nowhere was a sector to be voided where the guard row was used up
+  pub unworn : EventUnworn (armed_in old) acts issued old.lines new.lines
 
 -- An event was received in which the vehicle was armed, at its start or after one of its acts.
 pub record WasArmed {B : Type 0} (g : Ghosts B) (old : Node) (board after_board : B) : Type 0 where

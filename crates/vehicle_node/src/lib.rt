@@ -20,12 +20,14 @@ ghost use Rattle.storage_lines.specs.Lines.{after};
 ghost use Rattle.sector_image.specs.FirstBad.{FirstBad};
 ghost use Rattle.sector_image.specs.Stands.{Stands, Reads, is_due, count_in, IsUsedUp};
 ghost use Rattle.block_store.specs.Refusals.{IsWorn};
+ghost use Rattle.block_store.specs.Store.{guard_of, is_spilled};
 ghost use Rattle.dirty_lines.specs.Lines.{Lines};
-ghost use Rattle.dirty_lines.specs.Losses.{IsWornForNext};
+ghost use Rattle.dirty_lines.specs.Losses.{IsWornForNext, NextVoids};
 ghost use Rattle.vehicle_node.specs.Runs.{Run};
 ghost use Rattle.vehicle_node.specs.Safe.{SafeSince, Adds};
 ghost use Rattle.vehicle_node.specs.Standing.{Fits, IsAloneUnlessArmed, StandsAt, StandsForRun, StaysWithin, Finished, WasArmed, Node, armed_in};
 ghost use Rattle.vehicle_node.specs.Guard.{RisesWithin, MayWear, WearsIn};
+ghost use Rattle.vehicle_node.specs.Wearing.{PendingVoids, AllUnworn, BootUnworn};
 ghost use Rattle.vehicle_node.specs.Refusals.{OnMemory, OnFault, OnForeign, OnWorn, LeavesAlone};
 
 mod answering;
@@ -33,7 +35,8 @@ mod hearing;
 mod laws;
 mod opening;
 
-use crate::opening::{booted, error_of};
+use crate::opening::booted;
+use block_store::OpenError;
 use dirty_lines::{DirtyLines, PENDING_LINES};
 use flash_traits::{Board, Event, Fault, Region, budget};
 pub use laws::{
@@ -67,6 +70,29 @@ pub enum NodeError {
     Worn {
         count: u16,
     },
+}
+
+impl From<OpenError> for NodeError {
+    ghost use Rattle.vehicle_node.specs.Steps.Errors.{opens_not};
+
+    ghost from_gives = { λ refusal e. e ≡ opens_not refusal };
+
+    fn from(refusal: OpenError) -> NodeError {
+        match refusal {
+            OpenError::Memory => NodeError::Memory,
+            OpenError::Fault(kind) => NodeError::Fault(kind),
+            OpenError::Foreign {
+                region,
+                offset,
+                word,
+            } => NodeError::Foreign {
+                region,
+                offset,
+                word,
+            },
+            OpenError::Worn { count } => NodeError::Worn { count },
+        }
+    }
 }
 
 /// Whether the finished event was the end.
@@ -161,18 +187,19 @@ impl Node {
             MayWear (budget_of (B.sector_bytes board.old)) count b [])) }
         ensures worn_image { IfErr result (λ e. OnWorn e (λ count. B.tells board.new →
             (b : List ℕ) × Stands (B.words board.old) b)) }
+        // always where a sector is to be voided and the guard count is 8,192: of the image found
         ensures used_up { B.tells board.new → (reading : _) → Reads (B.words board.old) reading →
             IsTrue (is_due reading) →
             count_in reading ≡ GUARD_HALFWORDS → IfOk result (λ _. ⊥) }
+        // and of the lines of boot: none that was put had a sector to be voided at that count
+        ensures unworn { IfOk result (λ node. B.tells board.new →
+            BootUnworn (B.words board.old) node.lines) }
         ensures memory { IfErr result (λ e. OnMemory e (board.new ≡ board.old)) }
         ensures fault { IfErr result (λ e. OnFault e (λ kind. (kind ≡ Read ⊎ kind ≡ Flash) ×
             Rose (B.faults board.old kind) (B.faults board.new kind))) }
         ensures counts { (k : Fault) → B.faults board.old k ≤ B.faults board.new k }
     {
-        let lines = match DirtyLines::open(alloc, board) {
-            Ok(lines) => lines,
-            Err(error) => return Err(error_of(error)),
-        };
+        let lines = DirtyLines::open(alloc, board)?;
         let mut node = booted(budget(board.geometry()), lines);
         node.flush_all(board, false)?;
         Ok(node)
@@ -219,6 +246,15 @@ impl Node {
             ⊎ WasArmed B.Board self.old board.old board.new)) }
         ensures worn_lines { IfErr result (λ e. OnWorn e (λ n.
             WearsIn B.Board self.old board.old board.new)) }
+        // where the guard count is 8,192 at the start no sector is voided, neither for the next
+        // entry nor, once the vehicle isn't armed any more, for a store that was spilled
+        ensures used_up { armed_in self.old ≡ false →
+            NextVoids false self.old.lines.store self.old.lines.pending →
+            guard_of self.old.lines.store ≡ GUARD_HALFWORDS → IfOk result (λ turn. ⊥) }
+        ensures used_up_spilled { armed_in self.old ≡ true →
+            IsTrue (is_spilled self.old.lines.store) →
+            guard_of self.old.lines.store ≡ GUARD_HALFWORDS →
+            IfOk result (λ turn. armed_in self.new ≡ true) }
         ensures fault { IfErr result (λ e. OnFault e (λ kind. (kind ≡ Read ⊎ (kind ≡ Flash ⊎
             (kind ≡ Recv ⊎ kind ≡ Send))) ×
             Rose (B.faults board.old kind) (B.faults board.new kind))) }
@@ -270,6 +306,12 @@ impl Node {
         ensures worn_lines { IfErr result (λ e. OnWorn e (λ n. B.tells board.new →
             (count : ℕ) (b : List ℕ) (events : List Received) (frames : List SentFrame) (m : ℕ) →
             StaysWithin count self b events frames m → MayWear self.budget count b events)) }
+        // always where a sector is to be voided and the guard count is 8,192: so at the start, and
+        // at none of the entries that were put
+        ensures used_up { armed_in self ≡ false → PendingVoids self.lines →
+            guard_of self.lines.store ≡ GUARD_HALFWORDS → IfOk result (λ done. ⊥) }
+        ensures unworn { OnOk result
+            (AllUnworn B.Board (armed_in self) self.lines board.new) }
         ensures fault { IfErr result (λ e. OnFault e (λ kind. (kind ≡ Read ⊎ kind ≡ Flash) ×
             Rose (B.faults board.old kind) (B.faults board.new kind))) }
         ensures counts { (k : Fault) → B.faults board.old k ≤ B.faults board.new k }

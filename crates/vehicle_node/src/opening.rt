@@ -7,10 +7,9 @@ ghost use Rattle.block_store.specs.Store.{durable_of};
 ghost use Rattle.dirty_lines.specs.Lines.{lines_of, current_of};
 ghost use Rattle.vehicle_node.specs.Runs.{format_step, convert_step, boot};
 ghost use Rattle.vehicle_node.specs.Standing.{counts};
-ghost use Rattle.vehicle_node.specs.Steps.Opening.{error_of, IsBooted};
+ghost use Rattle.vehicle_node.specs.Steps.Opening.{IsBooted};
 
-use crate::{Node, NodeError};
-use block_store::OpenError;
+use crate::Node;
 use dirty_lines::{DirtyLines, PENDING_LINES};
 use mav_frames::Cutter;
 use param_convert::{Rule, convert, vehicle_rules};
@@ -18,25 +17,6 @@ use param_records::{APPEND_LINES, FORMAT_LINES, format_batch};
 use param_tree::{Table, vehicle_table};
 use storage_lines::Batch;
 use vehicle_core::Core;
-
-pub(crate) fn error_of(error: OpenError) -> NodeError
-    ensures { result ≡ error_of error }
-{
-    match error {
-        OpenError::Memory => NodeError::Memory,
-        OpenError::Fault(kind) => NodeError::Fault(kind),
-        OpenError::Foreign {
-            region,
-            offset,
-            word,
-        } => NodeError::Foreign {
-            region,
-            offset,
-            word,
-        },
-        OpenError::Worn { count } => NodeError::Worn { count },
-    }
-}
 
 /// Issues the lines of a step of boot, for which there is room.
 fn issue_step(lines: &mut DirtyLines, batch: &Batch)

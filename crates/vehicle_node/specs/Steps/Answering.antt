@@ -11,6 +11,8 @@ use Rattle.block_store.specs.Store.{durable_of, HasSpare}
 use Rattle.block_store.specs.declared.PutError.{PutError}
 use Rattle.block_store.specs.declared.PutError.TheVariants as put_error
 use Rattle.dirty_lines.specs.Lines.{current_of}
+use Rattle.dirty_lines.specs.Entries.{CutIntoEntries, IsFewest}
+use Rattle.dirty_lines.specs.Wearing.{NoneWears}
 use Rattle.mav_frames.specs.Frames.{is_v2}
 use Rattle.vehicle_core.specs.declared.orders.Need.{Need}
 use Rattle.vehicle_core.specs.declared.orders.Need.TheVariants.{Nothing, FlushAll}
@@ -21,6 +23,7 @@ use Rattle.vehicle_node.specs.Guard.{CountsUpTo}
 use Rattle.vehicle_node.specs.Reading.{Says, IsSilent}
 use Rattle.vehicle_node.specs.Safe.{Adds}
 use Rattle.vehicle_node.specs.Standing.{Node, IsAlone, armed_in, ceiling, raised_by}
+use Rattle.vehicle_node.specs.Wearing.{Compacts, Unworn}
 use Rattle.vehicle_node.specs.Steps.Calls.{HasSent, Call, WornAlone}
 use Rattle.vehicle_node.specs.Steps.Sending.{answers_to}
 use Rattle.vehicle_node.specs.declared.NodeError.{NodeError}
@@ -56,6 +59,7 @@ pub record OnlyPuts (armed : Bool) (old new : Node) : Type 0 where
   pub ahead : ceiling new ≤ ceiling old
   pub spare : armed ≡ true → (more : ℕ) → HasSpareFor old more → HasSpareFor new more
   pub alone : armed ≡ false → IsAlone old → IsAlone new
+  pub unworn : Unworn armed [] old.lines new.lines
 
 -- A prefix of the pending lines was put: at least n, or all, and no more than it takes in entries
 -- of up to eight lines.
@@ -63,6 +67,10 @@ pub record Flushed (n : ℕ) (armed : Bool) (old new : Node) : Type 0 where
   pub puts : OnlyPuts armed old new
   pub enough : n ≤ length puts.put ⊎ new.lines.pending ≡ []
   pub few : length puts.put < n + 8
+  pub entries : List (List LineWrite)
+  pub cut : CutIntoEntries entries new.lines.pending old.lines.pending
+  pub fewest : IsFewest n entries new.lines.pending
+  pub each : NoneWears armed entries old.lines.store new.lines.store
 
 -- A prefix of the pending lines was put, and nothing was received or sent.
 pub record Flushing (node : Node) (from o : Outcome) : Type 0 where
@@ -93,6 +101,7 @@ pub record Compacted (old new : Node) : Type 0 where
   pub durable : durable_of new.lines.store ≡ durable_of old.lines.store
   pub ahead : ceiling new ≤ ceiling old
   pub alone : IsAlone new
+  pub compacts : Compacts old.lines new.lines
 
 pub record CompactedAll {B : Type 0} (g : Ghosts B) (old : Node) (board : B) (new : Node)
     (after_board : B) : Type 0 where
@@ -143,6 +152,7 @@ pub record Issued (armed : Bool) (old : Node) (writes : List LineWrite) (new : N
   pub spare : armed ≡ true → (more : ℕ) → HasSpareFor old (length writes + more)
       → HasSpareFor new more
   pub alone : armed ≡ false → IsAlone old → IsAlone new
+  pub unworn : Unworn armed writes old.lines new.lines
 
 pub record IssuedAll {B : Type 0} (g : Ghosts B) (armed : Bool) (writes : List LineWrite)
     (old : Node) (board : B) (new : Node) (after_board : B) : Type 0 where
@@ -175,6 +185,7 @@ pub record Answered (need : Need) (armed : Bool) (writes : List LineWrite) (ds :
   pub spare : armed ≡ true → (more : ℕ) → HasSpareFor old (length writes + more)
       → HasSpareFor new more
   pub alone : armed ≡ false → IsAlone old ⊎ need ≡ FlushAll → IsAlone new
+  pub unworn : Unworn armed writes old.lines new.lines
 
 -- A prefix of the answers was sent, and a prefix of the lines pending and issued was put: all,
 -- where all is needed, before anything was sent.

@@ -13,6 +13,7 @@ use Rattle.vehicle_node.specs.Reading.{AreSaid, IsEvent}
 use Rattle.vehicle_node.specs.Runs.{Run, all_acts}
 use Rattle.vehicle_node.specs.Safe.{SafeAt, Adds}
 use Rattle.vehicle_node.specs.Standing.{Node, IsAloneUnlessArmed, StandsAt, armed_in, ceiling, raised_by}
+use Rattle.vehicle_node.specs.Wearing.{ActsUnworn}
 use Rattle.vehicle_node.specs.Steps.Calls.{HasSent, Call, WornWhere}
 use Rattle.vehicle_node.specs.declared.NodeError.{NodeError}
 use Rattle.vehicle_node.specs.declared.TheConstants.{ROOM_FROM}
@@ -54,6 +55,7 @@ pub record AnsweredAll {B : Type 0} (g : Ghosts B) (old : Node) (board : B) (act
   pub armed : armed_in new ≡ is_armed_after_all (armed_in old) acts
   pub alone : IsAloneUnlessArmed old → IsAloneUnlessArmed new
   pub still : IsArmedThroughout (armed_in old) acts → ErasesNothing g board after_board
+  pub unworn : ActsUnworn (armed_in old) acts issued old.lines new.lines
 
 -- wherever the node was in a run, what a loss leaves is safe in the run with these acts
 abbrev pub SafeIn : Node → List Act → Outcome → Outcome → Type 0

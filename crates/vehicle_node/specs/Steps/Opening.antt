@@ -1,22 +1,11 @@
 -- A node at its opening.
 use Rattle.std.specs.Prelude.{◌≡◌, ℕ, length}
-use Rattle.block_store.specs.declared.OpenError.{OpenError}
-use Rattle.block_store.specs.declared.OpenError.TheVariants as open_error
 use Rattle.block_store.specs.Store.{durable_of}
 use Rattle.dirty_lines.specs.Lines.{Lines, lines_of}
 use Rattle.vehicle_node.specs.Reading.{no_rests}
 use Rattle.vehicle_node.specs.Frames.{new_machine}
 use Rattle.vehicle_node.specs.Runs.{boot}
 use Rattle.vehicle_node.specs.Standing.{Node, IsIndexed, counts}
-use Rattle.vehicle_node.specs.declared.NodeError.{NodeError}
-use Rattle.vehicle_node.specs.declared.NodeError.TheVariants as node_error
-
--- why the store can't be opened
-abbrev pub error_of : OpenError → NodeError
-error_of open_error.Memory = node_error.Memory
-error_of (open_error.Fault kind) = node_error.Fault kind
-error_of (open_error.Foreign region offset word) = node_error.Foreign region offset word
-error_of (open_error.Worn count) = node_error.Worn count
 
 -- The lines of boot are pending, the places are those with them, and nothing else has happened.
 pub record IsBooted (budget : ℕ) (lines : Lines) (node : Node) : Type 0 where

@@ -1,5 +1,5 @@
 use Rattle.std.proofs.Common.{◌∙◌}
-use Rattle.vehicle_node.proofs.Boot.{closed_at, closed_worn, closed_wears, flushing_leaves}
+use Rattle.vehicle_node.proofs.Boot.{closed_at, closed_worn, closed_wears, closed_unworn, closed_fits, flushing_leaves}
 use Rattle.vehicle_node.proofs.Finishing.{Leaves, leaves_safe, leaves_rising}
 use Rattle.vehicle_node.proofs.Fitting.{fits_room, flag_is}
 use Rattle.flash_traits.proofs.Moments.{weaker}
@@ -30,3 +30,11 @@ returns-clause-worn_next g c =
 
 pub returns-clause-worn_lines : goal.returns-clause-worn_lines
 returns-clause-worn_lines g c = closed_wears g.B.Board c.armed-armed.result c.args.self c.flush_all.new.self c.flush_all.new.board c.flush_all.result c.flush_all.ensures.done.stopped
+
+pub returns-clause-unworn : goal.returns-clause-unworn
+returns-clause-unworn g c =
+    closed_unworn g.B.Board c.armed-armed.result c.flush_all.result c.args.self c.args.board.now c.flush_all.new.self c.flush_all.new.board
+    (flag_is c.self.inside c.args.self c.armed-armed.result c.self.view_is c.armed-armed.ensures) c.flush_all.ensures.done c.flush_all.ensures.nothing c.flush_all.ensures.fits
+
+pub returns-clause-used_up : goal.returns-clause-used_up
+returns-clause-used_up g c = λ not voids full. closed_fits g.B.Board c.flush_all.result c.args.self c.flush_all.new.board (returns-clause-unworn g c) not voids full

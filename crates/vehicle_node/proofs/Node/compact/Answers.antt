@@ -28,7 +28,7 @@ returns-clause-done g c =
       lists = lists_kept b a last e.changes.lists;
       done = elim c.match-compact.branch [
         | in-Ok w ↦ subst (λ (r : Result ⊤ NodeError). OnOk r (CompactedAll b old a new last)) (sym w.result-is) (record {
-          compacted = compacted old new (at_ok c.compact.result w.in-Ok.is e.guard) (at_ok c.compact.result w.in-Ok.is e.alone) e.pending e.durable refl;
+          compacted = compacted old new (at_ok c.compact.result w.in-Ok.is e.guard) (at_ok c.compact.result w.in-Ok.is e.alone) e.pending e.durable (λ alone. (e.idle alone).1) (λ spilled full. w.in-Ok.ensures.used_up spilled full) refl;
           sent = nothing_sent b e.changes;
         })
         | in-Err w ↦ subst (λ (r : Result ⊤ NodeError). OnOk r (CompactedAll b old a new last)) (sym w.result-is) tt

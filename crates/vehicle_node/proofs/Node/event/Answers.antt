@@ -2,13 +2,14 @@ use Rattle.std.proofs.Common.{◌⊎◌, inl, inr, ◌+◌, arith}
 use Rattle.flash_traits.specs.Losses.{received}
 use Rattle.dirty_lines.specs.Losses.{IsWornForNext}
 use Rattle.vehicle_node.specs.Safe.{SafeSince}
-use Rattle.vehicle_node.specs.Standing.{IsAloneUnlessArmed, WasArmed}
+use Rattle.vehicle_node.specs.Standing.{Finished, IsAloneUnlessArmed, WasArmed, armed_in}
 use Rattle.vehicle_node.specs.Guard.{WearsIn}
 use Rattle.vehicle_node.specs.Refusals.{OnWorn}
 use Rattle.vehicle_node.specs.Steps.Calls.{IsWornWhere}
 use Rattle.vehicle_node.specs.Steps.Hearing.{ArmedTaking, WearingTaking}
 use Rattle.vehicle_node.proofs.Fitting.{fits_kept, fits_room, fits_flushed, flag_is}
 use Rattle.vehicle_node.proofs.Finishing.{received_in_range, failed_leaves, taken_leaves, flushed_leaves, leaves_safe, leaves_rising, done_losses, event_finished, alone_at_end, flushed_worn, was_armed, wears_in, passes_err, cut_none, cut_some}
+use Rattle.vehicle_node.proofs.UsedUp.{event_waits, stays_armed}
 use Rattle.vehicle_node.proofs.Passing.{on_err, error_at, worn_more, lists_then}
 use Rattle.vehicle_node.proofs.Node.event.Goals as goal
 
@@ -173,3 +174,15 @@ returns-in_err-flush-clause-worn_lines g c =
     (flushed_worn b g.met.B.Board.reads old c.args.board.now c.requires.fits.store c.frames_are_read.ensures got in_range c.recv.new.self c.in-Ok.ensures.time
     c.answer_event.new.self c.answer_event.new.board c.in_ok-answer_event.ensures.done P c.armed-armed.result
     (flag_is c.self.inside c.answer_event.new.self c.armed-armed.result c.self.view_is c.armed-armed.ensures) c.flush.new.self last e c.in_err-flush.ensures.done.stopped))
+
+pub returns-clause-used_up : goal.returns-clause-used_up
+returns-clause-used_up g c = λ not waits full.
+    let old = c.args.self.now in
+    let f : Finished g.B.Board old c.args.board.now c.flush.new.self c.flush.new.board c.turn_of.result = returns-clause-finished g c in
+    event_waits (armed_in old) f.acts f.issued old.lines c.flush.new.self.lines f.unworn not full waits
+
+pub returns-clause-used_up_spilled : goal.returns-clause-used_up_spilled
+returns-clause-used_up_spilled g c = λ armed spilled full.
+    let old = c.args.self.now in
+    let f : Finished g.B.Board old c.args.board.now c.flush.new.self c.flush.new.board c.turn_of.result = returns-clause-finished g c in
+    stays_armed old c.flush.new.self f.acts f.issued f.unworn (returns-clause-alone g c) armed spilled full
