@@ -16,6 +16,7 @@ use Rattle.script_lines.specs.Script.{ScriptLine, LossNow, HasNoEnd}
 use Rattle.script_board.specs.Taking.{events_of}
 use Rattle.script_board.specs.Printing.{frame_lines, loss_line}
 use Rattle.script_board.specs.Hearing.{loses, HasNoLossNow, EndsWithEnd}
+use Rattle.script_board.specs.declared.waiting.TheConstants.{WAITING_LOSSES}
 use Rattle.replay.specs.Breaks.{OnWorn, OnRefused, BetweenEvents}
 use Rattle.replay.specs.Guard.{Issues, raised_over}
 use Rattle.replay.specs.declared.Stop.{Stop}
@@ -87,6 +88,13 @@ abbrev pub losses_by_call : List Ran → ℕ
 losses_by_call [] = 0
 losses_by_call (r ∷ rs) = by_call r.between_calls + losses_by_call rs
 
+-- While these runs took their lines, and the last run those after them, no more than sixteen losses
+-- waited at once: so many lines `l` were taken before, and so many losses by them have come.
+abbrev pub NoneTooMany : ℕ → ℕ → List Ran → List ScriptLine → Type 0
+NoneTooMany taken come [] last = taken + loses last ≤ WAITING_LOSSES + come
+NoneTooMany taken come (r ∷ rs) last = (taken + loses r.lines ≤ WAITING_LOSSES + come)
+    × NoneTooMany (taken + loses r.lines) (come + by_call r.between_calls) rs last
+
 -- The whole run over these events, from these bytes: the frames are all its answers, and the words
 -- stand for the bytes with all of its lines.
 pub record IsWhole (budget : ℕ) (b : List ℕ) (events : List Received) (frames : List SentFrame)
@@ -98,7 +106,7 @@ pub record IsWhole (budget : ℕ) (b : List ℕ) (events : List Received) (frame
   pub all_lines : Stands words (after b (run_of budget b acts).issued)
 
 -- Runs that losses ended: the lines that they took, what was printed, and how many losses wait.
--- Each line `l` ended one of them or waits.
+-- Each line `l` ended one of them or waits, and no more than sixteen ever waited.
 pub record Ended (budget : ℕ) (before : Words) (lines : List ScriptLine) (text : List ℕ)
     (waiting : ℕ) (now : Words) : Type 0 where
   pub runs : List Ran
@@ -106,9 +114,10 @@ pub record Ended (budget : ℕ) (before : Words) (lines : List ScriptLine) (text
   pub lines_are : lines ≡ lines_taken runs
   pub text_is : text ≡ history_lines runs
   pub each_loses : losses_by_call runs + waiting ≡ loses lines
+  pub few : NoneTooMany 0 0 runs []
 
 -- A replay that came to its end: these lines were taken and this was printed, of runs that losses
--- ended, and of one whole run after them.
+-- ended, and of one whole run after them. No more than sixteen losses ever waited.
 pub record Replayed (budget : ℕ) (before : Words) (lines : List ScriptLine) (text : List ℕ)
     (now : Words) : Type 0 where
   pub runs : List Ran
@@ -126,11 +135,13 @@ pub record Replayed (budget : ℕ) (before : Words) (lines : List ScriptLine) (t
   pub no_loss_now : HasNoLossNow last_lines
   -- each loss by a call stands among the lines `l`
   pub enough : losses_by_call runs ≤ loses (lines_taken runs)
+  pub few : NoneTooMany 0 0 runs last_lines
 
 -- A replay that was cut short: what is left of the last run is safe too. Where the next line was
 -- refused or the source failed, all of its events are finished; where a line was refused, each line
--- `l` before it ended a run or waits. Where the guard row was used up, the openings of all runs and
--- the lines that they issued are enough to raise the guard count of the first words to its end.
+-- `l` before it ended a run or waits. No more than sixteen losses ever waited. Where the guard row
+-- was used up, the openings of all runs and the lines that they issued are enough to raise the guard
+-- count of the first words to its end.
 pub record CutShort (budget : ℕ) (before : Words) (lines : List ScriptLine) (text : List ℕ)
     (stop : Stop) (waiting : ℕ) (now : Words) : Type 0 where
   pub runs : List Ran
@@ -149,6 +160,7 @@ pub record CutShort (budget : ℕ) (before : Words) (lines : List ScriptLine) (t
   pub no_loss_now : HasNoLossNow last_lines
   pub between : BetweenEvents (finished ≡ length (events_of last_lines)) stop
   pub enough : losses_by_call runs ≤ loses (lines_taken runs)
+  pub few : NoneTooMany 0 0 runs last_lines
   pub each_loses : OnRefused (λ line. HasNoEnd lines
       × (losses_by_call runs + waiting ≡ loses lines)) stop
   pub worn : OnWorn (λ full. (count : ℕ) → IsGuardRow before.guard count

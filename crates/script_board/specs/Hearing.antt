@@ -50,6 +50,11 @@ abbrev pub loses : List ScriptLine → ℕ
 loses [] = 0
 loses (line ∷ lines) = loses_in line + loses lines
 
+-- with the losses of these lines no more than sixteen wait, if no more did before them
+abbrev pub FewWait : ℕ → List ScriptLine → Type 0
+FewWait waiting lines =
+    waiting ≤ WAITING_LOSSES → waiting + loses lines ≤ WAITING_LOSSES
+
 -- none of these lines is a loss now
 abbrev pub HasNoLossNow : List ScriptLine → Type 0
 HasNoLossNow [] = Unit {0}
