@@ -1,7 +1,7 @@
 -- What calls do with the lines and with the waiting losses, one after another.
 use Rattle.std.proofs.Common.{◌≡◌, ℕ, ◌+◌, List, [], ◌∷◌, ◌++◌, Result, Ok, Err, IfErr, inl, inr, length, refl, sym, ◌∙◌, ap, subst, arith, append_assoc}
-use Rattle.script_lines.specs.Script.{ScriptLine, LossNow, End}
-use Rattle.script_board.specs.Hearing.{loses, HasNoLossNow, HasNoEnd, EndsWithEnd}
+use Rattle.script_lines.specs.Script.{ScriptLine, LossNow, End, HasNoEnd}
+use Rattle.script_board.specs.Hearing.{loses, HasNoLossNow, EndsWithEnd}
 use Rattle.script_board.specs.Taking.{events_of}
 use Rattle.vehicle_node.specs.Standing.{Node}
 use Rattle.vehicle_node.specs.declared.Turn.{Turn}

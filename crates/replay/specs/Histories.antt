@@ -12,10 +12,10 @@ use Rattle.vehicle_node.specs.Guard.{CountsUpTo}
 use Rattle.vehicle_node.specs.Reading.{Reads, no_rests}
 use Rattle.vehicle_node.specs.Runs.{run_of}
 use Rattle.vehicle_node.specs.Safe.{Safe}
-use Rattle.script_lines.specs.Script.{ScriptLine, LossNow}
+use Rattle.script_lines.specs.Script.{ScriptLine, LossNow, HasNoEnd}
 use Rattle.script_board.specs.Taking.{events_of}
 use Rattle.script_board.specs.Printing.{frame_lines, loss_line}
-use Rattle.script_board.specs.Hearing.{loses, HasNoLossNow, HasNoEnd, EndsWithEnd}
+use Rattle.script_board.specs.Hearing.{loses, HasNoLossNow, EndsWithEnd}
 use Rattle.replay.specs.Breaks.{OnWorn, OnRefused, BetweenEvents}
 use Rattle.replay.specs.Guard.{Issues, raised_over}
 use Rattle.replay.specs.declared.Stop.{Stop}

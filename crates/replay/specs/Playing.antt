@@ -9,10 +9,10 @@ use Rattle.vehicle_node.specs.Runs.{Run}
 use Rattle.vehicle_node.specs.Safe.{Safe}
 use Rattle.vehicle_node.specs.Guard.{MayWear}
 use Rattle.vehicle_node.specs.Standing.{Node, StandsAt, StandsForRun, StaysWithin}
-use Rattle.script_lines.specs.Script.{ScriptLine}
+use Rattle.script_lines.specs.Script.{ScriptLine, HasNoEnd}
 use Rattle.script_board.specs.Taking.{events_of}
 use Rattle.script_board.specs.Printing.{frame_lines}
-use Rattle.script_board.specs.Hearing.{loses, HasNoLossNow, HasNoEnd, EndsWithEnd}
+use Rattle.script_board.specs.Hearing.{loses, HasNoLossNow, EndsWithEnd}
 use Rattle.vehicle_node.specs.declared.Turn.{Turn}
 use Rattle.vehicle_node.specs.declared.Turn.TheVariants as turn
 use Rattle.replay.specs.Breaks.{OnStopped, OnWorn, BetweenEvents, OnRefused}

@@ -26,7 +26,7 @@ returns-in_err-event-clause-plays g c =
       i.1 ++ e.1,
       length (events_of i.0) + e.2,
       adds_then _ _ _ _ _ _ i.0 e.0 i.1 e.1 i.2 e.3,
-      breaks_then g.P.Player.arming _ _ i.0 e.0 i.1 e.1 e.2 _ i.3 e.4,
+      breaks_then g.P.Player.arming c.in_err-event.field-0.0 _ _ i.0 e.0 i.1 e.1 e.2 _ i.3 e.4,
       breaks_off_then i.0 e.0 e.2 _ _ _ i.5 i.6 i.7 c.in_err-event.field-0.0 e.5,
     ))
 

@@ -1,8 +1,8 @@
 use Rattle.std.proofs.Common.{◌≡◌, ◌≤◌, ◌+◌, List}
 use Rattle.flash_traits.specs.Losses.{SentFrame}
-use Rattle.script_lines.specs.Script.{ScriptLine}
+use Rattle.script_lines.specs.Script.{ScriptLine, HasNoEnd}
 use Rattle.script_board.specs.Taking.{events_of}
-use Rattle.script_board.specs.Hearing.{loses, HasNoLossNow, HasNoEnd}
+use Rattle.script_board.specs.Hearing.{loses, HasNoLossNow}
 use Rattle.replay.specs.Playing.{Adds, GoesOn}
 use Rattle.replay.proofs.play.Given as goal
 
