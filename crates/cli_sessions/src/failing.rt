@@ -1,6 +1,6 @@
-//! Each command with each call of its board, and of its output, failing in turn. The status is that of
-//! the call's kind, and its line is all that is printed. What a failing output cuts short never goes
-//! on, and a served image has all that was done. A source that fails is never asked.
+//! Each command with each call of its board, and of its output, failing in turn. The status is that
+//! of the call's kind, and its line is all that is printed. What a failing output cuts short never
+//! goes on, and a served image has all that was done. A source that fails is never asked.
 use byteorder::{ByteOrder, LittleEndian};
 use flash_board::{Feed, MemBoard, MemSink, MemSource};
 use std::alloc::Global;
@@ -15,7 +15,8 @@ struct Ended {
     image: Vec<u8>,
 }
 
-// A command whose board and output fail at the calls with these numbers, and whose input always does.
+// A command whose board and output fail at the calls with these numbers, and whose input always
+// does.
 fn command(
     alloc: Global,
     words: &[&str],
@@ -88,8 +89,8 @@ fn line_of(status: u8) -> &'static [u8] {
 // The attach, and the reads of the guard row, the heads and both sectors.
 const CALLS_TO_READ: u32 = 1 + 8_193 + 4 + 8_193 + 8_192;
 
-// The statuses of a command in the order of its calls, until one ends well: the attach, some reads of
-// the image, each program, and each call of the link.
+// The statuses of a command in the order of its calls, until one ends well: the attach, some reads
+// of the image, each program, and each call of the link.
 #[test]
 fn a_failing_call_is_told_by_its_kind(rt: HostRuntime) -> Result<(), Fail> {
     let alloc = rt.alloc();

@@ -1,5 +1,5 @@
-//! Images of other lengths, and images with foreign words: the first one is named, and the words are
-//! as they were.
+//! Images of other lengths, and images with foreign words: the first one is named, and the words
+//! are as they were.
 ghost use Rattle.std.specs.Prelude.{◌≡◌, ◌≤◌, IfOk, length};
 
 use byteorder::{ByteOrder, LittleEndian};
@@ -50,8 +50,8 @@ fn an_image_that_was_cut_is_refused(rt: HostRuntime) -> Result<(), Fail> {
                 assert_eq!(rt; ended.text.as_slice(), b"error 13 attach\n".as_slice());
             }
         }
-        // Cut by a larger sector it has the length of an image with smaller sectors, whose guard row
-        // begins where the old sector 1 did.
+        // Cut by a larger sector it has the length of an image with smaller sectors, whose guard
+        // row begins where the old sector 1 did.
         if sector_bytes > 16_384 {
             let cut = &image[..image.len().saturating_sub(sector_bytes as usize)];
             for word in ["serve", "dump"] {
@@ -100,8 +100,8 @@ impl Part {
 // Offsets of a region, from the first one up to the end.
 type Span = (Part, u32, u32);
 
-// An image whose 16,384-byte sectors begin with these halfwords, with so many zeros in its guard row,
-// and its places in the order in which they are tested.
+// An image whose 16,384-byte sectors begin with these halfwords, with so many zeros in its guard
+// row, and its places in the order in which they are tested.
 #[derive(Drop)]
 struct Case {
     guard: usize,

@@ -1,6 +1,6 @@
 //! Each command where one allocation is refused, which tests/refused_memory.py does one number at a
-//! time. With ample memory a command does its work. Where an allocation is refused inside `run`, the
-//! status is 2 with its line: such a test ends with the words "status 2".
+//! time. With ample memory a command does its work. Where an allocation is refused inside `run`,
+//! the status is 2 with its line: such a test ends with the words "status 2".
 //! Where the refused one is among those that a test makes before, it ends with "not begun".
 use flash_board::{Feed, MemBoard, SureSink, SureSource};
 use std::alloc::{AllocError, Global};

@@ -124,8 +124,8 @@ impl Events {
     }
 }
 
-// Three idle turns, a list over thirty events, a mission and a fence there and back, and an order to
-// store all.
+// Three idle turns, a list over thirty events, a mission and a fence there and back, and an order
+// to store all.
 fn session(alloc: Global) -> Result<Events, Fail> {
     let mut events = Events {
         feed: Vec::new(alloc),

@@ -25,8 +25,8 @@ const VERSION_121: [u16; 12] = [
     0x5BFE, 0x5168, 0x0004, 0x0079, 0xFFFF, 0x003F, 0x0000, 0x0000, 0x4150, 0x0006, 0x0200, 0x0000,
 ];
 
-// A sector in use with a mission of one waypoint and a fence of one circle: entries of lines 0 and 1,
-// where MIS_TOTAL is 1, of lines 160 to 162, and of lines 492 to 494.
+// A sector in use with a mission of one waypoint and a fence of one circle: entries of lines 0 and
+// 1, where MIS_TOTAL is 1, of lines 160 to 162, and of lines 492 to 494.
 const MISSION_AND_FENCE: [u16; 37] = [
     0x5BFE, 0x5168, 0x2000, 0x4150, 0x0006, 0x4214, 0x0000, 0x0001, 0xFFFF, 0x003F, 0x0000, 0x4280,
     0x65AE, 0x0000, 0x0510, 0x0100, 0x0BE8, 0x4C00, 0x4052, 0x621C, 0x17F4, 0x0005, 0x0000, 0x0000,

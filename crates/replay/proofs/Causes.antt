@@ -1,11 +1,11 @@
 -- What holds by why a replay stopped.
 use Rattle.std.proofs.Common.{◌≡◌, ℕ, subst}
 use Rattle.sector_image.specs.FirstBad.{Place, place_of}
-use Rattle.replay.specs.Breaks.{OnStopped, OnForeign, OnRefused, BetweenEvents}
+use Rattle.replay.specs.Breaks.{OnStopped, OnForeign, OnWorn, OnRefused, BetweenEvents}
 use Rattle.replay.specs.declared.Stop.{Stop}
 use Rattle.replay.specs.declared.Stop.TheVariants as stop
 use Rattle.replay.specs.declared.Break.{Break}
-use Rattle.replay.specs.declared.Break.TheVariants.{Stopped}
+use Rattle.replay.specs.declared.Break.TheVariants.{Lost, Stopped}
 
 pub stopped_by : (P : Stop → Type 0) (how : Break) (why : Stop) → how ≡ Stopped why → OnStopped P how → P why
 stopped_by P how why is on = subst (OnStopped P) is on
@@ -17,6 +17,18 @@ foreign_map (stop.Worn count) f is = tt
 foreign_map (stop.Refused line) f is = tt
 foreign_map stop.Input f is = tt
 foreign_map stop.Output f is = tt
+
+pub worn_map : {P Q : ℕ → Type 0} (why : Stop) → ((count : ℕ) → P count → Q count) → OnWorn P why → OnWorn Q why
+worn_map (stop.Worn count) f is = f count is
+worn_map stop.Memory f is = tt
+worn_map (stop.Foreign region offset word) f is = tt
+worn_map (stop.Refused line) f is = tt
+worn_map stop.Input f is = tt
+worn_map stop.Output f is = tt
+
+pub worn_in : {P Q : ℕ → Type 0} (how : Break) → ((count : ℕ) → P count → Q count) → OnStopped (OnWorn P) how → OnStopped (OnWorn Q) how
+worn_in Lost f is = tt
+worn_in (Stopped why) f is = worn_map why f is
 
 pub refused_map : {P Q : ℕ → Type 0} (why : Stop) → ((line : ℕ) → P line → Q line) → OnRefused P why → OnRefused Q why
 refused_map (stop.Refused line) f is = f line is

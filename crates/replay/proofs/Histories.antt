@@ -1,21 +1,28 @@
 -- A history grows by one run.
-use Rattle.std.proofs.Common.{Bool, true, false, inl, inr, ◌+◌, ◌≤◌, arith, take, Result, Ok, Err, ◌≡◌, ℕ, List, [], ◌∷◌, ◌++◌, refl, sym, ◌∙◌, ap, subst, append_assoc, append-nil}
+use Rattle.std.proofs.Common.{Bool, true, false, inl, inr, ◌+◌, ◌≤◌, length, arith, take, Result, Ok, Err, ◌≡◌, ℕ, List, [], ◌∷◌, ◌++◌, refl, sym, ◌∙◌, ap, subst, append_assoc, append-nil}
 use Rattle.flash_traits.specs.Words.{Words}
 use Rattle.flash_traits.specs.Losses.{Received, SentFrame}
+use Rattle.flash_traits.specs.declared.numbers.TheConstants.{GUARD_HALFWORDS}
+use Rattle.guard_row.specs.Row.{IsGuardRow}
 use Rattle.storage_lines.specs.Lines.{after}
 use Rattle.sector_image.specs.Stands.{Stands}
 use Rattle.vehicle_node.specs.Safe.{Safe}
-use Rattle.vehicle_node.specs.Standing.{Node, StandsAt, StandsForRun}
+use Rattle.vehicle_node.specs.Standing.{Node, StandsAt, StandsForRun, StaysWithin}
 use Rattle.vehicle_node.specs.Runs.{Run, run_of}
-use Rattle.script_lines.specs.Script.{ScriptLine}
+use Rattle.script_lines.specs.Script.{ScriptLine, HasNoEnd}
 use Rattle.script_board.specs.Taking.{events_of}
 use Rattle.script_board.specs.Printing.{frame_lines, loss_line}
-use Rattle.script_board.specs.Hearing.{loses, HasNoLossNow, HasNoEnd, EndsWithEnd}
-use Rattle.replay.specs.Histories.{Ran, IsRun, History, history_lines, lines_taken, EndsSo, by_call, losses_by_call, IsWhole, Ended, Replayed, CutShort}
-use Rattle.replay.specs.Playing.{CloseEnds, RunEnds, StopsSo, BreaksSo}
+use Rattle.script_board.specs.Hearing.{loses, FewWait, HasNoLossNow, EndsWithEnd}
+use Rattle.script_board.specs.declared.waiting.TheConstants.{WAITING_LOSSES}
+use Rattle.replay.specs.Guard.{raised_over}
+use Rattle.replay.specs.Histories.{Ran, IsRun, History, history_lines, lines_taken, lines_issued, EndsSo, by_call, losses_by_call, NoneTooMany, IsWhole, Ended, Replayed, CutShort}
+use Rattle.replay.specs.Playing.{BreaksFrom, CloseEnds, RunEnds, StopsSo, BreaksSo}
 use Rattle.replay.specs.declared.Stop.{Stop}
-use Rattle.replay.specs.declared.Break.TheVariants.{Lost}
-use Rattle.replay.proofs.Causes.{refused_map}
+use Rattle.replay.specs.declared.Break.{Break}
+use Rattle.replay.specs.declared.Break.TheVariants.{Lost, Stopped}
+use Rattle.replay.proofs.Causes.{worn_map, refused_map}
+use Rattle.replay.proofs.Guard.{row_in, counts_over, issued_in, wears_in}
+use Rattle.replay.proofs.Steps.{breaks_from}
 use Rattle.replay.proofs.Uses.{loses-append, no_end-append, end-append}
 
 pub history-push : (budget : ℕ) (rs : List Ran) (w v : Words) (r : Ran) → History budget w rs v → IsRun budget v r → History budget w (rs ++ r ∷ []) r.words
@@ -39,11 +46,26 @@ pub no_end_in : (budget : ℕ) (rs : List Ran) (w v : Words) → History budget 
 no_end_in budget [] w v is = tt
 no_end_in budget (x ∷ rs) w v is = no_end-append x.lines (lines_taken rs) is.0.no_end (no_end_in budget rs x.words v is.1)
 
+-- how many losses wait, once these runs have taken their lines
+few_come : (rs : List Ran) (t k : ℕ) → NoneTooMany t k rs [] → t + loses (lines_taken rs) ≤ WAITING_LOSSES + k + losses_by_call rs
+few_come [] t k few = omega (arith, few)
+few_come (x ∷ rs) t k few = let rest = few_come rs (t + loses x.lines) (k + by_call x.between_calls) few.1 in omega (arith, rest, loses-append x.lines (lines_taken rs))
+
+-- a last run with these lines
+few_last : (rs : List Ran) (t k : ℕ) (ls : List ScriptLine) → NoneTooMany t k rs [] → t + loses (lines_taken rs) + loses ls ≤ WAITING_LOSSES + k + losses_by_call rs → NoneTooMany t k rs ls
+few_last [] t k ls few is = omega (arith, is)
+few_last (x ∷ rs) t k ls few is = (few.0, few_last rs (t + loses x.lines) (k + by_call x.between_calls) ls few.1 (omega (arith, is, loses-append x.lines (lines_taken rs))))
+
+-- one run more
+few_push : (rs : List Ran) (t k : ℕ) (r : Ran) → NoneTooMany t k rs [] → t + loses (lines_taken rs) + loses r.lines ≤ WAITING_LOSSES + k + losses_by_call rs → NoneTooMany t k (rs ++ r ∷ []) []
+few_push [] t k r few is = (omega (arith, is), omega (arith, is))
+few_push (x ∷ rs) t k r few is = (few.0, few_push rs (t + loses x.lines) (k + by_call x.between_calls) r few.1 (omega (arith, is, loses-append x.lines (lines_taken rs))))
+
 pub ended_none : (budget : ℕ) (w : Words) → Ended budget w [] [] 0 w
-ended_none budget w = record { runs = []; history = refl; lines_are = refl; text_is = refl; each_loses = omega arith }
+ended_none budget w = record { runs = []; history = refl; lines_are = refl; text_is = refl; each_loses = omega arith; few = omega arith }
 
 -- a run after those that losses ended, from these bytes
-module _ (budget : ℕ) (w v u : Words) (l0 : List ScriptLine) (t0 : List ℕ) (u1 u2 : ℕ) (e : Ended budget w l0 t0 u1 v) (ls : List ScriptLine) (fs : List SentFrame) (b : List ℕ) (began : Stands v b) where
+module _ (budget : ℕ) (w v u : Words) (l0 : List ScriptLine) (t0 : List ℕ) (u1 u2 : ℕ) (e : Ended budget w l0 t0 u1 v) (ls : List ScriptLine) (fs : List SentFrame) (b : List ℕ) (began : Stands v b) (waits : FewWait u1 ls) where
   lines_now : l0 ++ ls ≡ lines_taken e.runs ++ ls
   lines_now = ap (λ (l : List ScriptLine). l ++ ls) e.lines_are
 
@@ -56,22 +78,33 @@ module _ (budget : ℕ) (w v u : Words) (l0 : List ScriptLine) (t0 : List ℕ) (
   enough : losses_by_call e.runs ≤ loses (lines_taken e.runs)
   enough = let each = e.each_loses in omega (arith, each, ap loses e.lines_are)
 
+  few_now : loses (lines_taken e.runs) + loses ls ≤ WAITING_LOSSES + losses_by_call e.runs
+  few_now =
+      let each = e.each_loses in
+      let come = few_come e.runs 0 0 e.few in
+      let same = ap loses e.lines_are in
+      let now = waits (omega (arith, each, come, same)) in
+      omega (arith, each, same, now)
+
   -- a loss ended it too
-  ended_so : (cut : Bool) (n : ℕ) → EndsSo cut ls n → HasNoEnd ls → by_call cut + u2 ≡ u1 + loses ls → Safe budget b (events_of ls) fs n u → Ended budget w (l0 ++ ls) (t0 ++ (frame_lines fs ++ loss_line)) u2 u
-  ended_so cut n ends no_end uses safe =
-      let r : Ran = record { lines = ls; frames = fs; finished = n; words = u; between_calls = cut } in
+  ended_so : (cut : Bool) (n : ℕ) → EndsSo cut ls n → HasNoEnd ls → by_call cut + u2 ≡ u1 + loses ls → BreaksFrom budget Lost v (events_of ls) fs n u → Ended budget w (l0 ++ ls) (t0 ++ (frame_lines fs ++ loss_line)) u2 u
+  ended_so cut n ends no_end uses broke =
+      let row = row_in v b began in
+      let issued = issued_in budget v b (events_of ls) row.0 row.1 u (broke.rises row.0 b row.1 began) in
+      let r : Ran = record { lines = ls; frames = fs; finished = n; issued = issued.0; words = u; between_calls = cut } in
       let each = e.each_loses in
       record {
         runs = e.runs ++ r ∷ [];
-        history = history-push budget e.runs w v r e.history (record { bytes = b; began = began; safe = safe; ends = ends; no_end = no_end });
+        history = history-push budget e.runs w v r e.history (record { bytes = b; began = began; safe = broke.safe b began; issues = issued.1; rises = issued.2; ends = ends; no_end = no_end });
         lines_are = lines_now ∙ sym (lines_taken-push e.runs r);
         text_is = ap (λ (t : List ℕ). t ++ (frame_lines fs ++ loss_line)) e.text_is ∙ sym (history_lines-push e.runs r);
         each_loses = omega (arith, each, uses, losses-push e.runs r, loses-append l0 ls);
+        few = few_push e.runs 0 0 r e.few (let now = few_now in omega (arith, now));
       }
 
-  pub ended_more : (n : ℕ) → BreaksSo Lost ls n u1 u2 → Safe budget b (events_of ls) fs n u → Ended budget w (l0 ++ ls) (t0 ++ (frame_lines fs ++ loss_line)) u2 u
-  ended_more n (no_end, inl cut) safe = let uses = cut.1 in ended_so true n cut.0 no_end (omega (arith, uses)) safe
-  ended_more n (no_end, inr call) safe = let uses = call.1 in ended_so false n call.0 no_end (omega (arith, uses)) safe
+  pub ended_more : (n : ℕ) → BreaksSo Lost ls n u1 u2 → BreaksFrom budget Lost v (events_of ls) fs n u → Ended budget w (l0 ++ ls) (t0 ++ (frame_lines fs ++ loss_line)) u2 u
+  ended_more n (no_end, inl cut) broke = let uses = cut.1 in ended_so true n cut.0 no_end (omega (arith, uses)) broke
+  ended_more n (no_end, inr call) broke = let uses = call.1 in ended_so false n call.0 no_end (omega (arith, uses)) broke
 
   -- it is whole, and the last one
   pub replayed : IsWhole budget b (events_of ls) fs u → HasNoLossNow ls → EndsWithEnd ls → Replayed budget w (l0 ++ ls) (t0 ++ frame_lines fs) u
@@ -89,12 +122,24 @@ module _ (budget : ℕ) (w v u : Words) (l0 : List ScriptLine) (t0 : List ℕ) (
     ends = end-append l0 ls no_end_yet ends;
     no_loss_now = none;
     enough = enough;
+    few = few_last e.runs 0 0 ls e.few (let now = few_now in omega (arith, now));
   }
 
+  -- over all runs the guard count can have come to its end, where this one can have brought it there
+  worn_over : (issued : ℕ) → ((other : ℕ) → IsGuardRow v.guard other → GUARD_HALFWORDS ≤ raised_over 1 issued other) → (count : ℕ) → IsGuardRow w.guard count
+      → GUARD_HALFWORDS ≤ raised_over (length e.runs + 1) (lines_issued e.runs + issued) count
+  worn_over issued enough count row =
+      let before = counts_over budget e.runs w v count e.history row in
+      let up = before.2 in
+      let here = enough before.0 before.1 in
+      omega (arith, up, here)
+
   -- it was cut short
-  pub cut_short : (why : Stop) (n : ℕ) → StopsSo why ls n u1 u2 → Safe budget b (events_of ls) fs n u → CutShort budget w (l0 ++ ls) (t0 ++ frame_lines fs) why u2 u
-  cut_short why n stops safe =
+  pub cut_short : (why : Stop) (n : ℕ) → StopsSo why ls n u1 u2 → BreaksFrom budget (Stopped why) v (events_of ls) fs n u → CutShort budget w (l0 ++ ls) (t0 ++ frame_lines fs) why u2 u
+  cut_short why n stops broke =
       let each = e.each_loses in
+      let row = row_in v b began in
+      let wears = wears_in budget v b (events_of ls) row.0 row.1 u why (broke.rises row.0 b row.1 began) broke.worn began in
       record {
         runs = e.runs;
         words = v;
@@ -104,13 +149,17 @@ module _ (budget : ℕ) (w v u : Words) (l0 : List ScriptLine) (t0 : List ℕ) (
         finished = n;
         bytes = b;
         began = began;
-        safe = safe;
+        safe = broke.safe b began;
+        issued = wears.0;
+        issues = wears.1;
         lines_are = lines_now;
         text_is = text_now;
         no_loss_now = stops.0;
         between = stops.1;
         enough = enough;
+        few = few_last e.runs 0 0 ls e.few (let now = few_now in omega (arith, now));
         each_loses = refused_map why (λ line is. (no_end-append l0 ls no_end_yet is.0, let waits = is.1 in omega (arith, each, waits, loses-append l0 ls))) stops.2;
+        worn = worn_map why (λ full is. worn_over wears.0 is) wears.2;
       }
 
 -- what is printed after a text
@@ -123,12 +172,15 @@ pub whole_run : (budget : ℕ) (node : Node) (b : List ℕ) (ls : List ScriptLin
 whole_run budget node b ls fs n w run close is = subst (λ (m : ℕ). IsWhole m b (events_of ls) fs w) is (record { acts = run.acts; rests = node.rests; reads = run.reads; all_answers = run.at.sent; all_lines = close b _ fs run.at })
 
 -- a run by what its close answers
-pub closed : {T E : Type 0} (budget : ℕ) (r : Result T E) (node : Node) (before now : Words) (ls : List ScriptLine) (fs : List SentFrame) (n k : ℕ) → n + 0 ≡ k
-    → ((b : List ℕ) → Stands before b → StandsForRun node b (events_of ls) fs n) → node.budget ≡ budget → CloseEnds budget r node now → RunEnds budget r before (events_of ls) fs k now
-closed budget (Ok t) node before now ls fs n k is runs same close = λ b began. whole_run budget node b ls fs n now (runs b began) close same
-closed budget (Err e) node before now ls fs n k is runs same close = λ b began.
-    subst (λ (j : ℕ). Safe budget b (events_of ls) fs j now) is
-    (subst (λ (l : List Received). Safe budget b l fs (n + 0) now) (append-nil (events_of ls)) (subst (λ (l : List SentFrame). Safe budget b (events_of ls ++ []) l (n + 0) now) (append-nil fs) (close b (events_of ls) fs n (runs b began))))
+pub closed : {T : Type 0} (budget : ℕ) (r : Result T Break) (node : Node) (before now : Words) (ls : List ScriptLine) (fs : List SentFrame) (n k : ℕ) → n + 0 ≡ k
+    → ((b : List ℕ) → Stands before b → StandsForRun node b (events_of ls) fs n) → ((count : ℕ) (b : List ℕ) → IsGuardRow before.guard count → Stands before b → StaysWithin count node b (events_of ls) fs n)
+    → node.budget ≡ budget → CloseEnds budget r node now → RunEnds budget r before (events_of ls) fs k now
+closed budget (Ok t) node before now ls fs n k is runs within same close = λ b began. whole_run budget node b ls fs n now (runs b began) close same
+closed budget (Err how) node before now ls fs n k is runs within same close =
+    subst (λ (j : ℕ). BreaksFrom budget how before (events_of ls) fs j now) is
+    (subst (λ (l : List Received). BreaksFrom budget how before l fs (n + 0) now) (append-nil (events_of ls))
+    (subst (λ (l : List SentFrame). BreaksFrom budget how before (events_of ls ++ []) l (n + 0) now) (append-nil fs)
+    (breaks_from budget how before node (events_of ls) [] fs [] n 0 now runs within close)))
 
 -- what is safe stands for some bytes
 pub stands_safe : (budget : ℕ) (b : List ℕ) (e : List Received) (f : List SentFrame) (n : ℕ) (u w : Words) → Safe budget b e f n u → w ≡ u → (now : List ℕ) × Stands w now

@@ -2,13 +2,19 @@
 use Rattle.std.proofs.Common.{◌≡◌, ℕ, ◌+◌, List, [], ◌∷◌, ◌++◌, length, length-append, refl, sym, ◌∙◌, ap, subst, arith, append_assoc, append-nil}
 use Rattle.flash_traits.specs.Words.{Words}
 use Rattle.flash_traits.specs.Losses.{Received, SentFrame}
+use Rattle.guard_row.specs.Row.{IsGuardRow}
+use Rattle.sector_image.specs.Stands.{Stands}
+use Rattle.vehicle_node.specs.Guard.{MayWear}
 use Rattle.vehicle_node.specs.Safe.{Safe}
-use Rattle.vehicle_node.specs.Standing.{Node, StandsForRun}
+use Rattle.vehicle_node.specs.Standing.{Node, StandsForRun, StaysWithin}
 use Rattle.script_lines.specs.Script.{ScriptLine}
 use Rattle.script_board.specs.Taking.{events_in, events_of}
 use Rattle.script_board.specs.Printing.{frame_line, frame_lines}
+use Rattle.replay.specs.Guard.{Rises}
 use Rattle.replay.specs.Histories.{AreNext}
-use Rattle.replay.specs.Playing.{Adds, GoesOn, Breaks}
+use Rattle.replay.specs.Playing.{Adds, GoesOn, Breaks, BreaksFrom}
+use Rattle.replay.specs.declared.Break.{Break}
+use Rattle.replay.proofs.Causes.{worn_in}
 
 pub events_of-append : (ls ms : List ScriptLine) → events_of (ls ++ ms) ≡ events_of ls ++ events_of ms
 events_of-append [] ms = refl
@@ -45,25 +51,63 @@ adds_quiet t0 t1 t2 p0 p1 p2 a f first second = record {
   printed_are = second.printed_are ∙ append-nil p1 ∙ first.printed_are;
 }
 
+-- what is said of a run's events, of its frames and of how many are finished, where none come after it, and where two calls do
+after_none : (P : List Received → List SentFrame → ℕ → Type 0) (e : List Received) (f : List SentFrame) (m : ℕ) → P e f m → P (e ++ []) (f ++ []) (m + 0)
+after_none P e f m is = subst (λ (l : List Received). P l (f ++ []) (m + 0)) (sym (append-nil e)) (subst (λ (l : List SentFrame). P e l (m + 0)) (sym (append-nil f)) (subst (λ (k : ℕ). P e f k) (omega arith) is))
+
 pub goes_on_none : (node : Node) → GoesOn node node [] []
-goes_on_none node b e f m run = subst (λ (l : List Received). StandsForRun node b l (f ++ []) (m + 0)) (sym (append-nil e))
-    (subst (λ (l : List SentFrame). StandsForRun node b e l (m + 0)) (sym (append-nil f)) (subst (λ (k : ℕ). StandsForRun node b e f k) (omega arith) run))
+goes_on_none node = record {
+  stands = λ b e f m run. after_none (StandsForRun node b) e f m run;
+  within = λ count b e f m run. after_none (StaysWithin count node b) e f m run;
+}
 
 pub events_length : (a b : List ScriptLine) → length (events_of (a ++ b)) ≡ length (events_of a) + length (events_of b)
 events_length a b = ap length (events_of-append a b) ∙ length-append (events_of a) (events_of b)
 
-pub goes_on_then : (x y z : Node) (a b : List ScriptLine) (f g : List SentFrame) → GoesOn x y (events_of a) f → GoesOn y z (events_of b) g → GoesOn x z (events_of (a ++ b)) (f ++ g)
-goes_on_then x y z a b f g first second by e s m run =
-    subst (λ (k : ℕ). StandsForRun z by (e ++ events_of (a ++ b)) (s ++ (f ++ g)) k) (omega (arith, events_length a b))
-    (subst (λ (l : List Received). StandsForRun z by (e ++ l) (s ++ (f ++ g)) (m + length (events_of a) + length (events_of b))) (sym (events_of-append a b))
-    (subst (λ (l : List Received). StandsForRun z by l (s ++ (f ++ g)) (m + length (events_of a) + length (events_of b))) (append_assoc e (events_of a) (events_of b))
-    (subst (λ (l : List SentFrame). StandsForRun z by ((e ++ events_of a) ++ events_of b) l (m + length (events_of a) + length (events_of b))) (append_assoc s f g)
-    (second by (e ++ events_of a) (s ++ f) (m + length (events_of a)) (first by e s m run)))))
+events_then : (P : List Received → Type 0) (e : List Received) (a b : List ScriptLine) → P ((e ++ events_of a) ++ events_of b) → P (e ++ events_of (a ++ b))
+events_then P e a b is = subst (λ (l : List Received). P (e ++ l)) (sym (events_of-append a b)) (subst P (append_assoc e (events_of a) (events_of b)) is)
 
-pub breaks_then : (budget : ℕ) (x y : Node) (a b : List ScriptLine) (f g : List SentFrame) (n : ℕ) (w : Words) → GoesOn x y (events_of a) f → Breaks budget y (events_of b) g n w → Breaks budget x (events_of (a ++ b)) (f ++ g) (length (events_of a) + n) w
-breaks_then budget x y a b f g n w first second by e s m run =
-    let safe = second by (e ++ events_of a) (s ++ f) (m + length (events_of a)) (first by e s m run) in
-    subst (λ (k : ℕ). Safe budget by (e ++ events_of (a ++ b)) (s ++ (f ++ g)) k w) (omega arith)
-    (subst (λ (l : List Received). Safe budget by (e ++ l) (s ++ (f ++ g)) (m + length (events_of a) + n) w) (sym (events_of-append a b))
-    (subst (λ (l : List Received). Safe budget by l (s ++ (f ++ g)) (m + length (events_of a) + n) w) (append_assoc e (events_of a) (events_of b))
-    (subst (λ (l : List SentFrame). Safe budget by ((e ++ events_of a) ++ events_of b) l (m + length (events_of a) + n) w) (append_assoc s f g) safe)))
+after_then : (P : List Received → List SentFrame → ℕ → Type 0) (e : List Received) (s : List SentFrame) (m : ℕ) (a b : List ScriptLine) (f g : List SentFrame) (n : ℕ)
+    → P ((e ++ events_of a) ++ events_of b) ((s ++ f) ++ g) (m + length (events_of a) + n) → P (e ++ events_of (a ++ b)) (s ++ (f ++ g)) (m + (length (events_of a) + n))
+after_then P e s m a b f g n is =
+    subst (λ (k : ℕ). P (e ++ events_of (a ++ b)) (s ++ (f ++ g)) k) (omega arith)
+    (events_then (λ (l : List Received). P l (s ++ (f ++ g)) (m + length (events_of a) + n)) e a b
+    (subst (λ (l : List SentFrame). P ((e ++ events_of a) ++ events_of b) l (m + length (events_of a) + n)) (append_assoc s f g) is))
+
+goes_on_after : (P : List Received → List SentFrame → ℕ → Type 0) (e : List Received) (s : List SentFrame) (m : ℕ) (a b : List ScriptLine) (f g : List SentFrame)
+    → P ((e ++ events_of a) ++ events_of b) ((s ++ f) ++ g) (m + length (events_of a) + length (events_of b)) → P (e ++ events_of (a ++ b)) (s ++ (f ++ g)) (m + length (events_of (a ++ b)))
+goes_on_after P e s m a b f g is = subst (λ (k : ℕ). P (e ++ events_of (a ++ b)) (s ++ (f ++ g)) k) (omega (arith, events_length a b)) (after_then P e s m a b f g (length (events_of b)) is)
+
+pub goes_on_then : (x y z : Node) (a b : List ScriptLine) (f g : List SentFrame) → GoesOn x y (events_of a) f → GoesOn y z (events_of b) g → GoesOn x z (events_of (a ++ b)) (f ++ g)
+goes_on_then x y z a b f g first second = record {
+  stands = λ by e s m run. goes_on_after (StandsForRun z by) e s m a b f g
+      (second.stands by (e ++ events_of a) (s ++ f) (m + length (events_of a)) (first.stands by e s m run));
+  within = λ count by e s m run. goes_on_after (StaysWithin count z by) e s m a b f g
+      (second.within count by (e ++ events_of a) (s ++ f) (m + length (events_of a)) (first.within count by e s m run));
+}
+
+pub breaks_then : (budget : ℕ) (how : Break) (x y : Node) (a b : List ScriptLine) (f g : List SentFrame) (n : ℕ) (w : Words) → GoesOn x y (events_of a) f → Breaks budget how y (events_of b) g n w
+    → Breaks budget how x (events_of (a ++ b)) (f ++ g) (length (events_of a) + n) w
+breaks_then budget how x y a b f g n w first second = record {
+  safe = λ by e s m run. after_then (λ (l : List Received) (k : List SentFrame) (j : ℕ). Safe budget by l k j w) e s m a b f g n
+      (second.safe by (e ++ events_of a) (s ++ f) (m + length (events_of a)) (first.stands by e s m run));
+  rises = λ count by e s m run. events_then (λ (l : List Received). Rises budget count by l w) e a b
+      (second.rises count by (e ++ events_of a) (s ++ f) (m + length (events_of a)) (first.within count by e s m run));
+  worn = worn_in how (λ full wears count by e s m run. events_then (MayWear budget count by) e a b
+      (wears count by (e ++ events_of a) (s ++ f) (m + length (events_of a)) (first.within count by e s m run))) second.worn;
+}
+
+-- a run that stands from these words on breaks off
+pub breaks_from : (budget : ℕ) (how : Break) (before : Words) (node : Node) (es events : List Received) (fs frames : List SentFrame) (n finished : ℕ) (now : Words)
+    → ((b : List ℕ) → Stands before b → StandsForRun node b es fs n)
+    → ((count : ℕ) (b : List ℕ) → IsGuardRow before.guard count → Stands before b → StaysWithin count node b es fs n)
+    → Breaks budget how node events frames finished now → BreaksFrom budget how before (es ++ events) (fs ++ frames) (n + finished) now
+breaks_from budget how before node es events fs frames n finished now runs within broke = record {
+  safe = λ b began. broke.safe b es fs n (runs b began);
+  rises = λ count b row began. broke.rises count b es fs n (within count b row began);
+  worn = worn_in how (λ full wears count b row began. wears count b es fs n (within count b row began)) broke.worn;
+}
+
+pub breaks_from_by : (budget : ℕ) (how why : Break) (before : Words) (events : List Received) (frames : List SentFrame) (n : ℕ) (now : Words) → how ≡ why
+    → BreaksFrom budget how before events frames n now → BreaksFrom budget why before events frames n now
+breaks_from_by budget how why before events frames n now is broke = subst (λ (h : Break). BreaksFrom budget h before events frames n now) is broke

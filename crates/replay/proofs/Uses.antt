@@ -1,7 +1,7 @@
 -- What calls do with the lines and with the waiting losses, one after another.
 use Rattle.std.proofs.Common.{◌≡◌, ℕ, ◌+◌, List, [], ◌∷◌, ◌++◌, Result, Ok, Err, IfErr, inl, inr, length, refl, sym, ◌∙◌, ap, subst, arith, append_assoc}
-use Rattle.script_lines.specs.Script.{ScriptLine, LossNow, End}
-use Rattle.script_board.specs.Hearing.{loses, HasNoLossNow, HasNoEnd, EndsWithEnd}
+use Rattle.script_lines.specs.Script.{ScriptLine, LossNow, End, HasNoEnd}
+use Rattle.script_board.specs.Hearing.{loses, FewWait, HasNoLossNow, EndsWithEnd}
 use Rattle.script_board.specs.Taking.{events_of}
 use Rattle.vehicle_node.specs.Standing.{Node}
 use Rattle.vehicle_node.specs.declared.Turn.{Turn}
@@ -30,6 +30,12 @@ end-append a b none ends = (a ++ ends.0, ap (λ (l : List ScriptLine). a ++ l) e
 
 pub waits_then : (a b : List ScriptLine) (u v w : ℕ) → v ≡ u + loses a → w ≡ v + loses b → w ≡ u + loses (a ++ b)
 waits_then a b u v w first second = omega (arith, first, second, loses-append a b)
+
+pub few_none : (u : ℕ) → FewWait u []
+few_none u few = omega (arith, few)
+
+pub few_then : (a b : List ScriptLine) (u v : ℕ) → v ≡ u + loses a → FewWait u a → FewWait v b → FewWait u (a ++ b)
+few_then a b u v is first second few = let now = first few in let later = second (omega (arith, is, now)) in omega (arith, is, later, loses-append a b)
 
 -- lines before those of a call that broke off
 module _ (a b : List ScriptLine) (n u v w : ℕ) (no_cut : HasNoLossNow a) (no_end : HasNoEnd a) (first : v ≡ u + loses a) where

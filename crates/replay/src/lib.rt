@@ -15,6 +15,7 @@ ghost use Rattle.vehicle_node.specs.Standing as standing;
 ghost use Rattle.script_lines.specs.Script.{ScriptLine};
 ghost use Rattle.script_board.specs.Taking.{events_of};
 ghost use Rattle.script_board.specs.Printing.{loss_line};
+ghost use Rattle.script_board.specs.Hearing.{FewWait};
 ghost use Rattle.replay.specs.Breaks.{OnLost, OnStopped, OnRefused, OnForeign, OnWorn, OnInput, OnOutput};
 ghost use Rattle.replay.specs.Histories.{AreNext, Replayed, CutShort};
 ghost use Rattle.replay.specs.Playing.{Adds, OpenEnds, EventEnds, CloseEnds, RunEnds, TurnUses, PlayUses, QuietUses};
@@ -135,7 +136,8 @@ pub trait Player {
             lines frames
             × EventEnds arming result node.old node.new (events_of lines) frames finished
             (words self.new)
-            × TurnUses result lines finished (waiting self.old) (waiting self.new) }
+            × TurnUses result lines finished (waiting self.old) (waiting self.new)
+            × FewWait (waiting self.old) lines }
         ensures remaining { remaining self.new ≤ remaining self.old }
         ensures finished { OnOk result (remaining self.new + 1 ≤ remaining self.old) }
         ensures lost { IfErr result
@@ -204,7 +206,8 @@ fn play<P: Player>(player: &mut P, node: &mut Node) -> Result<(), Break>
         (P.printed player.old) (P.printed player.new) lines frames
         × EventEnds P.arming result node.old node.new (events_of lines) frames finished
         (P.words player.new)
-        × PlayUses result lines finished (P.waiting player.old) (P.waiting player.new) }
+        × PlayUses result lines finished (P.waiting player.old) (P.waiting player.new)
+        × FewWait (P.waiting player.old) lines }
     ensures remaining { P.remaining player.new ≤ P.remaining player.old }
     ensures lost { IfErr result
         (OnLost (P.remaining player.new + 1 ≤ P.remaining player.old)) }
@@ -238,7 +241,8 @@ fn run_once<P: Player>(alloc: Global, player: &mut P) -> Result<(), Break>
         (P.printed player.old) (P.printed player.new) lines frames
         × RunEnds P.arming result (P.words player.old) (events_of lines) frames finished
         (P.words player.new)
-        × PlayUses result lines finished (P.waiting player.old) (P.waiting player.new) }
+        × PlayUses result lines finished (P.waiting player.old) (P.waiting player.new)
+        × FewWait (P.waiting player.old) lines }
     ensures remaining { P.remaining player.new ≤ P.remaining player.old }
     ensures lost { IfErr result
         (OnLost (P.remaining player.new + 1 ≤ P.remaining player.old)) }

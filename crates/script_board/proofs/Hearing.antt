@@ -6,9 +6,9 @@ use Rattle.flash_traits.specs.Losses.{Received, received}
 use Rattle.flash_traits.specs.declared.board.Event.{Event}
 use Rattle.flash_traits.specs.declared.board.Event.TheVariants as event
 use Rattle.flash_traits.specs.declared.board.Failed.{Failed}
-use Rattle.script_lines.specs.Script.{ScriptLine, Datagram, Idle, LossNow, LossLater, End}
+use Rattle.script_lines.specs.Script.{ScriptLine, Datagram, Idle, LossNow, LossLater, End, HasNoEnd}
 use Rattle.script_board.specs.Taking.{events_in, events_of}
-use Rattle.script_board.specs.Hearing.{loses_in, HasNoLossNow, HasNoEnd, EndsWithEnd, AreLosses, IsHeard, IsUnheard}
+use Rattle.script_board.specs.Hearing.{loses_in, HasNoLossNow, EndsWithEnd, AreLosses, IsHeard, IsUnheard}
 use Rattle.script_board.specs.declared.board.ScriptMark.{ScriptMark}
 
 no_loss : (n : ℕ) → n ≡ 0 → n ≡ 1 → ⊥

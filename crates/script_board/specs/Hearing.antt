@@ -4,7 +4,7 @@ use Rattle.flash_traits.specs.Losses.{received}
 use Rattle.flash_traits.specs.declared.board.Event.{Event}
 use Rattle.flash_traits.specs.declared.board.Event.TheVariants as event
 use Rattle.flash_traits.specs.declared.board.Failed.{Failed}
-use Rattle.script_lines.specs.Script.{ScriptLine, Datagram, Idle, LossNow, LossLater, End}
+use Rattle.script_lines.specs.Script.{ScriptLine, Datagram, Idle, LossNow, LossLater, End, HasNoEnd}
 use Rattle.script_lines.specs.Seen.{line_of}
 use Rattle.script_lines.specs.declared.line.ScriptLine as lines
 use Rattle.script_lines.specs.declared.line.Waiting.{Waiting}
@@ -50,15 +50,15 @@ abbrev pub loses : List ScriptLine → ℕ
 loses [] = 0
 loses (line ∷ lines) = loses_in line + loses lines
 
+-- with the losses of these lines no more than sixteen wait, if no more did before them
+abbrev pub FewWait : ℕ → List ScriptLine → Type 0
+FewWait waiting lines =
+    waiting ≤ WAITING_LOSSES → waiting + loses lines ≤ WAITING_LOSSES
+
 -- none of these lines is a loss now
 abbrev pub HasNoLossNow : List ScriptLine → Type 0
 HasNoLossNow [] = Unit {0}
 HasNoLossNow (line ∷ lines) = (line ≢ LossNow) × HasNoLossNow lines
-
--- none of these lines is the end
-abbrev pub HasNoEnd : List ScriptLine → Type 0
-HasNoEnd [] = Unit {0}
-HasNoEnd (line ∷ lines) = (line ≢ End) × HasNoEnd lines
 
 -- the last of these lines is the end, and no earlier one
 abbrev pub EndsWithEnd : List ScriptLine → Type 0

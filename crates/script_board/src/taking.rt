@@ -31,7 +31,7 @@ impl<'a, S: Source, K: Sink> ScriptBoard<'a, S, K> {
     ghost use Rattle.script_lines.specs.Seen.{line_of};
     ghost use Rattle.script_board.specs.Marks.{marked};
     ghost use Rattle.script_board.specs.Taking.{Took};
-    ghost use Rattle.script_board.specs.Hearing.{lines_of, waiting_after, waiting_behind, IsRefused, IsHeard, IsUnheard};
+    ghost use Rattle.script_board.specs.Hearing.{lines_of, waiting_after, waiting_behind, FewWait, IsRefused, IsHeard, IsUnheard};
     ghost use Rattle.script_board.specs.Boards.{unread_in, hears, OnlyScript};
     ghost use Rattle.script_board.specs.declared.board.ScriptMark.TheVariants.{Lost, Refused, Input, Output};
 
@@ -68,6 +68,8 @@ impl<'a, S: Source, K: Sink> ScriptBoard<'a, S, K> {
         ensures waits { IfOk result (λ line.
             self.new.waiting.items ≡ waiting_after self.old.waiting.items (line_of line)) }
         ensures no_more { OnErr result (self.new.waiting.items ≡ self.old.waiting.items) }
+        ensures few { OnOk result (length self.old.waiting.items ≤ WAITING_LOSSES
+            → length self.new.waiting.items ≤ WAITING_LOSSES) }
         ensures why { OnErr result
             ((Rose (S.faults self.old.input.now) (S.faults self.new.input.now)
             × (slice_index self.old.faults 3 ≡ 0 → self.new.mark ≡ marked self.old.mark Input))
@@ -141,7 +143,8 @@ impl<'a, S: Source, K: Sink> ScriptBoard<'a, S, K> {
             (λ _. IsUnheard self.old.mark self.new.mark (slice_index self.old.faults 3) lines
             (Rose (S.faults self.old.input.now) (S.faults self.new.input.now)) (self.new.line + 1)
             (IsRefused self.new.line self.new.waiting.items (unread_in self.new)
-            (S.tells_rest self.new.input.now) (S.rest self.new.input.now))) }
+            (S.tells_rest self.new.input.now) (S.rest self.new.input.now)))
+            × FewWait (length self.old.waiting.items) lines }
         ensures unfailed { OnOk result
             (slice_index self.new.faults 3 ≡ slice_index self.old.faults 3) }
         ensures source { S.faults self.old.input.now ≤ S.faults self.new.input.now }

@@ -6,6 +6,7 @@ use Rattle.flash_traits.specs.declared.board.Board as board
 use Rattle.flash_traits.specs.declared.board.Event.{Event}
 use Rattle.flash_traits.specs.declared.stream.Source as source
 use Rattle.flash_traits.specs.declared.stream.Sink as sink
+use Rattle.vehicle_node.specs.Guard.{RisesWithin}
 use Rattle.vehicle_node.specs.Safe.{Safe, SafeSince}
 use Rattle.vehicle_node.specs.Standing.{Node, Finished}
 use Rattle.vehicle_node.specs.declared.NodeError.{NodeError}
@@ -18,6 +19,7 @@ use Rattle.script_board.specs.declared.board.ScriptMark.{ScriptMark}
 use Rattle.script_board.specs.declared.board.ScriptMark.TheVariants.{Output}
 use Rattle.script_board.proofs.FrameLines.{frame_lines-none}
 use Rattle.script_board.proofs.Hearing.{events-heard, no_events-unheard}
+use Rattle.replay.specs.Guard.{Rises}
 use Rattle.replay.specs.Playing.{GoesOn}
 use Rattle.script_replay.specs.Calls.{Takes, HasHeard, WaitsBy, events_heard, too_many}
 use Rattle.script_replay.specs.Held.{HasLists, StandsFor, HasLeft}
@@ -50,7 +52,7 @@ module _ {B : Type 0} (g : board.Ghosts B) (old new : Node) (b0 b1 : B) where
     lists = finished.lists [] [] none;
     few = omega arith;
     came = (finished.event, refl, finished.last);
-    goes = finished.stands;
+    goes = record { stands = finished.stands; within = finished.within };
   }
   listed (Err e) finished cut none =
       let by = cut [] [] none in
@@ -75,6 +77,14 @@ safe_of was anew budget b e f m o after =
     subst (λ (l : List Received). Safe budget b (e ++ l) (f ++ o.frames) m o.words) (added o.events after.from.events s.added_events s.events_are none.0)
     (subst (λ (l : List SentFrame). Safe budget b (e ++ s.added_events) (f ++ l) m o.words) (added o.frames after.from.frames s.added_frames s.frames_are none.1) s.safe)
 
+-- the guard count of what a loss leaves
+pub rises_of : (was : Outcome → Type 0) → ((o : Outcome) → was o → (o.events ≡ []) × (o.frames ≡ [])) → (budget count : ℕ) (b : List ℕ) (e : List Received) (o : Outcome)
+    → After was (RisesWithin budget count b e) o → Rises budget count b (e ++ o.events) o.words
+rises_of was anew budget count b e o after =
+    let s = after.steps in
+    subst (λ (l : List Received). Rises budget count b (e ++ l) o.words) (added o.events after.from.events s.added_events s.events_are (anew after.from after.was).0)
+    (record { acts = s.acts; rests = s.rests; reads = s.reads; guard = s.guard })
+
 pub by_result : (was : Outcome → Type 0) (budget : ℕ) (b : List ℕ) (e : List Received) (f : List SentFrame) (m : ℕ) (o : Outcome) (a : Result Turn NodeError)
     → After was (ByResult a (SafeSince budget b e f (m + 1)) (SafeSince budget b e f m)) o → After was (SafeSince budget b e f (m + finished_by a)) o
 by_result was budget b e f m o (Ok turn) after = after
@@ -94,6 +104,7 @@ module _ {S K N : Type 0} {g : source.Ghosts S} {h : sink.Ghosts K} (n : start.G
     line = omega (arith, line);
     hears = inl (refl, subst (λ (m : Option ScriptMark). WaitsBy m n.waiting (length b.waiting.items)) (sym mark) waiting);
     takes = λ told. subst (λ (u : List ℕ). Takes u n.rest (unread_in b) (g.rest b.input.now) []) unread (subst (λ (r : List ℕ). Takes (unread_in b) r (unread_in b) (g.rest b.input.now) []) rest (takes_none (unread_in b) (g.rest b.input.now)));
+    few = λ few. omega (arith, few);
   }
 
   -- as many receptions as the call has room for

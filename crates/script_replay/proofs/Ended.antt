@@ -1,5 +1,5 @@
 -- How a call ended, by the mark and by the node's answer.
-use Rattle.std.proofs.Common.{◌≡◌, ◌≢◌, ℕ, List, [], Option, Some, None, Result, Ok, Err, IfOk, IfErr, refl, ◌∙◌, ap, arith}
+use Rattle.std.proofs.Common.{◌≡◌, ◌≢◌, ℕ, ◌+◌, List, [], ◌++◌, Option, Some, None, Result, Ok, Err, IfOk, IfErr, refl, ◌∙◌, ap, arith}
 use Rattle.flash_traits.specs.Words.{Words}
 use Rattle.flash_traits.specs.Causes.{Rose}
 use Rattle.flash_traits.specs.Losses.{Received, SentFrame}
@@ -9,14 +9,17 @@ use Rattle.sector_image.specs.FirstBad.{Place}
 use Rattle.sector_image.specs.Stands.{Stands}
 use Rattle.vehicle_node.specs.Refusals as refusals
 use Rattle.vehicle_node.specs.Safe.{Safe}
-use Rattle.vehicle_node.specs.Standing.{Node, StandsForRun}
+use Rattle.vehicle_node.specs.Standing.{Node, StandsForRun, StaysWithin}
+use Rattle.vehicle_node.specs.Guard.{MayWear}
+use Rattle.guard_row.specs.Row.{IsGuardRow}
 use Rattle.vehicle_node.specs.declared.NodeError.{NodeError}
 use Rattle.vehicle_node.specs.declared.NodeError.TheVariants.{Memory, Fault as Failing, Foreign, Worn}
 use Rattle.vehicle_node.specs.declared.Turn.{Turn}
 use Rattle.script_board.specs.declared.board.ScriptMark.{ScriptMark}
 use Rattle.script_board.specs.declared.board.ScriptMark.TheVariants.{Lost, Refused, Input, Output}
 use Rattle.replay.specs.Breaks.{OnStopped, OnForeign, OnWorn, OnRefused, OnInput, OnOutput}
-use Rattle.replay.specs.Playing.{OpenEnds, CloseEnds, EventEnds, GoesOn, Breaks, QuietUses}
+use Rattle.replay.specs.Guard.{Rises}
+use Rattle.replay.specs.Playing.{Opens, OpenEnds, CloseEnds, EventEnds, GoesOn, QuietUses}
 use Rattle.replay.specs.declared.Break.{Break}
 use Rattle.replay.specs.declared.Break.TheVariants.{Stopped}
 use Rattle.replay.specs.declared.Stop.TheVariants as stops
@@ -41,6 +44,18 @@ module _ {T : Type 0} where
   no_fault (Err (Failing kind)) Kinds other x y f0 f1 before now why = never kind x y f0 f1 before now (other kind why.0) why.1
   no_fault (Err (Foreign region offset word)) Kinds other x y f0 f1 before now why = tt
   no_fault (Err (Worn count)) Kinds other x y f0 f1 before now why = tt
+
+  -- what holds where the node answers, also where its answer isn't taken
+  pub on_ok : (P : T → Type 0) (m : Option ScriptMark) (a : Result T NodeError) → IfOk a P → IfOk (ended m a) P
+  on_ok P (Some Lost) a is = tt
+  on_ok P (Some (Refused line)) a is = tt
+  on_ok P (Some Input) a is = tt
+  on_ok P (Some Output) a is = tt
+  on_ok P None (Ok v) is = is
+  on_ok P None (Err Memory) is = tt
+  on_ok P None (Err (Failing kind)) is = tt
+  on_ok P None (Err (Foreign region offset word)) is = tt
+  on_ok P None (Err (Worn count)) is = tt
 
   -- the causes of a stop
   pub on_foreign : (P Q : Place → Type 0) → ((p : Place) → Q p → P p) → (m : Option ScriptMark) (a : Result T NodeError) → IfErr a (λ e. refusals.OnForeign e Q) → IfErr (ended m a) (OnStopped (OnForeign P))
@@ -114,47 +129,38 @@ module _ {T : Type 0} where
   quiet_uses None (Err (Foreign region offset word)) before now waits = waits
   quiet_uses None (Err (Worn count)) before now waits = waits
 
--- how an opening, an event and a close end
-pub open_ends : (budget : ℕ) (before now : Words) (m : Option ScriptMark) (a : Result Node NodeError)
-    → IfOk a (λ node. ((b : List ℕ) → Stands before b → StandsForRun node b [] [] 0) × (node.budget ≡ budget))
-    → ((b : List ℕ) → Stands before b → Safe budget b [] [] 0 now) → OpenEnds budget (ended m a) before now
-open_ends budget before now (Some Lost) a opened safe = safe
-open_ends budget before now (Some (Refused line)) a opened safe = safe
-open_ends budget before now (Some Input) a opened safe = safe
-open_ends budget before now (Some Output) a opened safe = safe
-open_ends budget before now None (Ok node) opened safe = opened
-open_ends budget before now None (Err Memory) opened safe = safe
-open_ends budget before now None (Err (Failing kind)) opened safe = safe
-open_ends budget before now None (Err (Foreign region offset word)) opened safe = safe
-open_ends budget before now None (Err (Worn count)) opened safe = safe
-
 -- one event is finished where the node answers, also where its answer isn't taken
 abbrev pub finished_by : Result Turn NodeError → ℕ
 finished_by (Ok turn) = 1
 finished_by (Err e) = 0
 
-module _ (budget : ℕ) (old new : Node) (events : List Received) (frames : List SentFrame) (words : Words) where
-  pub event_ends : (m : Option ScriptMark) (a : Result Turn NodeError)
-      → IfOk a (λ turn. GoesOn old new events frames × (new.budget ≡ old.budget))
-      → Breaks budget old events frames (finished_by a) words → EventEnds budget (ended m a) old new events frames (finished_by a) words
-  event_ends (Some Lost) a goes safe = safe
-  event_ends (Some (Refused line)) a goes safe = safe
-  event_ends (Some Input) a goes safe = safe
-  event_ends (Some Output) a goes safe = safe
-  event_ends None (Ok turn) goes safe = goes
-  event_ends None (Err Memory) goes safe = safe
-  event_ends None (Err (Failing kind)) goes safe = safe
-  event_ends None (Err (Foreign region offset word)) goes safe = safe
-  event_ends None (Err (Worn count)) goes safe = safe
+-- how an opening, an event and a close end
+module _ (budget : ℕ) (before now : Words) where
+  pub open_ends : (r : Result Node Break) → IfOk r (Opens budget before)
+      → ((b : List ℕ) → Stands before b → Safe budget b [] [] 0 now)
+      → ((count : ℕ) (b : List ℕ) → IsGuardRow before.guard count → Stands before b → Rises budget count b [] now)
+      → IfErr r (OnStopped (OnWorn (λ full. (count : ℕ) (b : List ℕ) → IsGuardRow before.guard count → Stands before b → MayWear budget count b [])))
+      → OpenEnds budget r before now
+  open_ends (Ok node) opened safe rises worn = opened
+  open_ends (Err how) opened safe rises worn = record { safe = safe; rises = rises; worn = worn }
 
-pub close_ends : (budget : ℕ) (node : Node) (now : Words) (m : Option ScriptMark) (a : Result (Unit {0}) NodeError)
-    → IfOk a (λ t. CloseEnds {T = Unit {0}} {E = Break} budget (Ok tt) node now) → Breaks budget node [] [] 0 now → CloseEnds budget (ended m a) node now
-close_ends budget node now (Some Lost) a closed safe = safe
-close_ends budget node now (Some (Refused line)) a closed safe = safe
-close_ends budget node now (Some Input) a closed safe = safe
-close_ends budget node now (Some Output) a closed safe = safe
-close_ends budget node now None (Ok t) closed safe = closed
-close_ends budget node now None (Err Memory) closed safe = safe
-close_ends budget node now None (Err (Failing kind)) closed safe = safe
-close_ends budget node now None (Err (Foreign region offset word)) closed safe = safe
-close_ends budget node now None (Err (Worn count)) closed safe = safe
+module _ (budget : ℕ) (old : Node) (events : List Received) where
+  -- the run that the node stood for issues lines enough to wear the guard row
+  abbrev pub Wears : Type 0
+  Wears = (count : ℕ) (b : List ℕ) (e : List Received) (f : List SentFrame) (m : ℕ) → StaysWithin count old b e f m → MayWear budget count b (e ++ events)
+
+  module _ (frames : List SentFrame) (finished : ℕ) (words : Words)
+      (safe : (b : List ℕ) (e : List Received) (f : List SentFrame) (m : ℕ) → StandsForRun old b e f m → Safe budget b (e ++ events) (f ++ frames) (m + finished) words)
+      (rises : (count : ℕ) (b : List ℕ) (e : List Received) (f : List SentFrame) (m : ℕ) → StaysWithin count old b e f m → Rises budget count b (e ++ events) words) where
+    pub event_ends : (new : Node) (r : Result Turn Break) → IfOk r (λ turn. GoesOn old new events frames × (new.budget ≡ old.budget)) → IfErr r (OnStopped (OnWorn (λ full. Wears)))
+        → EventEnds budget r old new events frames finished words
+    event_ends new (Ok turn) goes worn = goes
+    event_ends new (Err how) goes worn = record { safe = safe; rises = rises; worn = worn }
+
+module _ (budget : ℕ) (node : Node) (now : Words) where
+  pub close_ends : (r : Result (Unit {0}) Break) → IfOk r (λ t. CloseEnds {T = Unit {0}} budget (Ok tt) node now)
+      → ((b : List ℕ) (e : List Received) (f : List SentFrame) (m : ℕ) → StandsForRun node b e f m → Safe budget b (e ++ []) (f ++ []) (m + 0) now)
+      → ((count : ℕ) (b : List ℕ) (e : List Received) (f : List SentFrame) (m : ℕ) → StaysWithin count node b e f m → Rises budget count b (e ++ []) now)
+      → IfErr r (OnStopped (OnWorn (λ full. Wears budget node []))) → CloseEnds budget r node now
+  close_ends (Ok t) closed safe rises worn = closed
+  close_ends (Err how) closed safe rises worn = record { safe = safe; rises = rises; worn = worn }

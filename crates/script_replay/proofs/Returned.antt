@@ -1,5 +1,5 @@
 -- What one call leaves of the board that was held for it.
-use Rattle.std.proofs.Common.{◌≡◌, ◌≢◌, ℕ, ◌+◌, ◌≤◌, Bool, true, false, List, [], ◌++◌, length, Option, Some, Result, Ok, Err, IfOk, OnOk, refl, sym, ◌∙◌, ap, subst, arith}
+use Rattle.std.proofs.Common.{◌≡◌, ◌≢◌, ℕ, ◌+◌, ◌≤◌, Bool, true, false, List, [], ◌++◌, length, Option, Some, Result, Ok, Err, IfOk, IfErr, OnOk, refl, sym, ◌∙◌, ap, subst, arith, append-nil}
 use Rattle.flash_traits.specs.Budget.{budget_of}
 use Rattle.flash_traits.specs.Causes.{Rose}
 use Rattle.flash_traits.specs.Losses.{Received, SentFrame, Outcome, After}
@@ -8,8 +8,11 @@ use Rattle.flash_traits.specs.declared.stream.Source as source
 use Rattle.flash_traits.specs.declared.stream.Sink as sink
 use Rattle.sector_image.specs.Stands.{Stands}
 use Rattle.flash_traits.specs.Words.{Words}
+use Rattle.guard_row.specs.Row.{IsGuardRow}
+use Rattle.vehicle_node.specs.Guard.{MayWear, RisesWithin}
+use Rattle.vehicle_node.specs.Refusals as refusals
 use Rattle.vehicle_node.specs.Safe.{Safe, SafeSince}
-use Rattle.vehicle_node.specs.Standing.{Node, Fits, StandsForRun}
+use Rattle.vehicle_node.specs.Standing.{Node, Fits, StandsForRun, StaysWithin}
 use Rattle.vehicle_node.specs.declared.NodeError.{NodeError}
 use Rattle.script_lines.specs.Script.{ScriptLine}
 use Rattle.script_board.specs.Boards.{words_in, unread_in}
@@ -20,14 +23,15 @@ use Rattle.script_replay.specs.Calls.{Takes, WaitsBy, events_heard, too_many}
 use Rattle.script_replay.specs.Held.{HasLists, StandsFor, HasLeft}
 use Rattle.script_replay.specs.Steps.Answers.{ended}
 use Rattle.script_replay.specs.Steps.Places.{Returns, Added, TellsWritten, words_at}
-use Rattle.replay.specs.Playing.{OpenEnds, CloseEnds}
+use Rattle.replay.specs.Guard.{Rises}
+use Rattle.replay.specs.Playing.{Opens, OpenEnds, CloseEnds}
 use Rattle.replay.specs.declared.Break.{Break}
 use Rattle.replay.specs.declared.Break.TheVariants.{Stopped}
 use Rattle.replay.specs.declared.Stop.TheVariants as stops
 use Rattle.script_replay.specs.declared.held.Held.{Held}
 use Rattle.script_replay.specs.declared.start.Start as start
-use Rattle.script_replay.proofs.Boards.{within, left_now, outcome, safe_of}
-use Rattle.script_replay.proofs.Ended.{no_output, open_ends, close_ends}
+use Rattle.script_replay.proofs.Boards.{within, left_now, outcome, safe_of, rises_of}
+use Rattle.script_replay.proofs.Ended.{Wears, no_output, on_ok, on_worn, open_ends, close_ends}
 use Rattle.script_replay.proofs.Heard.{quiet}
 
 room_for : (room : Bool) → 1 ≤ too_many room
@@ -36,10 +40,11 @@ room_for false = omega arith
 
 -- a node that is opened fits its board and stands for the run's start
 pub opened : {B : Type 0} (g : board.Ghosts B) (b : B) (before : Words) (size : ℕ) (a : Result Node NodeError) → g.sector_bytes b ≡ size
-    → IfOk a (λ node. Unit {0} → (bytes : List ℕ) → Stands before bytes → StandsForRun node bytes [] [] 0) → IfOk a (λ node. Fits g b node)
-    → IfOk a (λ node. ((bytes : List ℕ) → Stands before bytes → StandsForRun node bytes [] [] 0) × (node.budget ≡ budget_of size))
-opened g b before size (Ok node) is stands fits = (stands tt, fits.budget ∙ ap budget_of is)
-opened g b before size (Err e) is stands fits = tt
+    → IfOk a (λ node. Unit {0} → (bytes : List ℕ) → Stands before bytes → StandsForRun node bytes [] [] 0)
+    → IfOk a (λ node. Unit {0} → (count : ℕ) (bytes : List ℕ) → IsGuardRow before.guard count → Stands before bytes → StaysWithin count node bytes [] [] 0)
+    → IfOk a (λ node. Fits g b node) → IfOk a (Opens (budget_of size) before)
+opened g b before size (Ok node) is stands within fits = record { stands = stands tt; within = within tt; same_budget = fits.budget ∙ ap budget_of is }
+opened g b before size (Err e) is stands within fits = tt
 
 pub closed : (P : Type 0) (a : Result (Unit {0}) NodeError) → OnOk a (Unit {0} → P) → IfOk a (λ t. P)
 closed P (Ok t) is = is tt
@@ -68,6 +73,15 @@ module _ {S K N : Type 0} {g : source.Ghosts S} {h : sink.Ghosts K} (n : start.G
       let o = outcome n held.board held.heard held.buffer f in
       safe_of was anew budget b run sent m o (here o (left_now n held.over held.board held.heard held.buffer e f in_room lists unfailed told))
 
+  -- and its guard count is at most what that run may have raised it to
+  pub rises_now : (was : Outcome → Type 0) → ((o : Outcome) → was o → (o.events ≡ []) × (o.frames ≡ [])) → (budget count : ℕ) (b : List ℕ) (run : List Received)
+      (e : List Received) (f : List SentFrame) → held.over ≡ false → HasLists n held.board held.heard held.buffer e f → held.board.mark ≢ Some Output → h.tells_written held.board.out.now
+      → ((o : Outcome) → HasLeft n held.over held.board held.heard held.buffer o → After was (RisesWithin budget count b run) o)
+      → Rises budget count b (run ++ events_heard held.heard held.buffer) (words_in held.board)
+  rises_now was anew budget count b run e f in_room lists unfailed told here =
+      let o = outcome n held.board held.heard held.buffer f in
+      rises_of was anew budget count b run o (here o (left_now n held.over held.board held.heard held.buffer e f in_room lists unfailed told))
+
   module _ (stands : StandsFor n held.room held.over held.board held.heard held.buffer [] []) where
     pub quiet_within : (held.over ≡ false) × HasLists n held.board held.heard held.buffer [] []
     quiet_within = within n held.over held.room held.board held.heard held.buffer [] [] stands (room_for held.room)
@@ -92,29 +106,43 @@ module _ {S K N : Type 0} {g : source.Ghosts S} {h : sink.Ghosts K} (n : start.G
     quiet_safe was anew budget b run sent m in_room unfailed told here =
         subst (λ (l : List Received). Safe budget b (run ++ l) (sent ++ []) m (words_in held.board)) (sym lists.events_are) (safe_now was anew budget b run sent m [] [] in_room lists unfailed told here)
 
-    module _ (b0 : ScriptBoard S K g h) (p q : Option (ScriptBoard S K g h)) (is_p : Some b0 ≡ p) (is_q : q ≡ Some held.board) (in_room : held.over ≡ false)
-        (was : Outcome → Type 0) (none : (o : Outcome) → was o → (o.events ≡ []) × (o.frames ≡ [])) where
+    pub quiet_rises : (was : Outcome → Type 0) → ((o : Outcome) → was o → (o.events ≡ []) × (o.frames ≡ [])) → (budget count : ℕ) (b : List ℕ) (run : List Received)
+        → held.over ≡ false → held.board.mark ≢ Some Output → h.tells_written held.board.out.now
+        → ((o : Outcome) → HasLeft n held.over held.board held.heard held.buffer o → After was (RisesWithin budget count b run) o)
+        → Rises budget count b (run ++ []) (words_in held.board)
+    quiet_rises was anew budget count b run in_room unfailed told here =
+        subst (λ (l : List Received). Rises budget count b (run ++ l) (words_in held.board)) (sym lists.events_are) (rises_now was anew budget count b run [] [] in_room lists unfailed told here)
+
+    module _ (q : Option (ScriptBoard S K g h)) (is_q : q ≡ Some held.board) (in_room : held.over ≡ false)
+        (was : Outcome → Type 0) (none : (o : Outcome) → was o → (o.events ≡ []) × (o.frames ≡ [])) (budget : ℕ) where
       -- an opening
-      pub open_end : (r : Result Node Break) (a : Result Node NodeError) → r ≡ ended held.board.mark a → b0.geometry.sector_bytes ≡ n.sector_bytes
-          → IfOk a (λ node. ((b : List ℕ) → Stands (words_in b0) b → StandsForRun node b [] [] 0) × (node.budget ≡ budget_of n.sector_bytes))
-          → ((b : List ℕ) → Stands (words_in b0) b → (o : Outcome) → HasLeft n held.over held.board held.heard held.buffer o → After was (SafeSince (budget_of b0.geometry.sector_bytes) b [] [] 0) o)
-          → r ≢ Err (Stopped stops.Output) → TellsWritten q → OpenEnds (budget_of n.sector_bytes) r (words_at p) (words_at q)
-      open_end r a is size opens here other = subst (λ (x : Option (ScriptBoard S K g h)). TellsWritten x → OpenEnds (budget_of n.sector_bytes) r (words_at p) (words_at x)) (sym is_q) (λ told.
-          subst (λ (x : Result Node Break). OpenEnds (budget_of n.sector_bytes) x (words_at p) (words_in held.board)) (sym is)
-          (subst (λ (x : Option (ScriptBoard S K g h)). OpenEnds (budget_of n.sector_bytes) (ended held.board.mark a) (words_at x) (words_in held.board)) is_p
-          (open_ends (budget_of n.sector_bytes) (words_in b0) (words_in held.board) held.board.mark a opens
-          (λ b stood. subst (λ (k : ℕ). Safe (budget_of k) b [] [] 0 (words_in held.board)) size
-          (quiet_safe was none (budget_of b0.geometry.sector_bytes) b [] [] 0 in_room (no_output r held.board.mark a is other) told (here b stood))))))
+      pub open_end : (before : Words) (r : Result Node Break) (a : Result Node NodeError) → r ≡ ended held.board.mark a → IfOk a (Opens budget before)
+          → ((b : List ℕ) → Stands before b → (o : Outcome) → HasLeft n held.over held.board held.heard held.buffer o → After was (SafeSince budget b [] [] 0) o)
+          → ((count : ℕ) (b : List ℕ) → IsGuardRow before.guard count → Stands before b → (o : Outcome) → HasLeft n held.over held.board held.heard held.buffer o
+          → After was (RisesWithin budget count b []) o)
+          → IfErr a (λ e. refusals.OnWorn e (λ full. Unit {0} → (count : ℕ) (b : List ℕ) → IsGuardRow before.guard count → Stands before b → MayWear budget count b []))
+          → r ≢ Err (Stopped stops.Output) → TellsWritten q → OpenEnds budget r before (words_at q)
+      open_end before r a is opens here rises worn other = subst (λ (x : Option (ScriptBoard S K g h)). TellsWritten x → OpenEnds budget r before (words_at x)) (sym is_q) (λ told.
+          subst (λ (x : Result Node Break). OpenEnds budget x before (words_in held.board)) (sym is)
+          (open_ends budget before (words_in held.board) (ended held.board.mark a) (on_ok (Opens budget before) held.board.mark a opens)
+          (λ b stood. quiet_safe was none budget b [] [] 0 in_room (no_output r held.board.mark a is other) told (here b stood))
+          (λ count b row stood. quiet_rises was none budget count b [] in_room (no_output r held.board.mark a is other) told (rises count b row stood))
+          (on_worn (λ full. (count : ℕ) (b : List ℕ) → IsGuardRow before.guard count → Stands before b → MayWear budget count b []) _ (λ full wears. wears tt) held.board.mark a worn)))
 
       -- a close
-      pub close_end : (node : Node) (r : Result (Unit {0}) Break) (a : Result (Unit {0}) NodeError) → r ≡ ended held.board.mark a → (budget : ℕ) → node.budget ≡ budget
-          → IfOk a (λ t. CloseEnds {T = Unit {0}} {E = Break} budget (Ok tt) node (words_in held.board))
+      pub close_end : (node : Node) (r : Result (Unit {0}) Break) (a : Result (Unit {0}) NodeError) → r ≡ ended held.board.mark a
+          → IfOk a (λ t. CloseEnds {T = Unit {0}} budget (Ok tt) node (words_in held.board))
           → ((b : List ℕ) (run : List Received) (sent : List SentFrame) (m : ℕ) → StandsForRun node b run sent m → (o : Outcome) → HasLeft n held.over held.board held.heard held.buffer o
-          → After was (SafeSince node.budget b run sent m) o)
+          → After was (SafeSince budget b run sent m) o)
+          → ((count : ℕ) (b : List ℕ) (run : List Received) (sent : List SentFrame) (m : ℕ) → StaysWithin count node b run sent m → (o : Outcome)
+          → HasLeft n held.over held.board held.heard held.buffer o → After was (RisesWithin budget count b run) o)
+          → IfErr a (λ e. refusals.OnWorn e (λ full. Unit {0} → (count : ℕ) (b : List ℕ) (run : List Received) (sent : List SentFrame) (m : ℕ) → StaysWithin count node b run sent m
+          → MayWear budget count b run))
           → r ≢ Err (Stopped stops.Output) → TellsWritten q → CloseEnds budget r node (words_at q)
-      close_end node r a is budget size closes here other = subst (λ (x : Option (ScriptBoard S K g h)). TellsWritten x → CloseEnds budget r node (words_at x)) (sym is_q) (λ told.
+      close_end node r a is closes here rises worn other = subst (λ (x : Option (ScriptBoard S K g h)). TellsWritten x → CloseEnds budget r node (words_at x)) (sym is_q) (λ told.
           subst (λ (x : Result (Unit {0}) Break). CloseEnds budget x node (words_in held.board)) (sym is)
-          (close_ends budget node (words_in held.board) held.board.mark a closes
+          (close_ends budget node (words_in held.board) (ended held.board.mark a) (on_ok (λ t. CloseEnds {T = Unit {0}} budget (Ok tt) node (words_in held.board)) held.board.mark a closes)
           (λ b run sent m stood. subst (λ (k : ℕ). Safe budget b (run ++ []) (sent ++ []) k (words_in held.board)) (omega arith)
-          (subst (λ (k : ℕ). Safe k b (run ++ []) (sent ++ []) m (words_in held.board)) size
-          (quiet_safe was none node.budget b run sent m in_room (no_output r held.board.mark a is other) told (here b run sent m stood))))))
+          (quiet_safe was none budget b run sent m in_room (no_output r held.board.mark a is other) told (here b run sent m stood)))
+          (λ count b run sent m stays. quiet_rises was none budget count b run in_room (no_output r held.board.mark a is other) told (rises count b run sent m stays))
+          (on_worn (λ full. Wears budget node []) _ (λ full wears count b run sent m stays. subst (λ (l : List Received). MayWear budget count b l) (sym (append-nil run)) (wears tt count b run sent m stays)) held.board.mark a worn)))

@@ -1,16 +1,19 @@
 //! The calls of a node over a script's board, for a replay.
-ghost use Rattle.std.specs.Prelude.{◌≡◌, ◌≢◌, ◌⊎◌, ◌≤◌, ◌+◌, ◌++◌, [], true, false, None, Err, List, ℕ, length, IfOk, IfErr, OnOk, OnErr};
+ghost use Rattle.std.specs.Prelude.{◌≡◌, ◌≢◌, ◌⊎◌, ◌≤◌, ◌+◌, ◌++◌, [], true, false, None, Some, Err, List, ℕ, length, IfOk, IfErr, OnOk, OnErr};
 ghost use Rattle.flash_traits.specs.Causes.{Rose};
+ghost use Rattle.flash_traits.specs.Losses.{Outcome};
 ghost use Rattle.flash_traits.specs.declared.numbers.TheConstants.{GUARD_HALFWORDS};
 ghost use Rattle.flash_traits.specs.Budget.{budget_of};
 ghost use Rattle.sector_image.specs.FirstBad.{FirstBad};
 ghost use Rattle.vehicle_node.specs.Refusals.{OnFault};
+ghost use Rattle.vehicle_node.specs.Standing as standing;
 ghost use Rattle.script_lines.specs.Script as script;
 ghost use Rattle.script_board.specs.Printing.{loss_line};
 ghost use Rattle.replay.specs.Breaks.{OnStopped, OnRefused, OnForeign, OnWorn, OnInput, OnOutput};
 ghost use Rattle.replay.specs.Playing.{OpenEnds, CloseEnds, QuietUses};
 ghost use Rattle.replay.specs.declared.Break.TheVariants as breaks;
 ghost use Rattle.replay.specs.declared.Stop.TheVariants as stops;
+ghost use Rattle.script_replay.specs.Held.{StandsFor, HasLeft};
 ghost use Rattle.script_replay.specs.Steps.Answers.{ended};
 ghost use Rattle.script_replay.specs.Steps.Places.{Starts, Returns, Added, Printed, Plays, FitsAt, RefusesAt, TellsWritten, written_at, words_at, line_at, waiting_at, remaining_at, input_faults_at, output_faults_at};
 
@@ -58,6 +61,64 @@ fn empty_buffer() -> [u8; DATAGRAM_BYTES] {
     [0; DATAGRAM_BYTES]
 }
 
+/// Takes the board out of the place for one call of a node, which makes a reception at most where it
+/// has room for one. No failure of the call before is left.
+fn hold<'a, S: Source, K: Sink, N: Start>(
+    place: &mut Option<ScriptBoard<'a, S, K>>,
+    room: bool,
+) -> Held<'a, S, K, N>
+    requires starts { Starts N.Start place.old }
+    requires room { room ≡ N.room }
+    ensures unfailed { (result.failed ≡ 0) × (result.attaches ≡ 0) }
+    ensures lists { StandsFor N.Start result.room result.over result.board result.heard
+        result.buffer [] [] }
+    ensures anew { (o : Outcome)
+        → HasLeft N.Start result.over result.board result.heard result.buffer o
+        → (o.events ≡ []) × (o.frames ≡ []) }
+    ensures words { words_at (Some result.board) ≡ words_at place.old }
+    ensures fits { (node : standing.Node) → FitsAt ⟦<ScriptBoard<'a, S, K> as Board>⟧ place.old node
+        → FitsAt ⟦<ScriptBoard<'a, S, K> as Board>⟧ (Some result.board) node }
+{
+    let Some(mut board) = place.take() else {
+        unreachable!();
+    };
+    board.mark = None;
+    board.faults[3] = 0;
+    Held {
+        board,
+        room,
+        over: false,
+        heard: None,
+        buffer: empty_buffer(),
+        failed: 0,
+        attaches: 0,
+        names: PhantomData::<N>,
+    }
+}
+
+/// Puts the board back into the place, and tells the mark of the call.
+fn put_back<'a, S: Source, K: Sink, N: Start>(
+    held: Held<'a, S, K, N>,
+    place: &mut Option<ScriptBoard<'a, S, K>>,
+) -> Option<ScriptMark>
+    ensures back { place.new ≡ Some held.entry.board }
+    ensures mark { result ≡ held.entry.board.mark }
+{
+    let Held {
+        board,
+        room: _,
+        over: _,
+        heard: _,
+        buffer: _,
+        failed: _,
+        attaches: _,
+        names: _,
+    } = held;
+    let mark = board.mark;
+    let _ = place.replace(board);
+    mark
+}
+
 /// Opens a node over the board in the place.
 fn open_on<'a, S: Source, K: Sink, N: Start>(
     alloc: Global,
@@ -83,35 +144,9 @@ fn open_on<'a, S: Source, K: Sink, N: Start>(
     ensures output { IfErr result
         (OnStopped (OnOutput (Rose N.output_faults (output_faults_at place.new)))) }
 {
-    let Some(mut board) = place.take() else {
-        unreachable!();
-    };
-    board.mark = None;
-    board.faults[3] = 0;
-    let mut held = Held {
-        board,
-        room: false,
-        over: false,
-        heard: None,
-        buffer: empty_buffer(),
-        failed: 0,
-        attaches: 0,
-        names: PhantomData::<N>,
-    };
+    let mut held = hold::<S, K, N>(place, false);
     let answer = Node::open(alloc, &mut held);
-    let Held {
-        board,
-        room: _,
-        over: _,
-        heard: _,
-        buffer: _,
-        failed: _,
-        attaches: _,
-        names: _,
-    } = held;
-    let mark = board.mark;
-    let _ = place.replace(board);
-    ended(mark, answer)
+    ended(put_back(held, place), answer)
 }
 
 /// Plays one event over the board in the place.
@@ -133,36 +168,10 @@ fn event_on<'a, S: Source, K: Sink, N: Start>(
     ensures output { IfErr result
         (OnStopped (OnOutput (Rose N.output_faults (output_faults_at place.new)))) }
 {
-    let Some(mut board) = place.take() else {
-        unreachable!();
-    };
-    board.mark = None;
-    board.faults[3] = 0;
-    let mut held = Held {
-        board,
-        room: true,
-        over: false,
-        heard: None,
-        buffer: empty_buffer(),
-        failed: 0,
-        attaches: 0,
-        names: PhantomData::<N>,
-    };
+    let mut held = hold::<S, K, N>(place, true);
     let mut buffer = empty_buffer();
     let answer = node.event(&mut held, &mut buffer);
-    let Held {
-        board,
-        room: _,
-        over: _,
-        heard: _,
-        buffer: _,
-        failed: _,
-        attaches: _,
-        names: _,
-    } = held;
-    let mark = board.mark;
-    let _ = place.replace(board);
-    ended(mark, answer)
+    ended(put_back(held, place), answer)
 }
 
 /// Closes a node over the board in the place.
@@ -188,35 +197,9 @@ fn close_on<'a, S: Source, K: Sink, N: Start>(
     ensures output { IfErr result
         (OnStopped (OnOutput (Rose N.output_faults (output_faults_at place.new)))) }
 {
-    let Some(mut board) = place.take() else {
-        unreachable!();
-    };
-    board.mark = None;
-    board.faults[3] = 0;
-    let mut held = Held {
-        board,
-        room: false,
-        over: false,
-        heard: None,
-        buffer: empty_buffer(),
-        failed: 0,
-        attaches: 0,
-        names: PhantomData::<N>,
-    };
+    let mut held = hold::<S, K, N>(place, false);
     let answer = node.close(&mut held);
-    let Held {
-        board,
-        room: _,
-        over: _,
-        heard: _,
-        buffer: _,
-        failed: _,
-        attaches: _,
-        names: _,
-    } = held;
-    let mark = board.mark;
-    let _ = place.replace(board);
-    ended(mark, answer)
+    ended(put_back(held, place), answer)
 }
 
 /// Prints `loss`.

@@ -2,7 +2,7 @@ use Rattle.std.proofs.Common.{[], ◌++◌, ◌+◌, ◌∙◌, refl, length, ar
 use Rattle.std.proofs.lemmas.Result.{err_from_is_err_and}
 use Rattle.script_board.specs.Taking.{events_of}
 use Rattle.replay.proofs.Steps.{adds_none, adds_then, goes_on_none, goes_on_then, breaks_then}
-use Rattle.replay.proofs.Uses.{no_cut-append, no_end-append, end-append, waits_then, breaks_off_then, end_uses, more_uses}
+use Rattle.replay.proofs.Uses.{no_cut-append, no_end-append, end-append, waits_then, few_none, few_then, breaks_off_then, end_uses, more_uses}
 use Rattle.replay.proofs.play.Goals as goal
 
 pub events-init : goal.events-init
@@ -10,7 +10,7 @@ events-init g c = record {
   holds = c.requires.holds;
   fits = c.requires.fits;
   told = λ told. told;
-  plays = λ told. ([], [], adds_none (g.P.Player.took c.args.player.now) (g.P.Player.printed c.args.player.now), goes_on_none c.args.node.now, refl, tt, tt, omega arith);
+  plays = λ told. ([], [], adds_none (g.P.Player.took c.args.player.now) (g.P.Player.printed c.args.player.now), goes_on_none c.args.node.now, refl, tt, tt, omega arith, few_none _);
   remaining = omega arith;
   input_counts = omega arith;
   output_counts = omega arith;
@@ -26,8 +26,9 @@ returns-in_err-event-clause-plays g c =
       i.1 ++ e.1,
       length (events_of i.0) + e.2,
       adds_then _ _ _ _ _ _ i.0 e.0 i.1 e.1 i.2 e.3,
-      breaks_then g.P.Player.arming _ _ i.0 e.0 i.1 e.1 e.2 _ i.3 e.4,
+      breaks_then g.P.Player.arming c.in_err-event.field-0.0 _ _ i.0 e.0 i.1 e.1 e.2 _ i.3 e.4,
       breaks_off_then i.0 e.0 e.2 _ _ _ i.5 i.6 i.7 c.in_err-event.field-0.0 e.5,
+      few_then i.0 e.0 _ _ i.7 i.8 e.6,
     ))
 
 pub returns-in-End-clause-plays : goal.returns-in-End-clause-plays
@@ -41,6 +42,7 @@ returns-in-End-clause-plays g c = λ told.
       adds_then _ _ _ _ _ _ i.0 e.0 i.1 e.1 i.2 e.3,
       (goes_on_then _ _ _ i.0 e.0 i.1 e.1 i.3 e.4.0, e.4.1 ∙ i.4),
       (no_cut-append i.0 e.0 i.5 uses.0, end-append i.0 e.0 i.6 uses.1, uses.2),
+      few_then i.0 e.0 _ _ i.7 i.8 e.6,
     )
 
 pub events-preserved : goal.events-preserved
@@ -60,6 +62,7 @@ events-preserved g c = record {
         no_cut-append i.0 e.0 i.5 uses.0,
         no_end-append i.0 e.0 i.6 uses.1,
         waits_then i.0 e.0 _ _ _ i.7 uses.2,
+        few_then i.0 e.0 _ _ i.7 i.8 e.6,
       );
   remaining = omega (arith, c.events.invariant.remaining, c.in_ok-event.ensures.remaining);
   input_counts = omega (arith, c.events.invariant.input_counts, c.in_ok-event.ensures.input_counts);

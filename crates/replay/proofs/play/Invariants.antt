@@ -1,8 +1,8 @@
 use Rattle.std.proofs.Common.{◌≡◌, ◌≤◌, ◌+◌, List}
 use Rattle.flash_traits.specs.Losses.{SentFrame}
-use Rattle.script_lines.specs.Script.{ScriptLine}
+use Rattle.script_lines.specs.Script.{ScriptLine, HasNoEnd}
 use Rattle.script_board.specs.Taking.{events_of}
-use Rattle.script_board.specs.Hearing.{loses, HasNoLossNow, HasNoEnd}
+use Rattle.script_board.specs.Hearing.{loses, FewWait, HasNoLossNow}
 use Rattle.replay.specs.Playing.{Adds, GoesOn}
 use Rattle.replay.proofs.play.Given as goal
 
@@ -15,7 +15,7 @@ invariant-events g l =
       told : p.told l.player → p.told l.fn.player;
       plays : p.told l.player → (lines : List ScriptLine) × (frames : List SentFrame) × Adds (p.took l.fn.player) (p.took l.player) (p.printed l.fn.player) (p.printed l.player) lines frames
           × GoesOn l.fn.node l.node (events_of lines) frames × (l.node.budget ≡ l.fn.node.budget)
-          × HasNoLossNow lines × HasNoEnd lines × (p.waiting l.player ≡ p.waiting l.fn.player + loses lines);
+          × HasNoLossNow lines × HasNoEnd lines × (p.waiting l.player ≡ p.waiting l.fn.player + loses lines) × FewWait (p.waiting l.fn.player) lines;
       remaining : p.remaining l.player ≤ p.remaining l.fn.player;
       input_counts : p.input_faults l.fn.player ≤ p.input_faults l.player;
       output_counts : p.output_faults l.fn.player ≤ p.output_faults l.player;

@@ -7,7 +7,7 @@ use Rattle.replay.specs.Breaks.{OnForeign}
 use Rattle.replay.specs.Histories.{Ended}
 use Rattle.replay.specs.declared.Break.TheVariants.{Lost, Stopped}
 use Rattle.replay.proofs.Causes.{stopped_by, foreign_map}
-use Rattle.replay.proofs.Steps.{next_none, next_then, next_quiet}
+use Rattle.replay.proofs.Steps.{next_none, next_then, next_quiet, breaks_from_by}
 use Rattle.replay.proofs.Uses.{breaks_by}
 use Rattle.replay.proofs.Histories.{printed_then, ended_none, ended_more, replayed, cut_short, stands_safe}
 use Rattle.replay.proofs.replay.Goals as goal
@@ -40,7 +40,7 @@ returns-in-Ok-clause-replayed g c = λ told b stands.
       i.1 ++ frame_lines r.1,
       next_then (p.took c.args.player.now) (p.took c.runs.player) (p.took c.run_once.new.player) i.0 r.0 i.2 r.3.lines_are,
       printed_then _ _ _ i.1 (frame_lines r.1) i.3 r.3.printed_are,
-      replayed p.arming _ _ _ i.0 i.1 _ 0 i.4 r.0 r.1 i.5.0 i.5.1 (r.4 i.5.0 i.5.1) r.5.0 r.5.1,
+      replayed p.arming _ _ _ i.0 i.1 _ 0 i.4 r.0 r.1 i.5.0 i.5.1 r.6 (r.4 i.5.0 i.5.1) r.5.0 r.5.1,
     )
 
 pub returns-in-Err-Stopped-clause-cut_short : goal.returns-in-Err-Stopped-clause-cut_short
@@ -52,7 +52,8 @@ returns-in-Err-Stopped-clause-cut_short g c = λ other told b stands.
       i.1 ++ frame_lines r.1,
       next_then (p.took c.args.player.now) (p.took c.runs.player) (p.took c.run_once.new.player) i.0 r.0 i.2 r.3.lines_are,
       printed_then _ _ _ i.1 (frame_lines r.1) i.3 r.3.printed_are,
-      cut_short p.arming _ _ _ i.0 i.1 _ _ i.4 r.0 r.1 i.5.0 i.5.1 c.in-Err-Stopped.stop r.2 (breaks_by _ (Stopped c.in-Err-Stopped.stop) r.0 r.2 _ _ c.in-Err-Stopped.field-0-is r.5) (r.4 i.5.0 i.5.1),
+      cut_short p.arming _ _ _ i.0 i.1 _ _ i.4 r.0 r.1 i.5.0 i.5.1 r.6 c.in-Err-Stopped.stop r.2 (breaks_by _ (Stopped c.in-Err-Stopped.stop) r.0 r.2 _ _ c.in-Err-Stopped.field-0-is r.5)
+          (breaks_from_by p.arming _ (Stopped c.in-Err-Stopped.stop) _ _ _ r.2 _ c.in-Err-Stopped.field-0-is r.4),
     )
 
 pub returns-in-Err-Stopped-clause-foreign : goal.returns-in-Err-Stopped-clause-foreign
@@ -80,15 +81,15 @@ runs-preserved g c =
           let i = before.ended (run.told told_then) b stands in
           let r = run.ends told_then in
           let uses = breaks_by _ Lost r.0 r.2 _ _ c.in-Err-Lost.field-0-is r.5 in
-          let safe = r.4 i.5.0 i.5.1 in (
+          let broke = breaks_from_by p.arming _ Lost _ _ _ r.2 _ c.in-Err-Lost.field-0-is r.4 in (
             i.0 ++ r.0,
             i.1 ++ (frame_lines r.1 ++ loss_line),
             next_quiet (p.took c.args.player.now) (p.took c.run_once.new.player) (p.took c.print_loss.new.self) (i.0 ++ r.0) (next_then (p.took c.args.player.now) (p.took c.runs.player) (p.took c.run_once.new.player) i.0 r.0 i.2 r.3.lines_are) (loss.took told),
             printed_then _ _ _ i.1 (frame_lines r.1 ++ loss_line) i.3 (printed_then _ _ _ (frame_lines r.1) loss_line r.3.printed_are (loss.printed told)),
             subst (λ (n : ℕ). Ended p.arming (p.words c.args.player.now) (i.0 ++ r.0) (i.1 ++ (frame_lines r.1 ++ loss_line)) n (p.words c.print_loss.new.self)) (sym loss.waiting)
                 (subst (Ended p.arming (p.words c.args.player.now) (i.0 ++ r.0) (i.1 ++ (frame_lines r.1 ++ loss_line)) (p.waiting c.run_once.new.player)) (sym loss.words)
-                (ended_more p.arming _ _ _ i.0 i.1 _ _ i.4 r.0 r.1 i.5.0 i.5.1 r.2 uses safe)),
-            stands_safe p.arming i.5.0 _ _ r.2 _ (p.words c.print_loss.new.self) safe loss.words,
+                (ended_more p.arming _ _ _ i.0 i.1 _ _ i.4 r.0 r.1 i.5.0 i.5.1 r.6 r.2 uses broke)),
+            stands_safe p.arming i.5.0 _ _ r.2 _ (p.words c.print_loss.new.self) (broke.safe i.5.0 i.5.1) loss.words,
           );
       input_counts = omega (arith, before.input_counts, run.input_counts, loss.input_counts);
       output_counts = omega (arith, before.output_counts, run.output_counts, loss.output_counts);

@@ -1,13 +1,15 @@
-use Rattle.std.proofs.Common.{◌≡◌, false, List, Some, Result, IfOk, IfErr, refl, sym, ◌∙◌, ap, subst}
+use Rattle.std.proofs.Common.{◌≡◌, ℕ, false, List, [], Option, Some, Result, IfOk, IfErr, sym, ◌∙◌, ap, subst}
 use Rattle.flash_traits.specs.Budget.{budget_of}
 use Rattle.flash_traits.specs.Causes.{Rose}
 use Rattle.replay.specs.Breaks.{OnStopped, OnRefused, OnInput}
 use Rattle.replay.specs.Playing.{GoesOn}
 use Rattle.replay.specs.declared.Break.{Break}
 use Rattle.script_replay.specs.Held.{HasLists}
-use Rattle.script_replay.specs.Steps.Places.{Starts, FitsAt, Plays, RefusesAt, Returns, input_faults_at}
-use Rattle.script_replay.proofs.Boards.{begins, anew, listed}
-use Rattle.script_replay.proofs.Played.{event_within, event_end, fits_budget}
+use Rattle.script_board.specs.declared.board.ScriptMark.{ScriptMark}
+use Rattle.script_replay.specs.Steps.Answers.{ended}
+use Rattle.script_replay.specs.Steps.Places.{Plays, RefusesAt, Returns, input_faults_at}
+use Rattle.script_replay.proofs.Boards.{listed}
+use Rattle.script_replay.proofs.Played.{event_within, event_end, goes_same, wears_heard}
 use Rattle.script_replay.proofs.Uses.{CameBy}
 use Rattle.flash_traits.specs.Losses.{Received, SentFrame}
 use Rattle.vehicle_node.specs.declared.Turn.{Turn}
@@ -17,9 +19,9 @@ use Rattle.script_replay.proofs.Returned.{returned}
 use Rattle.script_replay.proofs.player.event_on.Given as given
 use Rattle.script_replay.proofs.player.event_on.Goals as goal
 
--- the board as it was taken from the place
-starts : (g : given.Over) (c : goal.After-ended g) → Starts g.N.Start (Some c.in-Some.board)
-starts g c = subst (λ p. Starts g.N.Start p) (sym c.in-Some.ensures.value) c.requires.starts
+-- how the call ended, by the mark of the board that is back
+is_ended : (g : given.Over) (c : goal.After-ended g) → c.ended.result ≡ ended c.event-answer.new.board.board.mark c.event-answer.result
+is_ended g c = c.ended.ensures ∙ ap (λ (m : Option ScriptMark). ended m c.event-answer.result) c.put_back.ensures.mark
 
 pub record Heard (g : given.Over) (c : goal.After-ended g) : Type 0 where
   pub events : List Received
@@ -31,34 +33,39 @@ pub record Heard (g : given.Over) (c : goal.After-ended g) : Type 0 where
 
 heard : (g : given.Over) (c : goal.After-ended g) → Heard g c
 heard g c =
-    let s = starts g c in
     let l = listed _ c.args.node.now c.event-answer.new.self _ c.event-answer.new.board c.event-answer.result c.event-answer.ensures.finished c.event-answer.ensures.cut_lists
-    (begins g.N.Start _ _ refl s.line s.waiting s.unread s.rest s.written s.tells_rest s.tells_written) in
+    c.hold-held.ensures.lists in
     let w = event_within g.N.Start c.event-answer.new.board l.events l.frames c.requires.room l.few l.lists in
     record { events = l.events; frames = l.frames; came = l.came; goes = l.goes; in_room = w.0; lists = w.1 }
 
 pub returns-clause-back : goal.returns-clause-back
 returns-clause-back g c =
     let l = heard g c in
-    subst (λ p. Returns g.N.Start p) (sym c.replace.ensures.after) (returned g.N.Start c.event-answer.new.board l.events l.frames l.lists)
+    subst (λ p. Returns g.N.Start p) (sym c.put_back.ensures.back) (returned g.N.Start c.event-answer.new.board l.events l.frames l.lists)
 
 pub returns-clause-plays : goal.returns-clause-plays
 returns-clause-plays g c =
-    let s = starts g c in
     let l = heard g c in
+    let n = g.N.Start in
+    let old = c.args.node.now in
+    let new = c.event-answer.new.self in
     let held = c.event-answer.new.board in
-    let fits = subst (λ p. FitsAt _ p c.args.node.now) (sym c.in-Some.ensures.value) c.requires.fits in
-    subst (λ p. Plays g.N.Start (budget_of g.N.Start.sector_bytes) p c.args.node.now c.event-answer.new.self c.ended.result) (sym c.replace.ensures.after)
-    (event_end g.N.Start held l.events l.frames _ (anew g.N.Start _ _ _ s.written) (budget_of g.N.Start.sector_bytes) c.args.node.now c.event-answer.new.self c.ended.result c.event-answer.result
-    l.in_room l.lists c.requires.room c.ended.ensures l.came l.goes (fits_budget _ held c.event-answer.new.self g.N.Start.sector_bytes c.event-answer.result held.size c.event-answer.ensures.fits)
-    (fits.budget ∙ ap budget_of s.size) (λ b run sent m stood. (c.event-answer.ensures.losses b run sent m (λ t. stood)).here))
+    let node = c.event-answer.ensures in
+    let fits = c.hold-held.ensures.fits old c.requires.fits in
+    subst (λ p. Plays n (budget_of n.sector_bytes) p old new c.ended.result) (sym c.put_back.ensures.back)
+    (subst (λ (k : ℕ). Plays n k (Some held.board) old new c.ended.result) (fits.budget ∙ ap budget_of c.hold-held.result.size)
+    (event_end n held l.events l.frames _ c.hold-held.ensures.anew old.budget old new c.ended.result c.event-answer.result l.in_room l.lists c.requires.room (is_ended g c) l.came
+    (goes_same _ c.hold-held.result held old new l.events l.frames c.event-answer.result node.geometry fits.budget node.fits l.goes)
+    (λ b run sent m stood. (node.losses b run sent m (λ t. stood)).here)
+    (λ count b run sent m stays. (node.guard count b run sent m (λ t. stays)).here)
+    _ (λ full w. wears_heard n held c.requires.room old w.event (w.lists [] [] c.hold-held.ensures.lists) (w.lines tt)) node.worn_lines))
 
 pub returns-clause-refused : goal.returns-clause-refused
 returns-clause-refused g c =
     let l = heard g c in
     let b = c.event-answer.new.board.board in
-    subst (λ p. IfErr c.ended.result (OnStopped (OnRefused (RefusesAt p)))) (sym c.replace.ensures.after)
-    (subst (λ (x : Result Turn Break). IfErr x (OnStopped (OnRefused (RefusesAt (Some b))))) (sym c.ended.ensures)
+    subst (λ p. IfErr c.ended.result (OnStopped (OnRefused (RefusesAt p)))) (sym c.put_back.ensures.back)
+    (subst (λ (x : Result Turn Break). IfErr x (OnStopped (OnRefused (RefusesAt (Some b))))) (sym (is_ended g c))
     (on_refused (RefusesAt (Some b)) b.mark c.event-answer.result
     (λ line is. refused_so c.event-answer.new.board.buffer b.mark _ _ _ _ _ l.lists.lines c.event-answer.new.board.heard _ line l.lists.hears is)))
 
@@ -66,7 +73,7 @@ pub returns-clause-input : goal.returns-clause-input
 returns-clause-input g c =
     let l = heard g c in
     let b = c.event-answer.new.board.board in
-    subst (λ p. IfErr c.ended.result (OnStopped (OnInput (Rose g.N.Start.input_faults (input_faults_at p))))) (sym c.replace.ensures.after)
-    (subst (λ (x : Result Turn Break). IfErr x (OnStopped (OnInput (Rose g.N.Start.input_faults (input_faults_at (Some b)))))) (sym c.ended.ensures)
+    subst (λ p. IfErr c.ended.result (OnStopped (OnInput (Rose g.N.Start.input_faults (input_faults_at p))))) (sym c.put_back.ensures.back)
+    (subst (λ (x : Result Turn Break). IfErr x (OnStopped (OnInput (Rose g.N.Start.input_faults (input_faults_at (Some b)))))) (sym (is_ended g c))
     (on_input _ b.mark c.event-answer.result
     (λ is. input_so c.event-answer.new.board.buffer b.mark _ _ _ _ _ l.lists.lines c.event-answer.new.board.heard _ l.lists.hears is)))

@@ -15,6 +15,7 @@ use Rattle.script_board.proofs.board.ScriptBoard.take_event.Goals as goal
 pub lines-init : goal.lines-init
 lines-init g c = record {
   took = ([], 0, took_nothing g.S.Source _ _, omega arith, tt, omega arith, omega arith);
+  few = λ few. few;
   mark = refl;
   hears = omega arith;
   source = omega arith;
@@ -41,6 +42,7 @@ lines-preserved g c =
         omega (arith, i.5, c.in-Ok.ensures.counted, length-append i.0 (line ∷ [])),
         omega (arith, i.6, long, loses_more i.0 line),
       );
+      few = λ few. c.in-Ok.ensures.few (c.lines.invariant.few few);
       mark = c.in-Ok.ensures.unmarked ∙ c.lines.invariant.mark;
       hears = omega (arith, c.lines.invariant.hears, c.in-Ok.ensures.cause.later);
       source = omega (arith, c.lines.invariant.source, c.in-Ok.ensures.source);
@@ -66,6 +68,7 @@ returns-in-LossNow-clause-took g c =
       omega (arith, i.5, c.in-Ok.ensures.counted, c.lose_now.ensures.line, length-append i.0 (line ∷ [])),
       omega (arith, i.6, long, same, loses_more i.0 line),
       inl (i.0, ap (λ (l : ScriptLine). i.0 ++ l ∷ []) is, i.4, c.lose_now.ensures.mark ∙ ap (λ m. marked m Lost) mark),
+      λ few. let now = c.in-Ok.ensures.few (c.lines.invariant.few few) in omega (arith, now, i.6, long, loses_more i.0 line),
     )
 
 pub returns-in-LossNow-clause-cause : goal.returns-in-LossNow-clause-cause
@@ -88,6 +91,7 @@ returns-in-Idle-clause-took g c =
       omega (arith, i.5, c.in-Ok.ensures.counted, length-append i.0 (line ∷ [])),
       omega (arith, i.6, long, loses_more i.0 line),
       (i.0, line, refl, i.4, ap events_in is),
+      λ few. let now = c.in-Ok.ensures.few (c.lines.invariant.few few) in omega (arith, now, i.6, long, loses_more i.0 line),
     )
 
 pub returns-in-End-clause-took : goal.returns-in-End-clause-took
@@ -95,7 +99,8 @@ returns-in-End-clause-took g c =
     let i = c.lines.invariant.took in
     let t = c.in-Ok.ensures.took in
     let line = line_of c.in-Ok.line in
-    let is : line ≡ script.End = ap line_of c.in-End.is in (
+    let is : line ≡ script.End = ap line_of c.in-End.is in
+    let long = waits_more line c.lines.self.waiting.items c.next_line.new.self.waiting.items c.in-Ok.ensures.waits in (
       i.0 ++ line ∷ [],
       i.1 + t.0,
       took_then g.S.Source _ _ _ _ _ _ i.0 (line ∷ []) i.1 t.0 i.2 t.1,
@@ -103,6 +108,7 @@ returns-in-End-clause-took g c =
       omega (arith, i.5, c.in-Ok.ensures.counted, length-append i.0 (line ∷ [])),
       ap length c.clear.ensures,
       (i.0, line, refl, i.4, ap events_in is),
+      λ few. let now = c.in-Ok.ensures.few (c.lines.invariant.few few) in omega (arith, now, i.6, long, loses_more i.0 line),
     )
 
 pub returns-in-Datagram-clause-bounds : goal.returns-in-Datagram-clause-bounds
@@ -127,6 +133,7 @@ returns-in-Datagram-clause-took g c =
       omega (arith, i.5, c.in-Ok.ensures.counted, length-append i.0 (line ∷ [])),
       omega (arith, i.6, long, loses_more i.0 line),
       (i.0, line, refl, i.4, ap events_in is ∙ ap (λ (b : List ℕ). link.Datagram c.in-Datagram.station b ∷ []) (sym front)),
+      λ few. let now = c.in-Ok.ensures.few (c.lines.invariant.few few) in omega (arith, now, i.6, long, loses_more i.0 line),
     )
 
 pub returns-in-Err-clause-took : goal.returns-in-Err-clause-took
@@ -141,4 +148,5 @@ returns-in-Err-clause-took g c =
       omega (arith, i.5, c.in-Err.ensures.same_line, length-append i.0 (let none : List ScriptLine = [] in none)),
       omega (arith, i.6, same, loses_nothing i.0),
       unheard_then _ _ _ _ _ _ _ _ _ _ _ c.lines.invariant.mark c.lines.invariant.failures c.lines.invariant.source (AreLosses-append i.0 [] i.4 tt) c.in-Err.ensures.why,
+      λ few. let now = c.lines.invariant.few few in omega (arith, now, i.6, loses_nothing i.0),
     )

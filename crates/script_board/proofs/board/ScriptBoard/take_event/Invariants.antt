@@ -4,6 +4,7 @@ use Rattle.script_lines.specs.Script.{ScriptLine}
 use Rattle.script_lines.specs.declared.numbers.TheConstants.{SCRIPT_LINES}
 use Rattle.script_board.specs.Taking.{Took}
 use Rattle.script_board.specs.Hearing.{loses, AreLosses}
+use Rattle.script_board.specs.declared.waiting.TheConstants.{WAITING_LOSSES}
 use Rattle.script_board.specs.Boards.{unread_in, hears, OnlyScript}
 use Rattle.script_board.proofs.board.ScriptBoard.take_event.Given as goal
 
@@ -14,6 +15,7 @@ invariant-lines g l = record {
       × (l.self.taken ≡ raised_by count l.fn.self.taken)
       × AreLosses lines × (l.self.line ≡ l.fn.self.line + length lines)
       × (length l.self.waiting.items ≡ length l.fn.self.waiting.items + loses lines);
+  few : length l.fn.self.waiting.items ≤ WAITING_LOSSES → length l.self.waiting.items ≤ WAITING_LOSSES;
   mark : l.self.mark ≡ l.fn.self.mark;
   hears : hears g.S.Source l.fn.self ≤ hears g.S.Source l.self;
   source : g.S.Source.faults l.fn.self.input.now ≤ g.S.Source.faults l.self.input.now;
