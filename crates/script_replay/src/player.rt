@@ -61,8 +61,8 @@ fn empty_buffer() -> [u8; DATAGRAM_BYTES] {
     [0; DATAGRAM_BYTES]
 }
 
-/// Takes the board out of the place for one call of a node, which makes a reception at most where it
-/// has room for one. No failure of the call before is left.
+/// Takes the board out of the place for one call of a node, which makes one reception at most where
+/// it has room for one. No failure of the call before is left.
 fn hold<'a, S: Source, K: Sink, N: Start>(
     place: &mut Option<ScriptBoard<'a, S, K>>,
     room: bool,
