@@ -1,24 +1,23 @@
 -- There is one session of each number of rounds: each event is decided by its number.
-use Rattle.std.proofs.Common.{Bool, true, false, ◌≡◌, ◌≢◌, inl, inr, ℕ, zero, suc, ◌+◌, ◌-◌, ◌*◌, ◌%◌, ◌^◌, ◌<◌, ◌≤◌, ℤ, pos, List, [], ◌∷◌, ◌++◌, length, get_or, take, replicate, slice_get, Option, Some, None, MatchOption, refl, sym, ◌∙◌, ap, subst, arith, length-append, le-leb}
+use Rattle.std.proofs.Common.{Bool, true, false, ◌≡◌, ◌≢◌, inl, inr, ℕ, zero, suc, ◌+◌, ◌-◌, ◌*◌, ◌%◌, ◌^◌, ◌<◌, ◌≤◌, ℤ, pos, List, [], ◌∷◌, ◌++◌, length, get_or, take, replicate, slice_get, Option, Some, None, MatchOption, refl, sym, ◌∙◌, ap, subst, arith, le-leb}
 use Rattle.std.specs.Prelude.{neg_ℤ, ◌*ℤ◌}
 use Rattle.std.proofs.Math.Seq.{take-append_seam}
 use Rattle.std.proofs.lemmas.Bool.{cases_lt, cases_order}
 use Rattle.std.proofs.lemmas.Int.{ints}
 use Rattle.std.proofs.lemmas.List.{get_or_append_left, get_or-append_right}
-use Rattle.flash_traits.specs.Losses.{Received, Datagram, Idle, End}
-use Rattle.word_bits.specs.Pattern.{magnitude, scaled, signed, is_negative, IsWhole}
+use Rattle.flash_traits.specs.Losses.{Received, Datagram, End}
+use Rattle.word_bits.specs.Pattern.{magnitude, signed, is_negative, IsWhole}
 use Rattle.word_bits.proofs.Magnitude.{magnitude-lt}
 use Rattle.param_tree.specs.MavTypes.{mav_type_of}
 use Rattle.param_tree.specs.declared.Var.{Var}
-use Rattle.param_tree.specs.Rows.{vehicle_rows}
-use Rattle.mav_messages.specs.Fields.{Description, layout_of}
+use Rattle.mav_messages.specs.Fields.{layout_of}
 use Rattle.mav_messages.specs.Messages.{description_of, field_values}
 use Rattle.mav_messages.specs.Payload.{IsTrimmed, wire_bytes}
 use Rattle.mav_messages.specs.declared.messages.Message.{Message}
 use Rattle.mav_messages.specs.declared.messages.Message.TheVariants.{ParamSet, MissionItemInt}
 use Rattle.mav_frames.specs.Frames.{IsSent, framed, head_bytes}
 use Rattle.session_boards.specs.Laws.{OneSession}
-use Rattle.session_boards.specs.Session.{Sending, Sets, Counts, Gives, Flushes, Turn, Sends, Waits, IsBitsOf, Says, IsDatagramOf, IsEventOf, IsEventAt, session, sent_in, IsGenerated}
+use Rattle.session_boards.specs.Session.{Sending, Sets, Counts, Gives, Flushes, Turn, Sends, Waits, IsBitsOf, Says, IsDatagramOf, IsEventOf, IsEventAt, session, sent_in}
 use Rattle.session_boards.specs.declared.messages.TheConstants.{STATION_COMPONENT, STATION_SYSTEM}
 
 same_some : {X : Type 0} → (x y : X) → (let left : Option X = Some x in left ≡ Some y) → x ≡ y
