@@ -11,7 +11,7 @@ mod messages;
 mod session;
 
 pub use count_board::{CountBoard, Session};
-pub use laws::session_ends;
+pub use laws::{one_session, session_ends};
 pub use messages::{STATION_COMPONENT, STATION_SYSTEM};
 
 #[cfg(test)]

@@ -21,16 +21,19 @@ use Rattle.sector_image.specs.declared.kept.SurveyError.{SurveyError}
 use Rattle.sector_image.specs.declared.kept.SurveyError.TheVariants as survey_error
 use Rattle.sector_image.specs.Laws.{OneOfBoth}
 use Rattle.sector_image.specs.Stands.{Stands}
-use Rattle.session_boards.specs.Laws.{SessionEnds}
+use Rattle.session_boards.specs.Laws.{OneSession, SessionEnds}
 use Rattle.session_boards.specs.declared.device.TheConstants.{SECTOR_BYTES}
 use Rattle.session_boards.specs.Session.{AreFirst, EndsOnce}
+use Rattle.vehicle_core.specs.Acts.{Act}
 use Rattle.vehicle_node.specs.Frames.{IsFrameOf}
+use Rattle.vehicle_node.specs.Laws.{EventsAreReadOnce}
+use Rattle.vehicle_node.specs.Reading.{Reads, no_rests}
 use Rattle.vehicle_node.specs.Runs.{run_of}
 use Rattle.storage_cli.specs.declared.stop.Served.{Served}
 use Rattle.storage_cli.specs.declared.stop.Stop.{Stop}
 use Rattle.storage_cli.specs.declared.stop.Stop.TheVariants as stop
 use Rattle.storage_cli.specs.declared.stop.Summary.{Summary}
-use Rattle.storage_cli.specs.Sessions.{fresh_bytes, fresh_run, digest_after, line_of_session, WearsOut}
+use Rattle.storage_cli.specs.Sessions.{Session, fresh_bytes, fresh_run, digest_after, line_of_session, WearsOut}
 use Rattle.storage_cli.specs.Texts.{session_line}
 use Rattle.storage_cli.specs.Steps.Sessions.{IsSessionStop, IsSummary}
 use Rattle.storage_cli.specs.Steps.Guard.{WearsFrom}
@@ -102,6 +105,15 @@ summary_line rounds summary is =
     ∙ ap (λ (n : ℕ). session_line rounds (length is.session.events - 1) n summary.lines summary.digest) is.frames_are
     ∙ ap (λ (n : ℕ). session_line rounds (length is.session.events - 1) (counts (length run.answers)) n summary.digest) is.lines_are
     ∙ ap (λ (d : List ℕ). session_line rounds (length is.session.events - 1) (counts (length run.answers)) (counts (length run.issued)) d) is.digest_is
+
+-- sessions of as many rounds have one line
+pub one_line : OneSession → EventsAreReadOnce → (rounds : ℕ) (s t : Session rounds) → line_of_session s ≡ line_of_session t
+one_line one read rounds s t =
+    let events : s.events ≡ t.events = one rounds s.events t.events s.generated t.generated in
+    let reads = subst (λ (es : List Received). Reads no_rests es s.acts s.rests) events s.reads in
+    let acts : s.acts ≡ t.acts = (read t.events s.acts t.acts s.rests t.rests reads t.reads).0 in
+    ap (λ (es : List Received). session_line rounds (length es - 1) (counts (length (fresh_run s.acts).answers)) (counts (length (fresh_run s.acts).issued)) (digest_after (fresh_run s.acts))) events
+    ∙ ap (λ (each : List (List Act)). session_line rounds (length t.events - 1) (counts (length (fresh_run each).answers)) (counts (length (fresh_run each).issued)) (digest_after (fresh_run each))) acts
 
 -- where its guard row is used up, lines enough were issued
 pub wears_out : {B : Type 0} (g : Ghosts B) (rounds n : ℕ) (before : Words) (board : B) (why : Stop) → (let r : Result Served Stop = Err why in IsAttached r → IsSectorSize n) → (let r : Result Served Stop = Err why in IsAttached r → HasShape n before)

@@ -58,6 +58,8 @@ line_of_session {rounds} s =
     session_line rounds (length s.events - 1) (counts (length (fresh_run s.acts).answers))
     (counts (length (fresh_run s.acts).issued)) (digest_after (fresh_run s.acts))
 
--- there is one session of so many rounds, whose line was printed
-abbrev pub PrintsSession : ℕ → (List ℕ → Type 0) → Type 0
-PrintsSession rounds printed = (s : Session rounds) × printed (line_of_session s)
+-- There is a session of so many rounds, and whichever one is taken, its line was printed: their
+-- number alone decides the line.
+pub record PrintsSession (rounds : ℕ) (Printed : List ℕ → Type 0) : Type 0 where
+  pub session : Session rounds
+  pub printed : (s : Session rounds) → Printed (line_of_session s)

@@ -36,7 +36,9 @@ use crate::stop::Stop;
 use crate::texts::{digest_line, line_of_stop, served_line, session_line};
 use command_line::{Command, command_of};
 use flash_traits::{Board, Sink, Source};
+use session_boards::one_session;
 use std::alloc::{AllocError, Global};
+use vehicle_node::events_are_read_once;
 
 /// Prints a line, and gives the status, or that of the output where it failed.
 fn print<K: Sink>(out: &mut K, line: &[u8], status: u8) -> Status
@@ -257,6 +259,8 @@ fn run_gen<K: Sink>(alloc: Global, out: &mut K, rounds: u16) -> Status
     ensures generated { result.0 ≡ DONE → PrintsSession rounds (Prints K.Sink out.old out.new) }
     ensures worn { result.0 ≡ WORN → WearsOut rounds }
 {
+    one_session();
+    events_are_read_once();
     match generate(alloc, rounds) {
         Ok(summary) => {
             let line = session_line(summary);
@@ -438,8 +442,8 @@ pub fn run<'a, B: Board, S: Source, K: Sink>(
     ensures only_reads { OnReading (texts words.entry.now) ⊤
         (B.moment board.new ≡ B.moment board.old) }
 
-    // What a gen prints: the summary of its session, run from a fresh image on. There is one such
-    // session.
+    // What a gen prints: the summary of its session, run from a fresh image on. There is a session
+    // of so many rounds, and whichever one is taken has this line: their number alone decides it.
     ensures generated { OnGen (texts words.entry.now) (result.0 ≡ DONE) (λ rounds.
         PrintsSession rounds (Prints K.Sink out.old out.new)) }
 

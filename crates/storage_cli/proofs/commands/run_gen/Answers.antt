@@ -3,7 +3,7 @@ use Rattle.storage_cli.specs.Texts.{Line}
 use Rattle.storage_cli.specs.Texts as texts
 use Rattle.storage_cli.proofs.Outcomes.{gen_done, gen_others, gen_stopped, not_done, prints_none, prints_stopped, worn_told}
 use Rattle.storage_cli.proofs.TextEndings.{never_0}
-use Rattle.storage_cli.proofs.Sessions.{summary_line}
+use Rattle.storage_cli.proofs.Sessions.{one_line, summary_line}
 use Rattle.storage_cli.proofs.commands.run_gen.Goals as goal
 
 pub returns-in-Ok-clause-known : goal.returns-in-Ok-clause-known
@@ -28,11 +28,13 @@ returns-in-Ok-clause-cut_short g c = λ failed told.
 
 pub returns-in-Ok-clause-generated : goal.returns-in-Ok-clause-generated
 returns-in-Ok-clause-generated g c = λ done.
-    let is = c.in-Ok.ensures.summary in (
-      is.session,
-      λ told. c.print.ensures.line (λ z. omega (arith, z, done)) told
-          ∙ ap (λ (l : List ℕ). g.K.Sink.written c.args.out.now ++ l) (c.as_slice.ensures.value ∙ c.session_line-line.ensures ∙ summary_line c.args.rounds c.in-Ok.summary is),
-    )
+    let is = c.in-Ok.ensures.summary in
+    record {
+      session = is.session;
+      printed = λ s told. c.print.ensures.line (λ z. omega (arith, z, done)) told
+          ∙ ap (λ (l : List ℕ). g.K.Sink.written c.args.out.now ++ l) (c.as_slice.ensures.value ∙ c.session_line-line.ensures ∙ summary_line c.args.rounds c.in-Ok.summary is
+          ∙ one_line c.one_session.ensures c.events_are_read_once.ensures c.args.rounds is.session s);
+    }
 
 pub returns-in-Err-clause-known : goal.returns-in-Err-clause-known
 returns-in-Err-clause-known g c = gen_stopped c.print_stop.result.0 c.in-Err.stop c.in-Err.ensures.stops c.print_stop.ensures.status
