@@ -16,7 +16,11 @@ last_moment = record {
 }
 
 -- the words of an image have the lengths of its sector size
-pub shape_of : (sector_bytes : ℕ) (image : List ℕ) → HasShape sector_bytes (words_of sector_bytes image)
-shape_of sector_bytes image S0 = length-halfwords_from image (start_of sector_bytes S0) (region_length sector_bytes S0)
-shape_of sector_bytes image S1 = length-halfwords_from image (start_of sector_bytes S1) (region_length sector_bytes S1)
-shape_of sector_bytes image Guard = length-halfwords_from image (start_of sector_bytes Guard) (region_length sector_bytes Guard)
+pub shape_of : (sector_bytes : ℕ) (image : List ℕ)
+    → HasShape sector_bytes (words_of sector_bytes image)
+shape_of sector_bytes image S0 =
+    length-halfwords_from image (start_of sector_bytes S0) (region_length sector_bytes S0)
+shape_of sector_bytes image S1 =
+    length-halfwords_from image (start_of sector_bytes S1) (region_length sector_bytes S1)
+shape_of sector_bytes image Guard =
+    length-halfwords_from image (start_of sector_bytes Guard) (region_length sector_bytes Guard)
