@@ -140,8 +140,8 @@ pub record Replayed (budget : ℕ) (before : Words) (lines : List ScriptLine) (t
 -- A replay that was cut short: what is left of the last run is safe too. Where the next line was
 -- refused or the source failed, all of its events are finished; where a line was refused, each line
 -- `l` before it ended a run or waits. No more than sixteen losses ever waited. Where the guard row
--- was used up, the openings of all runs and the lines that they issued are enough to raise the guard
--- count of the first words to its end.
+-- was used up, the openings of all runs and the lines that they issued are enough to raise the
+-- guard count of the first words to its end.
 pub record CutShort (budget : ℕ) (before : Words) (lines : List ScriptLine) (text : List ℕ)
     (stop : Stop) (waiting : ℕ) (now : Words) : Type 0 where
   pub runs : List Ran

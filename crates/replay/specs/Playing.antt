@@ -1,5 +1,6 @@
 -- What one call of a node does over a board that runs a script.
-use Rattle.std.specs.Prelude.{◌≡◌, ◌⊎◌, ℕ, ◌+◌, true, false, length, List, [], ◌++◌, Result, Ok, Err}
+use Rattle.std.specs.Prelude.{◌≡◌, ◌⊎◌, ℕ, ◌+◌, true, false, length, List, [], ◌++◌, Result, Ok}
+use Rattle.std.specs.Prelude.{Err}
 use Rattle.flash_traits.specs.Words.{Words}
 use Rattle.flash_traits.specs.Losses.{Received, SentFrame}
 use Rattle.guard_row.specs.Row.{IsGuardRow}

@@ -4,7 +4,8 @@
 //! prefix of its lines that has every flushed one.
 #![tactic(auto)]
 
-ghost use Rattle.std.specs.Prelude.{◌≡◌, ◌≢◌, ◌≤◌, ◌+◌, ◌++◌, [], List, ℕ, IfOk, IfErr, OnOk, OnErr};
+ghost use Rattle.std.specs.Prelude.{◌≡◌, ◌≢◌, ◌≤◌, ◌+◌, ◌++◌, [], List, ℕ, IfOk, IfErr, OnOk};
+ghost use Rattle.std.specs.Prelude.{OnErr};
 ghost use Rattle.flash_traits.specs.Words.{Words};
 ghost use Rattle.flash_traits.specs.Losses.{SentFrame};
 ghost use Rattle.flash_traits.specs.Causes.{Rose};
@@ -16,9 +17,11 @@ ghost use Rattle.script_lines.specs.Script.{ScriptLine};
 ghost use Rattle.script_board.specs.Taking.{events_of};
 ghost use Rattle.script_board.specs.Printing.{loss_line};
 ghost use Rattle.script_board.specs.Hearing.{FewWait};
-ghost use Rattle.replay.specs.Breaks.{OnLost, OnStopped, OnRefused, OnForeign, OnWorn, OnInput, OnOutput};
+ghost use Rattle.replay.specs.Breaks.{OnLost, OnStopped, OnRefused, OnForeign, OnWorn, OnInput};
+ghost use Rattle.replay.specs.Breaks.{OnOutput};
 ghost use Rattle.replay.specs.Histories.{AreNext, Replayed, CutShort};
-ghost use Rattle.replay.specs.Playing.{Adds, OpenEnds, EventEnds, CloseEnds, RunEnds, TurnUses, PlayUses, QuietUses};
+ghost use Rattle.replay.specs.Playing.{Adds, OpenEnds, EventEnds, CloseEnds, RunEnds, TurnUses};
+ghost use Rattle.replay.specs.Playing.{PlayUses, QuietUses};
 
 mod laws;
 

@@ -3,7 +3,8 @@ use Rattle.std.specs.Prelude.{◌≡◌, ◌⊎◌, ℕ, ◌+◌, ◌<◌, List,
 use Rattle.flash_traits.specs.declared.stream.Source.{Ghosts}
 use Rattle.flash_traits.specs.Losses as link
 use Rattle.flash_traits.specs.Losses.{Received}
-use Rattle.script_lines.specs.Script.{ScriptLine, Datagram, Idle, LossNow, LossLater, End, Spells, AreLines, line_feed}
+use Rattle.script_lines.specs.Script.{ScriptLine, Datagram, Idle, LossNow, LossLater, End, Spells}
+use Rattle.script_lines.specs.Script.{AreLines, line_feed}
 use Rattle.script_lines.specs.Reading.{HasNoLineFeed}
 use Rattle.script_lines.specs.declared.numbers.TheConstants.{SCRIPT_LINE_BYTES}
 

@@ -72,9 +72,11 @@ pub struct ScriptBoard<'a, S: Source, K: Sink> {
 }
 
 impl<'a, S: Source, K: Sink> ScriptBoard<'a, S, K> {
-    ghost use Rattle.std.specs.Prelude.{◌≡◌, ◌<◌, ◌⊎◌, ◌↔◌, ◌^◌, ℕ, true, false, Some, drop, slice_index, OnOk, OnErr, IsOk, IsErr};
+    ghost use Rattle.std.specs.Prelude.{◌≡◌, ◌<◌, ◌⊎◌, ◌↔◌, ◌^◌, ℕ, true, false, Some, drop};
+    ghost use Rattle.std.specs.Prelude.{slice_index, OnOk, OnErr, IsOk, IsErr};
     ghost use Rattle.flash_traits.specs.declared.board.Region.{Region};
-    ghost use Rattle.flash_traits.specs.Words.{region_length, halfwords_in, programmed, erased, IsSectorRegion};
+    ghost use Rattle.flash_traits.specs.Words.{region_length, halfwords_in, programmed, erased};
+    ghost use Rattle.flash_traits.specs.Words.{IsSectorRegion};
     ghost use Rattle.script_board.specs.Image.{words_of, half_erased};
     ghost use Rattle.script_board.specs.Waiting.{falls_now, counted, first_leaves};
     ghost use Rattle.script_board.specs.Boards.{words_in, OnlyDevice, after_loss, erased_by};

@@ -1,8 +1,10 @@
 //! The words of an image, as the bytes of its file have them: sector 0, sector 1, the guard row,
 //! each halfword with its low byte first.
-ghost use Rattle.std.specs.Prelude.{◌≡◌, ◌≢◌, ◌⊎◌, ◌≤◌, ◌<◌, ◌+◌, ◌*◌, ◌/◌, ◌%◌, ◌^◌, ℕ, length, slice_index, bit_and};
+ghost use Rattle.std.specs.Prelude.{◌≡◌, ◌≢◌, ◌⊎◌, ◌≤◌, ◌<◌, ◌+◌, ◌*◌, ◌/◌, ◌%◌, ◌^◌, ℕ, length};
+ghost use Rattle.std.specs.Prelude.{slice_index, bit_and};
 ghost use Rattle.flash_traits.specs.declared.board.Region.{Region};
-ghost use Rattle.flash_traits.specs.Words.{region_length, IsSectorSize, IsSectorRegion, HasShape, programmed, erased, halfwords_in, blank};
+ghost use Rattle.flash_traits.specs.Words.{region_length, IsSectorSize, IsSectorRegion, HasShape};
+ghost use Rattle.flash_traits.specs.Words.{programmed, erased, halfwords_in, blank};
 ghost use Rattle.script_board.specs.Image.{start_of, halfword_at, words_of, half_erased};
 
 use flash_traits::{ERASED, GUARD_HALFWORDS, Region};

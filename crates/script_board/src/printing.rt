@@ -43,7 +43,8 @@ pub(crate) fn frame_line(peer: u8, bytes: &[u8]) -> ArrayVec<u8, FRAME_LINE_BYTE
 }
 
 impl<'a, S: Source, K: Sink> ScriptBoard<'a, S, K> {
-    ghost use Rattle.std.specs.Prelude.{◌≡◌, ◌≤◌, ◌+◌, ◌-◌, ◌^◌, ◌++◌, min, ℕ, length, take, Some, OnOk, OnErr, MatchResult};
+    ghost use Rattle.std.specs.Prelude.{◌≡◌, ◌≤◌, ◌+◌, ◌-◌, ◌^◌, ◌++◌, min, ℕ, length, take, Some};
+    ghost use Rattle.std.specs.Prelude.{OnOk, OnErr, MatchResult};
     ghost use Rattle.flash_traits.specs.Causes.{HasOneCause};
     ghost use Rattle.flash_traits.specs.Losses.{sent_frame};
     ghost use Rattle.script_board.specs.Printing.{frame_line, loss_line};

@@ -22,7 +22,9 @@ fn unheard(mark: Option<ScriptMark>, failures: u64) -> Option<ScriptMark>
 }
 
 impl<'a, S: Source, K: Sink> ScriptBoard<'a, S, K> {
-    ghost use Rattle.std.specs.Prelude.{◌≡◌, ◌⊎◌, ◌<◌, ◌≤◌, ◌+◌, ◌-◌, ◌^◌, [], min, List, ℕ, length, slice_set, slice_index, Some, Ok, IsSome, OnOk, OnErr, IfOk, MatchResult};
+    ghost use Rattle.std.specs.Prelude.{◌≡◌, ◌⊎◌, ◌<◌, ◌≤◌, ◌+◌, ◌-◌, ◌^◌, [], min, List, ℕ};
+    ghost use Rattle.std.specs.Prelude.{length, slice_set, slice_index, Some, Ok, IsSome, OnOk};
+    ghost use Rattle.std.specs.Prelude.{OnErr, IfOk, MatchResult};
     ghost use Rattle.flash_traits.specs.Counts.{raised_by};
     ghost use Rattle.flash_traits.specs.Causes.{HasOneCause, Rose};
     ghost use Rattle.flash_traits.specs.declared.numbers.TheConstants.{DATAGRAM_BYTES};
@@ -31,9 +33,11 @@ impl<'a, S: Source, K: Sink> ScriptBoard<'a, S, K> {
     ghost use Rattle.script_lines.specs.Seen.{line_of};
     ghost use Rattle.script_board.specs.Marks.{marked};
     ghost use Rattle.script_board.specs.Taking.{Took};
-    ghost use Rattle.script_board.specs.Hearing.{lines_of, waiting_after, waiting_behind, FewWait, IsRefused, IsHeard, IsUnheard};
+    ghost use Rattle.script_board.specs.Hearing.{lines_of, waiting_after, waiting_behind, FewWait};
+    ghost use Rattle.script_board.specs.Hearing.{IsRefused, IsHeard, IsUnheard};
     ghost use Rattle.script_board.specs.Boards.{unread_in, hears, OnlyScript};
-    ghost use Rattle.script_board.specs.declared.board.ScriptMark.TheVariants.{Lost, Refused, Input, Output};
+    ghost use Rattle.script_board.specs.declared.board.ScriptMark.TheVariants.{Lost, Refused};
+    ghost use Rattle.script_board.specs.declared.board.ScriptMark.TheVariants.{Input, Output};
 
     /// Refuses the next line.
     fn refuse(&mut self) -> Failed

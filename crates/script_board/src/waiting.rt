@@ -1,5 +1,6 @@
 //! The losses of power that wait for their call.
-ghost use Rattle.std.specs.Prelude.{◌≡◌, ◌≢◌, ◌<◌, ◌++◌, [], ◌∷◌, true, false, length, drop, IfSome, IfNone};
+ghost use Rattle.std.specs.Prelude.{◌≡◌, ◌≢◌, ◌<◌, ◌++◌, [], ◌∷◌, true, false, length, drop};
+ghost use Rattle.std.specs.Prelude.{IfSome, IfNone};
 ghost use Rattle.script_board.specs.Waiting.{falls_now, counted, first_leaves};
 
 use arrayvec::ArrayVec;

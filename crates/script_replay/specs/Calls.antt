@@ -1,5 +1,6 @@
 -- What one call of a node does to a script and to its output.
-use Rattle.std.specs.Prelude.{◌≡◌, ◌⊎◌, ℕ, ◌+◌, ◌<◌, Bool, true, false, Option, Some, None, Ok, List, [], ◌∷◌, ◌++◌}
+use Rattle.std.specs.Prelude.{◌≡◌, ◌⊎◌, ℕ, ◌+◌, ◌<◌, Bool, true, false, Option, Some, None, Ok}
+use Rattle.std.specs.Prelude.{List, [], ◌∷◌, ◌++◌}
 use Rattle.flash_traits.specs.Losses.{Received, received, SentFrame}
 use Rattle.flash_traits.specs.declared.board.Event.{Event}
 use Rattle.script_lines.specs.Script.{ScriptLine}

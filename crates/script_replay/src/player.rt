@@ -1,5 +1,6 @@
 //! The calls of a node over a script's board, for a replay.
-ghost use Rattle.std.specs.Prelude.{◌≡◌, ◌≢◌, ◌⊎◌, ◌≤◌, ◌+◌, ◌++◌, [], true, false, None, Some, Err, List, ℕ, length, IfOk, IfErr, OnOk, OnErr};
+ghost use Rattle.std.specs.Prelude.{◌≡◌, ◌≢◌, ◌⊎◌, ◌≤◌, ◌+◌, ◌++◌, [], true, false, None, Some};
+ghost use Rattle.std.specs.Prelude.{Err, List, ℕ, length, IfOk, IfErr, OnOk, OnErr};
 ghost use Rattle.flash_traits.specs.Causes.{Rose};
 ghost use Rattle.flash_traits.specs.Losses.{Outcome};
 ghost use Rattle.flash_traits.specs.declared.numbers.TheConstants.{GUARD_HALFWORDS};
@@ -15,7 +16,10 @@ ghost use Rattle.replay.specs.declared.Break.TheVariants as breaks;
 ghost use Rattle.replay.specs.declared.Stop.TheVariants as stops;
 ghost use Rattle.script_replay.specs.Held.{StandsFor, HasLeft};
 ghost use Rattle.script_replay.specs.Steps.Answers.{ended};
-ghost use Rattle.script_replay.specs.Steps.Places.{Starts, Returns, Added, Printed, Plays, FitsAt, RefusesAt, TellsWritten, written_at, words_at, line_at, waiting_at, remaining_at, input_faults_at, output_faults_at};
+ghost use Rattle.script_replay.specs.Steps.Places.{Starts, Returns, Added, Printed, Plays, FitsAt};
+ghost use Rattle.script_replay.specs.Steps.Places.{RefusesAt, TellsWritten, written_at, words_at};
+ghost use Rattle.script_replay.specs.Steps.Places.{line_at, waiting_at, remaining_at};
+ghost use Rattle.script_replay.specs.Steps.Places.{input_faults_at, output_faults_at};
 
 use crate::held::Held;
 use crate::start::{Beginning, Start};
@@ -61,7 +65,7 @@ fn empty_buffer() -> [u8; DATAGRAM_BYTES] {
     [0; DATAGRAM_BYTES]
 }
 
-/// Takes the board out of the place for one call of a node, which makes one reception at most where
+/// Takes the board out of the place for one call of a node, which makes a reception at most where
 /// it has room for one. No failure of the call before is left.
 fn hold<'a, S: Source, K: Sink, N: Start>(
     place: &mut Option<ScriptBoard<'a, S, K>>,

@@ -1,5 +1,6 @@
 //! The whole replay, from an image and a script to the digest of the storage bytes.
-ghost use Rattle.std.specs.Prelude.{◌≡◌, ◌≢◌, ◌≤◌, ◌++◌, [], true, List, ℕ, length, IfOk, IfErr, OnOk, IfSome, IsSome};
+ghost use Rattle.std.specs.Prelude.{◌≡◌, ◌≢◌, ◌≤◌, ◌++◌, [], true, List, ℕ, length, IfOk, IfErr};
+ghost use Rattle.std.specs.Prelude.{OnOk, IfSome, IsSome};
 ghost use Rattle.flash_traits.specs.Words.{IsSectorSize};
 ghost use Rattle.flash_traits.specs.Budget.{budget_of};
 ghost use Rattle.flash_traits.specs.Causes.{Rose};
@@ -13,7 +14,8 @@ ghost use Rattle.sha2.specs.Sha256.{sha256};
 ghost use Rattle.sector_image.specs.FirstBad.{FirstBad};
 ghost use Rattle.script_replay.specs.Steps.Answers.{IsForeign};
 ghost use Rattle.script_replay.specs.Replays.{ReplaysWhole, ReplaysPart};
-ghost use Rattle.script_replay.specs.Steps.Places.{HoldsAt, words_at, input_faults_at, output_faults_at, TellsRest, TellsWritten};
+ghost use Rattle.script_replay.specs.Steps.Places.{HoldsAt, words_at, input_faults_at};
+ghost use Rattle.script_replay.specs.Steps.Places.{output_faults_at, TellsRest, TellsWritten};
 ghost use Rattle.script_replay.specs.Steps.Replaying.{Begins, ReplaysAt, StopsAt};
 
 use crate::player::ScriptPlayer;

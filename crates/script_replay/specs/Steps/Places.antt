@@ -1,5 +1,6 @@
 -- The board in a place, from which a call of a node takes it and where it puts it back.
-use Rattle.std.specs.Prelude.{◌≡◌, ◌≢◌, ◌≤◌, ℕ, ◌+◌, ◌*◌, ◌-◌, Bool, true, false, Option, Some, None, IsSome, List, [], ◌++◌, length, take, Result, Err, OnOk}
+use Rattle.std.specs.Prelude.{◌≡◌, ◌≢◌, ◌≤◌, ℕ, ◌+◌, ◌*◌, ◌-◌, Bool, true, false, Option, Some}
+use Rattle.std.specs.Prelude.{None, IsSome, List, [], ◌++◌, length, take, Result, Err, OnOk}
 use Rattle.std.specs.Borrow.{GName}
 use Rattle.flash_traits.specs.Words.{Words}
 use Rattle.flash_traits.specs.Causes.{Rose}

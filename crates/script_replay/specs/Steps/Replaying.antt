@@ -11,7 +11,10 @@ use Rattle.replay.specs.Breaks.{OnRefused}
 use Rattle.replay.specs.Histories.{Replayed, CutShort}
 use Rattle.replay.specs.declared.Stop.{Stop}
 use Rattle.script_replay.specs.Calls.{Takes}
-use Rattle.script_replay.specs.Steps.Places.{input_of, out_of, size_of, words_at, unread_at, rest_at, TellsRest, written_at, TellsWritten, line_at, losses_at, waiting_at, RefusesAt, input_faults_at, output_faults_at}
+use Rattle.script_replay.specs.Steps.Places.{input_of, out_of, size_of, words_at, unread_at}
+use Rattle.script_replay.specs.Steps.Places.{rest_at, TellsRest, written_at, TellsWritten, line_at}
+use Rattle.script_replay.specs.Steps.Places.{losses_at, waiting_at, RefusesAt, input_faults_at}
+use Rattle.script_replay.specs.Steps.Places.{output_faults_at}
 use Rattle.script_replay.specs.declared.start.Beginning as beginning
 
 module _ {S K : Type 0} {g : source.Ghosts S} {h : sink.Ghosts K} {M : Type 0}
