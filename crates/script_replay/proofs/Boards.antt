@@ -104,6 +104,7 @@ module _ {S K N : Type 0} {g : source.Ghosts S} {h : sink.Ghosts K} (n : start.G
     line = omega (arith, line);
     hears = inl (refl, subst (λ (m : Option ScriptMark). WaitsBy m n.waiting (length b.waiting.items)) (sym mark) waiting);
     takes = λ told. subst (λ (u : List ℕ). Takes u n.rest (unread_in b) (g.rest b.input.now) []) unread (subst (λ (r : List ℕ). Takes (unread_in b) r (unread_in b) (g.rest b.input.now) []) rest (takes_none (unread_in b) (g.rest b.input.now)));
+    few = λ few. omega (arith, few);
   }
 
   -- as many receptions as the call has room for

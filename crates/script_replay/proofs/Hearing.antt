@@ -10,7 +10,7 @@ use Rattle.script_lines.specs.Script.{ScriptLine}
 use Rattle.script_board.specs.Marks.{marked}
 use Rattle.script_board.specs.Taking.{AreTaken, Took}
 use Rattle.script_board.specs.Boards.{unread_in}
-use Rattle.script_board.specs.Hearing.{IsHeard, IsUnheard, IsRefused, waiting_behind, loses}
+use Rattle.script_board.specs.Hearing.{IsHeard, IsUnheard, IsRefused, FewWait, waiting_behind, loses}
 use Rattle.script_board.specs.declared.board.ScriptMark.{ScriptMark}
 use Rattle.script_board.specs.declared.board.ScriptMark.TheVariants.{Lost, Refused, Input, Output}
 use Rattle.script_board.specs.declared.board.ScriptBoard.{ScriptBoard}
@@ -68,9 +68,9 @@ nothing_yet room buffer mark before now next faulted refused lines on (inr (room
 
 module _ {S K N : Type 0} {g : source.Ghosts S} {h : sink.Ghosts K} (n : start.Ghosts N) (a b : ScriptBoard S K g h) (on : a.mark ≡ None) (out : b.out ≡ a.out) (lines : List ScriptLine) (count : ℕ)
     (took : Took g a.input.now b.input.now (unread_in a) (unread_in b) lines count) (line : b.line ≡ a.line + length lines) (heard : Option Event) (buffer : List ℕ) (e : List Received) (f : List SentFrame) where
-  pub lists_heard : (event : Event) (into later : List ℕ) → heard ≡ None → later ≡ into → length b.waiting.items ≡ waiting_behind (Ok event) (length a.waiting.items) lines → IsHeard event into lines → b.mark ≡ a.mark
+  pub lists_heard : (event : Event) (into later : List ℕ) → heard ≡ None → later ≡ into → length b.waiting.items ≡ waiting_behind (Ok event) (length a.waiting.items) lines → IsHeard event into lines → b.mark ≡ a.mark → FewWait (length a.waiting.items) lines
       → HasLists n a heard buffer e f → HasLists n b (Some event) later (e ++ received event into ∷ []) f
-  lists_heard event into later none copied waits hears mark stood = more (subst (λ (x : Option Event). HasLists n a x buffer e f) none stood)
+  lists_heard event into later none copied waits hears mark few_wait stood = more (subst (λ (x : Option Event). HasLists n a x buffer e f) none stood)
     where
       more : HasLists n a None buffer e f → HasLists n b (Some event) later (e ++ received event into ∷ []) f
       more had =
@@ -88,12 +88,13 @@ module _ {S K N : Type 0} {g : source.Ghosts S} {h : sink.Ghosts K} (n : start.G
                   (waits ∙ ap (λ (k : ℕ). waiting_behind (Ok event) k lines) yet.1),
             );
             takes = λ told. takes_first g a.input.now b.input.now n.unread n.rest (unread_in a) (unread_in b) had.lines lines count yet.0 took told (had.takes (took.told_rest told));
+            few = subst (λ (k : ℕ). FewWait k lines) yet.1 few_wait;
           }
 
   pub lists_unheard : (failures : ℕ) → n.room ≡ true → heard ≡ None → failures ≡ 0 → n.input_faults ≤ g.faults a.input.now → length b.waiting.items ≡ length a.waiting.items + loses lines
       → IsUnheard a.mark b.mark failures lines (Rose (g.faults a.input.now) (g.faults b.input.now)) (b.line + 1) (IsRefused b.line b.waiting.items (unread_in b) (g.tells_rest b.input.now) (g.rest b.input.now))
-      → HasLists n a heard buffer e f → HasLists n b heard buffer e f
-  lists_unheard failures roomy none few low waits unheard stood =
+      → FewWait (length a.waiting.items) lines → HasLists n a heard buffer e f → HasLists n b heard buffer e f
+  lists_unheard failures roomy none few low waits unheard few_wait stood =
       subst (λ (x : Option Event). HasLists n b x buffer e f) (sym none) (more (subst (λ (x : Option Event). HasLists n a x buffer e f) none stood))
     where
       more : HasLists n a None buffer e f → HasLists n b None buffer e f
@@ -108,4 +109,5 @@ module _ {S K N : Type 0} {g : source.Ghosts S} {h : sink.Ghosts K} (n : start.G
             line = line ∙ omega (arith, had.line, ap length yet.0);
             hears = inr (roomy, unheard_since a.mark b.mark failures (b.line + 1) n.input_faults (g.faults a.input.now) lines (g.faults b.input.now) _ on few low unheard, omega (arith, waits, yet.1));
             takes = λ told. takes_first g a.input.now b.input.now n.unread n.rest (unread_in a) (unread_in b) had.lines lines count yet.0 took told (had.takes (took.told_rest told));
+            few = subst (λ (k : ℕ). FewWait k lines) yet.1 few_wait;
           }

@@ -58,6 +58,7 @@ module _ {S K N : Type 0} {g : source.Ghosts S} {h : sink.Ghosts K} (n : start.G
     hears = by_parts b.input.now (unread_in b) b.line b.mark b.waiting.items input unread line mark waiting;
     takes = λ told. subst (λ (s : S). Takes n.unread n.rest (unread_in b) (g.rest s) had.lines) (sym input)
         (subst (λ (u : List ℕ). Takes n.unread n.rest u (g.rest a.input.now) had.lines) (sym unread) (had.takes (subst (λ (s : S). g.tells_rest s) input told)));
+    few = had.few;
   }
     where
       by_parts : (s : S) (u : List ℕ) (l : ℕ) (m : Option ScriptMark) (w : List Waiting) → s ≡ a.input.now → u ≡ unread_in a → l ≡ a.line → m ≡ a.mark → w ≡ a.waiting.items
@@ -87,6 +88,7 @@ module _ {S K N : Type 0} {g : source.Ghosts S} {h : sink.Ghosts K} (n : start.G
         (IsRefused a.line a.waiting.items (unread_in a) (g.tells_rest a.input.now) (g.rest a.input.now)) had.lines) on had.hears);
     takes = λ told. subst (λ (s : S). Takes n.unread n.rest (unread_in b) (g.rest s) had.lines) (sym input)
         (subst (λ (u : List ℕ). Takes n.unread n.rest u (g.rest a.input.now) had.lines) (sym unread) (had.takes (subst (λ (s : S). g.tells_rest s) input told)));
+    few = had.few;
   }
 
 pub none_is : {A : Type 0} (o : Option A) (r : Bool) → r ≡ is_some o → r ≡ false → o ≡ None

@@ -57,6 +57,7 @@ module _ {S K N : Type 0} {g : source.Ghosts S} {h : sink.Ghosts K} (n : start.G
             (subst (λ (x : Bool). HasHeard x heard buffer b.mark n.waiting (length b.waiting.items) faulted (b.line + 1) refused lists.lines) room lists.hears) came_so);
         some = subst (λ (x : Result Turn Break). OnOk x (1 ≤ length lists.lines)) (sym is)
             (some_lines buffer n.waiting (length b.waiting.items) faulted refused (b.line + 1) lists.lines b.mark a heard n.room lists.hears came_so);
+        few_wait = lists.few;
         few = few_heard n.room heard buffer b.mark n.waiting (length b.waiting.items) faulted refused (b.line + 1) lists.lines lists.hears;
         printed = λ other told. (lists.printed (no_output r b.mark a is other) told).0;
         ends = λ other told. subst (λ (x : Result Turn Break). EventEnds budget x old new (events_of lists.lines) f (finished_by a) (words_in b)) (sym is)

@@ -9,7 +9,7 @@ use Rattle.flash_traits.specs.declared.board.Fault.{Fault}
 use Rattle.flash_traits.specs.declared.board.Fault.TheVariants.{Attach, Read, Flash, Recv, Send}
 use Rattle.script_lines.specs.Script.{ScriptLine}
 use Rattle.script_board.specs.Boards.{words_in, unread_in}
-use Rattle.script_board.specs.Hearing.{IsRefused}
+use Rattle.script_board.specs.Hearing.{FewWait, IsRefused}
 use Rattle.script_board.specs.declared.board.ScriptMark.TheVariants.{Output}
 use Rattle.script_board.specs.declared.board.ScriptBoard.{ScriptBoard}
 use Rattle.script_replay.specs.Calls.{Takes, ArePrinted, HasHeard, events_heard, too_many}
@@ -35,6 +35,7 @@ module _ {S K N : Type 0} {g : source.Ghosts S} {h : sink.Ghosts K} (n : start.G
         lines
     pub takes : g.tells_rest b.input.now
         → Takes n.unread n.rest (unread_in b) (g.rest b.input.now) lines
+    pub few : FewWait n.waiting lines
 
   -- the same, but where there were more receptions than a call makes, only their number is told
   abbrev pub StandsFor : Bool → Bool → ScriptBoard S K g h → Option Event → List ℕ

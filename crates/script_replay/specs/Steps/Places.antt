@@ -13,7 +13,7 @@ use Rattle.script_lines.specs.Script.{ScriptLine}
 use Rattle.script_lines.specs.declared.line.Waiting.{Waiting}
 use Rattle.script_lines.specs.declared.numbers.TheConstants.{SCRIPT_LINES}
 use Rattle.script_board.specs.Boards.{words_in, unread_in}
-use Rattle.script_board.specs.Hearing.{IsRefused, loses}
+use Rattle.script_board.specs.Hearing.{FewWait, IsRefused, loses}
 use Rattle.script_board.specs.Printing.{frame_lines}
 use Rattle.script_board.specs.Taking.{events_of}
 use Rattle.script_board.specs.declared.board.ScriptBoard.{ScriptBoard}
@@ -183,6 +183,7 @@ module _ {S K : Type 0} {g : source.Ghosts S} {h : sink.Ghosts K} where
     pub uses : TurnUses result lines finished n.waiting (waiting_at place)
     pub some : OnOk result (1 ≤ length lines)
     pub few : waiting_at place ≤ n.waiting + loses lines
+    pub few_wait : FewWait n.waiting lines
     pub printed : result ≢ Err (Stopped stops.Output) → Printed n place frames
     pub ends : result ≢ Err (Stopped stops.Output) → TellsWritten place
         → EventEnds budget result old new (events_of lines) frames finished (words_at place)

@@ -43,7 +43,7 @@ returns-in-Ok-clause-lists g c e f =
     let on = none_is c.args.self.now.board.mark _ c.is_some.ensures c.if-is_some.false in
     let none = none_is c.args.self.now.heard _ c.is_some-else-not-self.ensures c.if-is_some-2.false in
     stands_then g.N.Start c.args.self.now.board _ _ _ _ _ _ _ _ _ _ _ (omega (arith, length-append e (received c.in-Ok.event c.take_event.new.into ∷ [])))
-    (lists_heard g.N.Start c.args.self.now.board _ on now.others.out now.took.0 now.took.1 now.took.2 now.took.4 _ _ _ _ c.in-Ok.event c.take_event.new.into _ none c.copy_from_slice.ensures.after now.took.5 now.took.6 now.unmarked)
+    (lists_heard g.N.Start c.args.self.now.board _ on now.others.out now.took.0 now.took.1 now.took.2 now.took.4 _ _ _ _ c.in-Ok.event c.take_event.new.into _ none c.copy_from_slice.ensures.after now.took.5 now.took.6 now.unmarked now.took.7)
 
 pub returns-in-Ok-clause-time : goal.returns-in-Ok-clause-time
 returns-in-Ok-clause-time g c =
@@ -61,7 +61,7 @@ returns-in-Err-clause-lists g c e f =
     let roomy = sym was.same_room ∙ c.if-not-self.false in
     let none = none_is was.heard _ c.is_some-else-not-self.ensures c.if-is_some-2.false in
     stands_then g.N.Start c.args.self.now.board _ _ _ _ _ _ _ _ _ _ _ (omega arith)
-    (lists_unheard g.N.Start c.args.self.now.board _ on now.others.out now.took.0 now.took.1 now.took.2 now.took.4 _ _ _ _ _ roomy none (was.unfailed on) was.input_counts now.took.5 now.took.6)
+    (lists_unheard g.N.Start c.args.self.now.board _ on now.others.out now.took.0 now.took.1 now.took.2 now.took.4 _ _ _ _ _ roomy none (was.unfailed on) was.input_counts now.took.5 now.took.6 now.took.7)
 
 pub returns-in-Err-clause-time : goal.returns-in-Err-clause-time
 returns-in-Err-clause-time g c =

@@ -27,6 +27,7 @@ returns-clause-plays g c = λ told.
       adds_then true c.args.self.now.place c.event_on-played.new.place c.event_on-played.ensures.back g.M.Beginning.rest p.lines p.frames p.added (p.printed unfailed) told.rest told.written,
       subst (λ (k : ℕ). EventEnds (budget_of k) c.event_on-played.result c.args.node.now c.event_on-played.new.node (events_of p.lines) p.frames p.finished (words_at c.event_on-played.new.place)) c.requires.holds.size (p.ends unfailed told.written),
       p.uses,
+      p.few_wait,
     )
 
 pub returns-clause-remaining : goal.returns-clause-remaining
