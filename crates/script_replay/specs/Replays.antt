@@ -11,8 +11,8 @@ use Rattle.replay.specs.Breaks.{OnRefused}
 use Rattle.replay.specs.declared.Stop.{Stop}
 use Rattle.script_replay.specs.Calls.{Takes}
 
--- The lines of the script up to its end were taken, this text was printed of them, and the digest is
--- that of the bytes which the words stand for at last.
+-- The lines of the script up to its end were taken, this text was printed of them, and the digest
+-- is that of the bytes which the words stand for at last.
 pub record ReplaysWhole (budget : ℕ) (before : Words) (rest_before rest_now text digest : List ℕ)
     : Type 0 where
   pub lines : List ScriptLine
