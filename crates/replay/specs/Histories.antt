@@ -89,8 +89,8 @@ losses_by_call [] = 0
 losses_by_call (r ∷ rs) = by_call r.between_calls + losses_by_call rs
 
 -- So many losses wait after these runs, where so many waited before them. In each run one more
--- waits with each line `l` that it took, but never more than sixteen; where a line `l` ended it, one
--- of them waits no more.
+-- waits with each line `l` that it took, but never more than sixteen; where a line `l` ended it,
+-- one of them waits no more.
 abbrev pub WaitAfter : ℕ → List Ran → ℕ → Type 0
 WaitAfter before [] now = now ≡ before
 WaitAfter before (r ∷ rs) now = (before + loses r.lines ≤ WAITING_LOSSES)
@@ -148,8 +148,8 @@ pub record Replayed (budget : ℕ) (before : Words) (lines : List ScriptLine) (t
 -- A replay that was cut short: what is left of the last run is safe too. Where the next line was
 -- refused or the source failed, all of its events are finished; where a line was refused, each line
 -- `l` before it ended a run or waits. No more than sixteen losses ever waited. Where the guard row
--- was used up, the openings of all runs and the lines that they issued are enough to raise the guard
--- count of the first words to its end.
+-- was used up, the openings of all runs and the lines that they issued are enough to raise the
+-- guard count of the first words to its end.
 pub record CutShort (budget : ℕ) (before : Words) (lines : List ScriptLine) (text : List ℕ)
     (stop : Stop) (waiting : ℕ) (now : Words) : Type 0 where
   pub runs : List Ran
