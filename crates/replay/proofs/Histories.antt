@@ -15,7 +15,7 @@ use Rattle.script_board.specs.Printing.{frame_lines, loss_line}
 use Rattle.script_board.specs.Hearing.{loses, FewWait, HasNoLossNow, EndsWithEnd}
 use Rattle.script_board.specs.declared.waiting.TheConstants.{WAITING_LOSSES}
 use Rattle.replay.specs.Guard.{raised_over}
-use Rattle.replay.specs.Histories.{Ran, IsRun, History, history_lines, lines_taken, lines_issued, EndsSo, by_call, losses_by_call, NoneTooMany, IsWhole, Ended, Replayed, CutShort}
+use Rattle.replay.specs.Histories.{Ran, IsRun, History, history_lines, lines_taken, lines_issued, EndsSo, by_call, losses_by_call, WaitAfter, IsWhole, Ended, Replayed, CutShort}
 use Rattle.replay.specs.Playing.{BreaksFrom, CloseEnds, RunEnds, StopsSo, BreaksSo}
 use Rattle.replay.specs.declared.Stop.{Stop}
 use Rattle.replay.specs.declared.Break.{Break}
@@ -42,30 +42,24 @@ pub losses-push : (rs : List Ran) (r : Ran) → losses_by_call (rs ++ r ∷ []) 
 losses-push [] r = omega arith
 losses-push (x ∷ rs) r = let rest = losses-push rs r in omega (arith, rest)
 
+-- no more losses wait after a history than may wait, and a run more keeps it so
+wait_few : (rs : List Ran) (u v : ℕ) → u ≤ WAITING_LOSSES → WaitAfter u rs v → v ≤ WAITING_LOSSES
+wait_few [] u v few is = omega (arith, few, is)
+wait_few (x ∷ rs) u v few is = let now = is.0 in let between = is.2 in wait_few rs is.1 v (omega (arith, now, between)) is.3
+
+wait-push : (rs : List Ran) (u v w : ℕ) (r : Ran) → WaitAfter u rs v → v + loses r.lines ≤ WAITING_LOSSES → w + by_call r.between_calls ≡ v + loses r.lines → WaitAfter u (rs ++ r ∷ []) w
+wait-push [] u v w r is few falls = (omega (arith, is, few), w, omega (arith, is, falls), refl)
+wait-push (x ∷ rs) u v w r is few falls = (is.0, is.1, is.2, wait-push rs is.1 v w r is.3 few falls)
+
 pub no_end_in : (budget : ℕ) (rs : List Ran) (w v : Words) → History budget w rs v → HasNoEnd (lines_taken rs)
 no_end_in budget [] w v is = tt
 no_end_in budget (x ∷ rs) w v is = no_end-append x.lines (lines_taken rs) is.0.no_end (no_end_in budget rs x.words v is.1)
 
--- how many losses wait, once these runs have taken their lines
-few_come : (rs : List Ran) (t k : ℕ) → NoneTooMany t k rs [] → t + loses (lines_taken rs) ≤ WAITING_LOSSES + k + losses_by_call rs
-few_come [] t k few = omega (arith, few)
-few_come (x ∷ rs) t k few = let rest = few_come rs (t + loses x.lines) (k + by_call x.between_calls) few.1 in omega (arith, rest, loses-append x.lines (lines_taken rs))
-
--- a last run with these lines
-few_last : (rs : List Ran) (t k : ℕ) (ls : List ScriptLine) → NoneTooMany t k rs [] → t + loses (lines_taken rs) + loses ls ≤ WAITING_LOSSES + k + losses_by_call rs → NoneTooMany t k rs ls
-few_last [] t k ls few is = omega (arith, is)
-few_last (x ∷ rs) t k ls few is = (few.0, few_last rs (t + loses x.lines) (k + by_call x.between_calls) ls few.1 (omega (arith, is, loses-append x.lines (lines_taken rs))))
-
--- one run more
-few_push : (rs : List Ran) (t k : ℕ) (r : Ran) → NoneTooMany t k rs [] → t + loses (lines_taken rs) + loses r.lines ≤ WAITING_LOSSES + k + losses_by_call rs → NoneTooMany t k (rs ++ r ∷ []) []
-few_push [] t k r few is = (omega (arith, is), omega (arith, is))
-few_push (x ∷ rs) t k r few is = (few.0, few_push rs (t + loses x.lines) (k + by_call x.between_calls) r few.1 (omega (arith, is, loses-append x.lines (lines_taken rs))))
-
 pub ended_none : (budget : ℕ) (w : Words) → Ended budget w [] [] 0 w
-ended_none budget w = record { runs = []; history = refl; lines_are = refl; text_is = refl; each_loses = omega arith; few = omega arith }
+ended_none budget w = record { runs = []; history = refl; lines_are = refl; text_is = refl; each_loses = omega arith; few_wait = refl }
 
 -- a run after those that losses ended, from these bytes
-module _ (budget : ℕ) (w v u : Words) (l0 : List ScriptLine) (t0 : List ℕ) (u1 u2 : ℕ) (e : Ended budget w l0 t0 u1 v) (ls : List ScriptLine) (fs : List SentFrame) (b : List ℕ) (began : Stands v b) (waits : FewWait u1 ls) where
+module _ (budget : ℕ) (w v u : Words) (l0 : List ScriptLine) (t0 : List ℕ) (u1 u2 : ℕ) (e : Ended budget w l0 t0 u1 v) (ls : List ScriptLine) (fs : List SentFrame) (b : List ℕ) (began : Stands v b) where
   lines_now : l0 ++ ls ≡ lines_taken e.runs ++ ls
   lines_now = ap (λ (l : List ScriptLine). l ++ ls) e.lines_are
 
@@ -75,20 +69,15 @@ module _ (budget : ℕ) (w v u : Words) (l0 : List ScriptLine) (t0 : List ℕ) (
   no_end_yet : HasNoEnd l0
   no_end_yet = subst HasNoEnd (sym e.lines_are) (no_end_in budget e.runs w v e.history)
 
+  few_before : u1 ≤ WAITING_LOSSES
+  few_before = wait_few e.runs 0 u1 (omega arith) e.few_wait
+
   enough : losses_by_call e.runs ≤ loses (lines_taken e.runs)
   enough = let each = e.each_loses in omega (arith, each, ap loses e.lines_are)
 
-  few_now : loses (lines_taken e.runs) + loses ls ≤ WAITING_LOSSES + losses_by_call e.runs
-  few_now =
-      let each = e.each_loses in
-      let come = few_come e.runs 0 0 e.few in
-      let same = ap loses e.lines_are in
-      let now = waits (omega (arith, each, come, same)) in
-      omega (arith, each, same, now)
-
   -- a loss ended it too
-  ended_so : (cut : Bool) (n : ℕ) → EndsSo cut ls n → HasNoEnd ls → by_call cut + u2 ≡ u1 + loses ls → BreaksFrom budget Lost v (events_of ls) fs n u → Ended budget w (l0 ++ ls) (t0 ++ (frame_lines fs ++ loss_line)) u2 u
-  ended_so cut n ends no_end uses broke =
+  ended_so : (cut : Bool) (n : ℕ) → EndsSo cut ls n → HasNoEnd ls → by_call cut + u2 ≡ u1 + loses ls → FewWait u1 ls → BreaksFrom budget Lost v (events_of ls) fs n u → Ended budget w (l0 ++ ls) (t0 ++ (frame_lines fs ++ loss_line)) u2 u
+  ended_so cut n ends no_end uses few broke =
       let row = row_in v b began in
       let issued = issued_in budget v b (events_of ls) row.0 row.1 u (broke.rises row.0 b row.1 began) in
       let r : Ran = record { lines = ls; frames = fs; finished = n; issued = issued.0; words = u; between_calls = cut } in
@@ -99,16 +88,16 @@ module _ (budget : ℕ) (w v u : Words) (l0 : List ScriptLine) (t0 : List ℕ) (
         lines_are = lines_now ∙ sym (lines_taken-push e.runs r);
         text_is = ap (λ (t : List ℕ). t ++ (frame_lines fs ++ loss_line)) e.text_is ∙ sym (history_lines-push e.runs r);
         each_loses = omega (arith, each, uses, losses-push e.runs r, loses-append l0 ls);
-        few = few_push e.runs 0 0 r e.few (let now = few_now in omega (arith, now));
+        few_wait = wait-push e.runs 0 u1 u2 r e.few_wait (few few_before) (omega (arith, uses));
       }
 
-  pub ended_more : (n : ℕ) → BreaksSo Lost ls n u1 u2 → BreaksFrom budget Lost v (events_of ls) fs n u → Ended budget w (l0 ++ ls) (t0 ++ (frame_lines fs ++ loss_line)) u2 u
-  ended_more n (no_end, inl cut) broke = let uses = cut.1 in ended_so true n cut.0 no_end (omega (arith, uses)) broke
-  ended_more n (no_end, inr call) broke = let uses = call.1 in ended_so false n call.0 no_end (omega (arith, uses)) broke
+  pub ended_more : (n : ℕ) → BreaksSo Lost ls n u1 u2 → FewWait u1 ls → BreaksFrom budget Lost v (events_of ls) fs n u → Ended budget w (l0 ++ ls) (t0 ++ (frame_lines fs ++ loss_line)) u2 u
+  ended_more n (no_end, inl cut) few broke = let uses = cut.1 in ended_so true n cut.0 no_end (omega (arith, uses)) few broke
+  ended_more n (no_end, inr call) few broke = let uses = call.1 in ended_so false n call.0 no_end (omega (arith, uses)) few broke
 
   -- it is whole, and the last one
-  pub replayed : IsWhole budget b (events_of ls) fs u → HasNoLossNow ls → EndsWithEnd ls → Replayed budget w (l0 ++ ls) (t0 ++ frame_lines fs) u
-  replayed whole none ends = record {
+  pub replayed : IsWhole budget b (events_of ls) fs u → HasNoLossNow ls → EndsWithEnd ls → FewWait u1 ls → Replayed budget w (l0 ++ ls) (t0 ++ frame_lines fs) u
+  replayed whole none ends few = record {
     runs = e.runs;
     words = v;
     history = e.history;
@@ -122,7 +111,7 @@ module _ (budget : ℕ) (w v u : Words) (l0 : List ScriptLine) (t0 : List ℕ) (
     ends = end-append l0 ls no_end_yet ends;
     no_loss_now = none;
     enough = enough;
-    few = few_last e.runs 0 0 ls e.few (let now = few_now in omega (arith, now));
+    few_wait = (u1, e.few_wait, few few_before);
   }
 
   -- over all runs the guard count can have come to its end, where this one can have brought it there
@@ -135,8 +124,8 @@ module _ (budget : ℕ) (w v u : Words) (l0 : List ScriptLine) (t0 : List ℕ) (
       omega (arith, up, here)
 
   -- it was cut short
-  pub cut_short : (why : Stop) (n : ℕ) → StopsSo why ls n u1 u2 → BreaksFrom budget (Stopped why) v (events_of ls) fs n u → CutShort budget w (l0 ++ ls) (t0 ++ frame_lines fs) why u2 u
-  cut_short why n stops broke =
+  pub cut_short : (why : Stop) (n : ℕ) → StopsSo why ls n u1 u2 → FewWait u1 ls → BreaksFrom budget (Stopped why) v (events_of ls) fs n u → CutShort budget w (l0 ++ ls) (t0 ++ frame_lines fs) why u2 u
+  cut_short why n stops few broke =
       let each = e.each_loses in
       let row = row_in v b began in
       let wears = wears_in budget v b (events_of ls) row.0 row.1 u why (broke.rises row.0 b row.1 began) broke.worn began in
@@ -157,7 +146,7 @@ module _ (budget : ℕ) (w v u : Words) (l0 : List ScriptLine) (t0 : List ℕ) (
         no_loss_now = stops.0;
         between = stops.1;
         enough = enough;
-        few = few_last e.runs 0 0 ls e.few (let now = few_now in omega (arith, now));
+        few_wait = (u1, e.few_wait, few few_before);
         each_loses = refused_map why (λ line is. (no_end-append l0 ls no_end_yet is.0, let waits = is.1 in omega (arith, each, waits, loses-append l0 ls))) stops.2;
         worn = worn_map why (λ full is. worn_over wears.0 is) wears.2;
       }

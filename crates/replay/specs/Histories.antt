@@ -88,12 +88,20 @@ abbrev pub losses_by_call : List Ran → ℕ
 losses_by_call [] = 0
 losses_by_call (r ∷ rs) = by_call r.between_calls + losses_by_call rs
 
--- While these runs took their lines, and the last run those after them, no more than sixteen losses
--- waited at once: so many lines `l` were taken before, and so many losses by them have come.
-abbrev pub NoneTooMany : ℕ → ℕ → List Ran → List ScriptLine → Type 0
-NoneTooMany taken come [] last = taken + loses last ≤ WAITING_LOSSES + come
-NoneTooMany taken come (r ∷ rs) last = (taken + loses r.lines ≤ WAITING_LOSSES + come)
-    × NoneTooMany (taken + loses r.lines) (come + by_call r.between_calls) rs last
+-- So many losses wait after these runs, where so many waited before them. In each run one more
+-- waits with each line `l` that it took, but never more than sixteen; where a line `l` ended it,
+-- one of them waits no more.
+abbrev pub WaitAfter : ℕ → List Ran → ℕ → Type 0
+WaitAfter before [] now = now ≡ before
+WaitAfter before (r ∷ rs) now = (before + loses r.lines ≤ WAITING_LOSSES)
+    × (between : ℕ) × (between + by_call r.between_calls ≡ before + loses r.lines)
+    × WaitAfter between rs now
+
+-- No more than sixteen losses wait at any time, from none on: in these runs, and in the last one
+-- that took these lines after them.
+abbrev pub NeverMoreWait : List Ran → List ScriptLine → Type 0
+NeverMoreWait runs last = (before : ℕ) × WaitAfter 0 runs before
+    × (before + loses last ≤ WAITING_LOSSES)
 
 -- The whole run over these events, from these bytes: the frames are all its answers, and the words
 -- stand for the bytes with all of its lines.
@@ -114,7 +122,7 @@ pub record Ended (budget : ℕ) (before : Words) (lines : List ScriptLine) (text
   pub lines_are : lines ≡ lines_taken runs
   pub text_is : text ≡ history_lines runs
   pub each_loses : losses_by_call runs + waiting ≡ loses lines
-  pub few : NoneTooMany 0 0 runs []
+  pub few_wait : WaitAfter 0 runs waiting
 
 -- A replay that came to its end: these lines were taken and this was printed, of runs that losses
 -- ended, and of one whole run after them. No more than sixteen losses ever waited.
@@ -135,7 +143,7 @@ pub record Replayed (budget : ℕ) (before : Words) (lines : List ScriptLine) (t
   pub no_loss_now : HasNoLossNow last_lines
   -- each loss by a call stands among the lines `l`
   pub enough : losses_by_call runs ≤ loses (lines_taken runs)
-  pub few : NoneTooMany 0 0 runs last_lines
+  pub few_wait : NeverMoreWait runs last_lines
 
 -- A replay that was cut short: what is left of the last run is safe too. Where the next line was
 -- refused or the source failed, all of its events are finished; where a line was refused, each line
@@ -160,7 +168,7 @@ pub record CutShort (budget : ℕ) (before : Words) (lines : List ScriptLine) (t
   pub no_loss_now : HasNoLossNow last_lines
   pub between : BetweenEvents (finished ≡ length (events_of last_lines)) stop
   pub enough : losses_by_call runs ≤ loses (lines_taken runs)
-  pub few : NoneTooMany 0 0 runs last_lines
+  pub few_wait : NeverMoreWait runs last_lines
   pub each_loses : OnRefused (λ line. HasNoEnd lines
       × (losses_by_call runs + waiting ≡ loses lines)) stop
   pub worn : OnWorn (λ full. (count : ℕ) → IsGuardRow before.guard count

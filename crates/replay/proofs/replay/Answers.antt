@@ -40,7 +40,7 @@ returns-in-Ok-clause-replayed g c = λ told b stands.
       i.1 ++ frame_lines r.1,
       next_then (p.took c.args.player.now) (p.took c.runs.player) (p.took c.run_once.new.player) i.0 r.0 i.2 r.3.lines_are,
       printed_then _ _ _ i.1 (frame_lines r.1) i.3 r.3.printed_are,
-      replayed p.arming _ _ _ i.0 i.1 _ 0 i.4 r.0 r.1 i.5.0 i.5.1 r.6 (r.4 i.5.0 i.5.1) r.5.0 r.5.1,
+      replayed p.arming _ _ _ i.0 i.1 _ 0 i.4 r.0 r.1 i.5.0 i.5.1 (r.4 i.5.0 i.5.1) r.5.0 r.5.1 r.6,
     )
 
 pub returns-in-Err-Stopped-clause-cut_short : goal.returns-in-Err-Stopped-clause-cut_short
@@ -52,7 +52,7 @@ returns-in-Err-Stopped-clause-cut_short g c = λ other told b stands.
       i.1 ++ frame_lines r.1,
       next_then (p.took c.args.player.now) (p.took c.runs.player) (p.took c.run_once.new.player) i.0 r.0 i.2 r.3.lines_are,
       printed_then _ _ _ i.1 (frame_lines r.1) i.3 r.3.printed_are,
-      cut_short p.arming _ _ _ i.0 i.1 _ _ i.4 r.0 r.1 i.5.0 i.5.1 r.6 c.in-Err-Stopped.stop r.2 (breaks_by _ (Stopped c.in-Err-Stopped.stop) r.0 r.2 _ _ c.in-Err-Stopped.field-0-is r.5)
+      cut_short p.arming _ _ _ i.0 i.1 _ _ i.4 r.0 r.1 i.5.0 i.5.1 c.in-Err-Stopped.stop r.2 (breaks_by _ (Stopped c.in-Err-Stopped.stop) r.0 r.2 _ _ c.in-Err-Stopped.field-0-is r.5) r.6
           (breaks_from_by p.arming _ (Stopped c.in-Err-Stopped.stop) _ _ _ r.2 _ c.in-Err-Stopped.field-0-is r.4),
     )
 
@@ -88,7 +88,7 @@ runs-preserved g c =
             printed_then _ _ _ i.1 (frame_lines r.1 ++ loss_line) i.3 (printed_then _ _ _ (frame_lines r.1) loss_line r.3.printed_are (loss.printed told)),
             subst (λ (n : ℕ). Ended p.arming (p.words c.args.player.now) (i.0 ++ r.0) (i.1 ++ (frame_lines r.1 ++ loss_line)) n (p.words c.print_loss.new.self)) (sym loss.waiting)
                 (subst (Ended p.arming (p.words c.args.player.now) (i.0 ++ r.0) (i.1 ++ (frame_lines r.1 ++ loss_line)) (p.waiting c.run_once.new.player)) (sym loss.words)
-                (ended_more p.arming _ _ _ i.0 i.1 _ _ i.4 r.0 r.1 i.5.0 i.5.1 r.6 r.2 uses broke)),
+                (ended_more p.arming _ _ _ i.0 i.1 _ _ i.4 r.0 r.1 i.5.0 i.5.1 r.2 uses r.6 broke)),
             stands_safe p.arming i.5.0 _ _ r.2 _ (p.words c.print_loss.new.self) (broke.safe i.5.0 i.5.1) loss.words,
           );
       input_counts = omega (arith, before.input_counts, run.input_counts, loss.input_counts);
