@@ -12,8 +12,11 @@ use Rattle.vehicle_node.specs.Arming.{is_armed_after_all, IsArmedOnce}
 use Rattle.vehicle_node.specs.Reading.{IsEvent, Reads}
 use Rattle.vehicle_node.specs.Standing.{Node, StandsForRun, StaysWithin, Finished, WasArmed, armed_in}
 use Rattle.vehicle_node.specs.Guard.{MayWear, WearsIn}
+use Rattle.vehicle_node.specs.Wearing.{EventUnworn}
+use Rattle.dirty_lines.specs.Lines.{Lines}
+use Rattle.storage_lines.specs.declared.lines.LineWrite.{LineWrite}
 use Rattle.session_boards.specs.Session.{HasNoEnd}
-use Rattle.storage_cli.specs.Serving.{is_armed_after_events}
+use Rattle.storage_cli.specs.Serving.{is_armed_after_events, EventsUnworn}
 use Rattle.storage_cli.specs.Steps.Guard.{WearsSince}
 use Rattle.storage_cli.specs.Steps.Progress.{IsSafe, Progress, Finishes, WasArmedSince}
 
@@ -66,6 +69,12 @@ armed_push : (armed : Bool) (all : List (List Act)) (acts : List Act) → is_arm
 armed_push armed [] acts = refl
 armed_push armed (x ∷ all) acts = armed_push (is_armed_after_all armed x) all acts
 
+-- the lines after events and after one more
+unworn_push : (armed : Bool) (all : List (List Act)) (acts : List Act) (old mid new : Lines) (issued : List LineWrite) → EventsUnworn armed all old mid → EventUnworn (is_armed_after_events armed all) acts issued mid new → EventsUnworn armed (all ++ acts ∷ []) old new
+unworn_push armed [] acts old mid new issued r one = (issued, new, subst (λ (l : Lines). EventUnworn armed acts issued l new) r one, refl)
+unworn_push armed (x ∷ all) acts old mid new issued r one =
+    (r.0, r.1, r.2, unworn_push (is_armed_after_all armed x) all acts r.1 mid new issued r.3 one)
+
 module _ {B : Type 0} (g : Ghosts B) (budget : ℕ) where
   -- another step of the call itself
   pub ending : {a b : B} {lost done : Outcome → Outcome → Type 0} (step : Outcome → Outcome → Type 0) → Passes g a b lost done → ((o : Outcome) → g.now b o → After (g.now a) step o) → Passes g a b lost step
@@ -90,6 +99,7 @@ module _ {B : Type 0} (g : Ghosts B) (budget : ℕ) where
     acts = [];
     reads = (refl, refl);
     armed = refl;
+    unworn = refl;
   }
 
   -- one event more
@@ -120,6 +130,7 @@ module _ {B : Type 0} (g : Ghosts B) (budget : ℕ) where
       acts = p.acts ++ f.acts ∷ [];
       reads = reads_push node.rests mid.rests new.rests es f.event p.acts f.acts p.reads f.reads;
       armed = f.armed ∙ ap (λ (a : Bool). is_armed_after_all a f.acts) p.armed ∙ sym (armed_push (armed_in node) p.acts f.acts);
+      unworn = unworn_push (armed_in node) p.acts f.acts node.lines mid.lines new.lines f.issued p.unworn (subst (λ (a : Bool). EventUnworn a f.acts f.issued mid.lines new.lines) p.armed f.unworn);
     }
 
     -- an event in which the vehicle was armed

@@ -15,7 +15,7 @@ use Rattle.storage_cli.proofs.Outcomes.{Gives, other, ends_turns}
 
 module _ {B : Type 0} (g : Ghosts B) (budget : ℕ) (board : B) (before : Words) (turns status : ℕ) (printed : List ℕ → Type 0) where
   pub serves_done : (served : Served) → Gives status 0 → Completes g budget before ⊤ board turns (Ok served) → (status ≢ 10 → printed (served_line served.events served.frames))
-      → Serves budget (g.has_lists board) (g.tells board) before (g.words board) turns status printed
+      → Serves g budget before board turns status printed
   serves_done served gives p line = record {
     events = p.events;
     frames = p.frames;
@@ -23,13 +23,14 @@ module _ {B : Type 0} (g : Ghosts B) (budget : ℕ) (board : B) (before : Words)
     ends = λ e. p.ends.0;
     over = λ e. absurd (other status 0 8 gives (λ z. omega (arith, z)) (λ z. omega (arith, z)) e);
     whole = λ t b stands. (p.whole t b stands).whole;
+    unworn = p.unworn;
     sent = served.frames;
     count = p.counted;
     line = λ e. subst (λ (n : ℕ). printed (served_line n served.frames)) p.ends.1 (line (λ z. omega (arith, z, e)));
   }
 
   -- the turns are over
-  serves_turns : (n : ℕ) → Gives status 8 → Completes g budget before ⊤ board turns (Err (stop.Turns n)) → Serves budget (g.has_lists board) (g.tells board) before (g.words board) turns status printed
+  serves_turns : (n : ℕ) → Gives status 8 → Completes g budget before ⊤ board turns (Err (stop.Turns n)) → Serves g budget before board turns status printed
   serves_turns n gives p = record {
     events = p.events;
     frames = p.frames;
@@ -37,6 +38,7 @@ module _ {B : Type 0} (g : Ghosts B) (budget : ℕ) (board : B) (before : Words)
     ends = λ e. absurd (other status 8 0 gives (λ z. omega (arith, z)) (λ z. omega (arith, z)) e);
     over = λ e. (p.ends.0, p.ends.1);
     whole = λ t b stands. (p.whole t b stands).whole;
+    unworn = p.unworn;
     sent = counts (length p.frames);
     count = λ t. refl;
     line = λ e. absurd (other status 8 0 gives (λ z. omega (arith, z)) (λ z. omega (arith, z)) e);
@@ -56,7 +58,7 @@ module _ {B : Type 0} (g : Ghosts B) (budget : ℕ) (board : B) (before : Words)
   no_stop n (stop.Script line) is zero = omega (arith, is, zero)
 
   pub serves_stopped : (why : Stop) → Gives status (status_of_stop why) → (IsDone (Err why) → Completes g budget before ⊤ board turns (Err why)) → (status ≡ 0) ⊎ (status ≡ 8)
-      → Serves budget (g.has_lists board) (g.tells board) before (g.words board) turns status printed
+      → Serves g budget before board turns status printed
   serves_stopped why gives done (inl e) = absurd (other status (status_of_stop why) 0 gives (λ z. no_stop (status_of_stop why) why refl z) (λ z. omega (arith, z)) e)
   serves_stopped why gives done (inr e) =
       let is = ends_turns status why gives e in

@@ -17,12 +17,13 @@ use Rattle.flash_traits.specs.Counts.{counts}
 use Rattle.vehicle_node.specs.Arming.{IsArmedOnce}
 use Rattle.vehicle_node.specs.Reading.{Reads, no_rests}
 use Rattle.vehicle_node.specs.Guard.{MayWear}
+use Rattle.vehicle_node.specs.Wearing.{AllUnworn, BootUnworn}
 use Rattle.vehicle_node.specs.Standing.{Node, StandsAt, StandsForRun, StaysWithin, armed_in}
 use Rattle.storage_cli.specs.declared.stop.Served.{Served}
 use Rattle.storage_cli.specs.declared.stop.Stop.{Stop}
 use Rattle.storage_cli.specs.declared.stop.Stop.TheVariants as stop
 use Rattle.replay.specs.Histories.{IsWhole}
-use Rattle.storage_cli.specs.Serving.{HasToVoid, is_armed_after_events}
+use Rattle.storage_cli.specs.Serving.{HasToVoid, is_armed_after_events, EventsUnworn, ServeUnworn}
 use Rattle.storage_cli.specs.Steps.Guard.{WearsSince, WearsFrom}
 use Rattle.storage_cli.specs.Steps.Progress.{IsSafe, IsSafeRun, Finishes, Completes, EndsSo, WasArmedSince}
 use Rattle.storage_cli.proofs.FewerEvents.{one_fewer, safe_none}
@@ -81,8 +82,10 @@ module _ {B : Type 0} (g : Ghosts B) (budget : ℕ) (a m c d : B) (node new : No
     (opened : (e : List Received) (f : List SentFrame) → g.has_lists a e f → g.has_lists m e f)
     (starts : g.tells m → (b : List ℕ) → Stands (g.words a) b → StandsForRun node b [] [] 0)
     (image : g.tells m → (b : List ℕ) × Stands (g.words a) b)
+    (unarmed : armed_in node ≡ false) (booted : g.tells m → BootUnworn (g.words a) node.lines)
     (closed : (e : List Received) (f : List SentFrame) → g.has_lists c e f → g.has_lists d e f)
     (done : g.tells d → (b : List ℕ) (r : Run) (frames : List SentFrame) → StandsAt new b r frames → Stands (g.words d) (after b r.issued))
+    (all_put : AllUnworn g (armed_in new) new.lines d)
     (end : Option ℕ) (p : Finishes g budget node m new c turns end) where
   runs : g.tells d → (b : List ℕ) → Stands (g.words a) b → StandsForRun new b p.events p.frames (0 + length p.events)
   runs t b stands = p.progress.stands b [] [] 0 (starts (p.progress.told (told t)) b stands)
@@ -106,6 +109,22 @@ module _ {B : Type 0} (g : Ghosts B) (budget : ℕ) (a m c d : B) (node new : No
   sent : g.tells d → new.frames ≡ counts (length p.frames)
   sent t = let b = image (p.progress.told (told t)) in (runs t b.0 b.1).at.frame_count
 
+  unworn : g.tells d → ServeUnworn g (g.words a) p.events d
+  unworn t =
+      let begun = p.progress.told (told t) in
+      let b = image begun in
+      let rests : node.rests ≡ no_rests = (starts begun b.0 b.1).reads.1 in
+      record {
+        acts = p.progress.acts;
+        rests = new.rests;
+        reads = subst (λ (r : List (List ℕ)). Reads r p.events p.progress.acts new.rests) rests p.progress.reads;
+        opened = node.lines;
+        boot = booted begun;
+        last = new.lines;
+        each = subst (λ (a : Bool). EventsUnworn a p.progress.acts node.lines new.lines) unarmed p.progress.unworn;
+        closed = subst (λ (a : Bool). AllUnworn g a new.lines d) (p.progress.armed ∙ ap (λ (a : Bool). is_armed_after_events a p.progress.acts) unarmed) all_put;
+      }
+
   lists : g.has_lists a [] [] → g.has_lists d p.events p.frames
   lists stood = closed p.events p.frames (p.progress.lists [] [] (opened [] [] stood))
 
@@ -117,6 +136,7 @@ module _ {B : Type 0} (g : Ghosts B) (budget : ℕ) (a m c d : B) (node new : No
     ends = subst (λ (e : Option ℕ). EndsSo e turns p.events) is p.ends;
     whole = λ t b stands. let r = counted t b stands in record { whole = r.whole; lines = same_lines ∙ r.lines };
     counted = λ t. same ∙ sent t;
+    unworn = unworn;
   }
 
   pub completes_turns : end ≡ None → Completes g budget (g.words a) (g.has_lists a [] []) d turns (Err (stop.Turns turns))
@@ -129,6 +149,7 @@ module _ {B : Type 0} (g : Ghosts B) (budget : ℕ) (a m c d : B) (node new : No
         ends = (ends.0, ends.1, refl);
         whole = λ t b stands. record { whole = whole t b stands; lines = tt };
         counted = λ t. tt;
+        unworn = unworn;
       }
 
 -- the attach keeps the words, and its lists are empty
@@ -141,6 +162,7 @@ completes_attached g budget a d before turns r same empty p = record {
   ends = p.ends;
   whole = λ t b stands. p.whole t b (subst (λ (w : Words). Stands w b) (sym (same t)) stands);
   counted = p.counted;
+  unworn = λ t. subst (λ (w : Words). ServeUnworn g w p.events d) (same t) (p.unworn t);
 }
 
 -- the events that were finished, by the budget of the board

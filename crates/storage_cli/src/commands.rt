@@ -102,9 +102,8 @@ fn run_serve<B: Board, K: Sink>(
         → Safe (budget_of (B.sector_bytes board.new)) b o.events o.frames
         (length o.events - 1) o.words }
     ensures serves { (result.0 ≡ DONE) ⊎ (result.0 ≡ TURNS_OVER)
-        → Serves (budget_of (B.sector_bytes board.new)) (B.has_lists board.new)
-        (B.tells board.new) (B.words board.old) (B.words board.new) turns result.0
-        (Prints K.Sink out.old out.new) }
+        → Serves B.Board (budget_of (B.sector_bytes board.new)) (B.words board.old) board.new turns
+        result.0 (Prints K.Sink out.old out.new) }
     ensures turns { result.0 ≡ TURNS_OVER → Prints K.Sink out.old out.new (turns_line turns) }
     ensures complete { NothingFailed (B.faults board.old) (B.faults board.new)
         (K.faults out.old) (K.faults out.new)
@@ -383,12 +382,12 @@ pub fn run<'a, B: Board, S: Source, K: Sink>(
         → Safe (budget_of (B.sector_bytes board.new)) b o.events o.frames
         (length o.events - 1) o.words)) }
 
-    // What a serve has done that came to the end, or to the last of its turns.
+    // What a serve has done that came to the end, or to the last of its turns. The guard row was
+    // used up nowhere where a sector was to be voided.
     ensures serves { OnServe (texts words.entry.now)
         ((result.0 ≡ DONE) ⊎ (result.0 ≡ TURNS_OVER)) (λ turns.
-        Serves (budget_of (B.sector_bytes board.new)) (B.has_lists board.new) (B.tells board.new)
-        (B.words board.old) (B.words board.new) turns result.0
-        (Prints K.Sink out.old out.new)) }
+        Serves B.Board (budget_of (B.sector_bytes board.new)) (B.words board.old) board.new turns
+        result.0 (Prints K.Sink out.old out.new)) }
     ensures turns { OnServe (texts words.entry.now) (result.0 ≡ TURNS_OVER) (λ turns.
         Prints K.Sink out.old out.new (turns_line turns)) }
 

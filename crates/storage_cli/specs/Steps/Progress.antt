@@ -17,7 +17,7 @@ use Rattle.storage_cli.specs.declared.stop.Stop.TheVariants as stop
 use Rattle.session_boards.specs.Session.{HasNoEnd, EndsOnce}
 use Rattle.vehicle_node.specs.Runs.{Run, run_of}
 use Rattle.replay.specs.Histories.{IsWhole}
-use Rattle.storage_cli.specs.Serving.{is_armed_after_events}
+use Rattle.storage_cli.specs.Serving.{is_armed_after_events, EventsUnworn, ServeUnworn}
 
 -- what has been added since an outcome is safe, with all events finished or all but one
 pub record IsSafe (budget : ℕ) (b : List ℕ) (events : List Received) (frames : List SentFrame)
@@ -27,7 +27,8 @@ pub record IsSafe (budget : ℕ) (b : List ℕ) (events : List Received) (frames
 
 -- Events were received and finished, and frames were sent: whatever run the node stood for, it
 -- stands for the run with these and stays within what that may raise the guard count to, each loss
--- inside is safe, and the acts say whether the vehicle is armed.
+-- inside is safe, the acts say whether the vehicle is armed, and nothing that was put wore the guard
+-- row.
 pub record Progress {B : Type 0} (g : Ghosts B) (budget : ℕ) (old : Node) (board : B) (new : Node)
     (after_board : B) (events : List Received) (frames : List SentFrame) : Type 0 where
   pub told : g.tells after_board → g.tells board
@@ -45,6 +46,7 @@ pub record Progress {B : Type 0} (g : Ghosts B) (budget : ℕ) (old : Node) (boa
   pub acts : List (List Act)
   pub reads : Reads old.rests events acts new.rests
   pub armed : armed_in new ≡ is_armed_after_events (armed_in old) acts
+  pub unworn : EventsUnworn (armed_in old) acts old.lines new.lines
 
 -- how many events came before the end, where it came within so many turns
 abbrev pub EndsSo : Option ℕ → ℕ → List Received → Type 0
@@ -92,6 +94,7 @@ pub record Completes {B : Type 0} (g : Ghosts B) (budget : ℕ) (before : Words)
   pub whole : g.tells board → (b : List ℕ) → Stands before b
       → IsCounted budget result b events frames (g.words board)
   pub counted : g.tells board → CountsFrames result frames
+  pub unworn : g.tells board → ServeUnworn g before events board
 
 -- An event was received after some that were finished, in which the vehicle was armed, at its start
 -- or after one of its acts.

@@ -194,7 +194,7 @@ returns-in-Some-clause-completes g c = λ _.
     let budget = budget_of (g.B.Board.sector_bytes c.args.board.now) in
     let same : c.in_ok-node.node.budget ≡ budget = o.fits.budget ∙ ap budget_of o.geometry in
     completes_end g.B.Board budget c.args.board.now c.open.new.board c.serve_events.new.board c.close.new.board c.in_ok-node.node c.serve_events.new.node c.args.turns (c.in_ok-end.ensures.budget ∙ same)
-    c.in_ok-close.ensures.told o.lists o.stands o.not_foreign c.in_ok-close.ensures.lists c.in_ok-close.ensures.done c.in_ok-end.end
+    c.in_ok-close.ensures.told o.lists o.stands o.not_foreign o.unarmed o.unworn c.in_ok-close.ensures.lists c.in_ok-close.ensures.done c.in_ok-close.ensures.unworn c.in_ok-end.end
     (finished_at g.B.Board c.in_ok-node.node.budget budget same c.in_ok-node.node c.open.new.board c.serve_events.new.node c.serve_events.new.board c.args.turns c.in_ok-end.end c.in_ok-end.ensures.finished)
     c.in-Some.events c.frames-frames.result c.issued-lines.result c.in-Some.is c.frames-frames.ensures c.issued-lines.ensures
 
@@ -218,7 +218,7 @@ returns-in-None-clause-completes g c = λ _.
     let budget = budget_of (g.B.Board.sector_bytes c.args.board.now) in
     let same : c.in_ok-node.node.budget ≡ budget = o.fits.budget ∙ ap budget_of o.geometry in
     completes_turns g.B.Board budget c.args.board.now c.open.new.board c.serve_events.new.board c.close.new.board c.in_ok-node.node c.serve_events.new.node c.args.turns (c.in_ok-end.ensures.budget ∙ same)
-    c.in_ok-close.ensures.told o.lists o.stands o.not_foreign c.in_ok-close.ensures.lists c.in_ok-close.ensures.done c.in_ok-end.end
+    c.in_ok-close.ensures.told o.lists o.stands o.not_foreign o.unarmed o.unworn c.in_ok-close.ensures.lists c.in_ok-close.ensures.done c.in_ok-close.ensures.unworn c.in_ok-end.end
     (finished_at g.B.Board c.in_ok-node.node.budget budget same c.in_ok-node.node c.open.new.board c.serve_events.new.node c.serve_events.new.board c.args.turns c.in_ok-end.end c.in_ok-end.ensures.finished)
     c.in-None.is
 
