@@ -9,7 +9,7 @@ use Rattle.storage_lines.specs.declared.lines.LineWrite.{LineWrite}
 use Rattle.sector_image.specs.Stands.{Stands}
 use Rattle.sector_image.specs.Losses.{RaisesGuard, KeepsBytes, Puts, MayPut}
 use Rattle.block_store.specs.Losses.{PutsLines, MayPutLines}
-use Rattle.block_store.specs.Store.{Store, State, entry_bytes, raise}
+use Rattle.block_store.specs.Store.{Store, StoreState, entry_bytes, raise}
 use Rattle.block_store.specs.Steps.Inside.{due_in}
 use Rattle.block_store.specs.Steps.Entries.{IsEntryOf, PutsEntry, MayPutEntry}
 
@@ -85,6 +85,6 @@ module _ {B : Type 0} (g : Ghosts B) (reads : (b : B) (o : Outcome) → g.now b 
 pub armed_raise : (armed : Bool) (store : Store) (lines : List LineWrite) → armed ≡ true → 0 ≡ raise armed store lines
 armed_raise armed store lines is = sym (ap (λ (b : Bool). raise b store lines) is)
 
-pub unarmed_raise : (armed : Bool) (store : Store) (state : State) (m : ℕ) (lines : List LineWrite) → armed ≡ false → state ≡ store.state → m ≡ entry_bytes lines → due_in state m ≡ raise armed store lines
+pub unarmed_raise : (armed : Bool) (store : Store) (state : StoreState) (m : ℕ) (lines : List LineWrite) → armed ≡ false → state ≡ store.state → m ≡ entry_bytes lines → due_in state m ≡ raise armed store lines
 unarmed_raise armed store state m lines is at same =
-    ap (λ (s : State). due_in s m) at ∙ ap (λ (n : ℕ). due_in store.state n) same ∙ sym (ap (λ (b : Bool). raise b store lines) is)
+    ap (λ (s : StoreState). due_in s m) at ∙ ap (λ (n : ℕ). due_in store.state n) same ∙ sym (ap (λ (b : Bool). raise b store lines) is)

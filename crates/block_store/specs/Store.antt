@@ -15,14 +15,14 @@ use Rattle.sector_image.specs.Fits.{FitsAlone, FitsSpilled}
 
 -- One sector has all bytes; or home is full and the other sector takes the entries; or a call has
 -- failed, and the board is to be opened again.
-pub data State : Type 0 where
-  Alone : (kept : Kept) → State
-  Spilled : (kept : Kept) → State
-  Spent : State
+pub data StoreState : Type 0 where
+  Alone : (kept : Kept) → StoreState
+  Spilled : (kept : Kept) → StoreState
+  Spent : StoreState
 
 -- the state, with the bytes of the image and those of the sector in use alone
 pub record Store : Type 0 where
-  pub state : State
+  pub state : StoreState
   pub bytes : Bytes
 
 -- the storage bytes that the words stand for
@@ -30,19 +30,19 @@ abbrev pub durable_of : Store → List ℕ
 durable_of store = store.bytes.whole
 
 -- one sector has all bytes
-abbrev pub in_one_sector : State → Bool
+abbrev pub in_one_sector : StoreState → Bool
 in_one_sector (Alone kept) = true
 in_one_sector (Spilled kept) = false
 in_one_sector Spent = false
 
 -- home is full, and the other sector takes the entries
-abbrev pub in_both_sectors : State → Bool
+abbrev pub in_both_sectors : StoreState → Bool
 in_both_sectors (Alone kept) = false
 in_both_sectors (Spilled kept) = true
 in_both_sectors Spent = false
 
 -- a call has failed
-abbrev pub has_failed : State → Bool
+abbrev pub has_failed : StoreState → Bool
 has_failed (Alone kept) = false
 has_failed (Spilled kept) = false
 has_failed Spent = true
@@ -58,7 +58,7 @@ is_spent store = has_failed store.state
 
 -- The store's state fits the board, and so it isn't spent. No torn last entry waits to be
 -- completed.
-abbrev pub FitsState : {B : Type 0} → Ghosts B → B → State → Bytes → Type 0
+abbrev pub FitsState : {B : Type 0} → Ghosts B → B → StoreState → Bytes → Type 0
 FitsState g b (Alone kept) bytes = FitsAlone g b kept bytes
 FitsState g b (Spilled kept) bytes = FitsSpilled g b kept bytes × (kept.completable ≡ false)
 FitsState g b Spent bytes = ⊥
@@ -67,7 +67,7 @@ abbrev pub Fits : {B : Type 0} → Ghosts B → B → Store → Type 0
 Fits g b store = FitsState g b store.state store.bytes
 
 -- the guard count
-abbrev pub guard_in : State → ℕ
+abbrev pub guard_in : StoreState → ℕ
 guard_in (Alone kept) = kept.guard
 guard_in (Spilled kept) = kept.guard
 guard_in Spent = 0
@@ -81,7 +81,7 @@ guard_ahead store = guard_of store + (if is_spilled store then 2 else 0)
 
 -- The bytes that an entry of one of the caller's lines may take: the free bytes of home, and where
 -- the store is spilled those of the other sector less what is kept for the copy.
-abbrev pub room_in : State → Bytes → ℕ
+abbrev pub room_in : StoreState → Bytes → ℕ
 room_in (Alone kept) bytes = fits.free_of kept
 room_in (Spilled kept) bytes = states.room_of kept bytes
 room_in Spent bytes = 0
@@ -90,7 +90,7 @@ abbrev pub room_of : Store → ℕ
 room_of store = room_in store.state store.bytes
 
 -- the free bytes of both sectors together
-abbrev pub free_in : State → ℕ
+abbrev pub free_in : StoreState → ℕ
 free_in (Alone kept) = fits.free_of kept + (kept.sector_bytes - header_bytes)
 free_in (Spilled kept) =
     fits.free_of kept + option_map_or (λ log. kept.sector_bytes - 2 * log.end) kept.other 0
@@ -101,7 +101,7 @@ free_of store = free_in store.state
 
 -- What an armed vehicle may still write: ten bytes for each line of the budget, and the room of a
 -- spilled store.
-abbrev pub spare_in : State → Bytes → ℕ
+abbrev pub spare_in : StoreState → Bytes → ℕ
 spare_in (Alone kept) bytes = line_bytes * budget_of kept.sector_bytes
 spare_in (Spilled kept) bytes = states.room_of kept bytes
 spare_in Spent bytes = 0
@@ -119,7 +119,7 @@ Ascend line [] = Unit {0}
 Ascend line (write ∷ writes) = (write.line ≡ line) × Ascend (line + 1) writes
 
 -- an entry is 1 to 8 such lines of the storage
-pub record IsEntry (writes : List LineWrite) : Type 0 where
+pub record AreOneEntry (writes : List LineWrite) : Type 0 where
   pub first : ℕ
   pub ascend : Ascend first writes
   pub some : 1 ≤ length writes
@@ -132,7 +132,7 @@ entry_bytes writes = 2 + 8 * length writes
 
 -- There is no room for an entry of so many bytes where the store is spilled, or home's free bytes
 -- are fewer.
-abbrev pub lacks_in : State → ℕ → Bool
+abbrev pub lacks_in : StoreState → ℕ → Bool
 lacks_in (Alone kept) size = nat_lt (fits.free_of kept) size
 lacks_in (Spilled kept) size = true
 lacks_in Spent size = true
@@ -152,7 +152,7 @@ raise armed store writes = if armed then 0 else (if lacks_room store writes then
 -- The bytes that a switch leaves free at least: those of a sector without its header and an entry
 -- of 66 bytes for each chunk of the storage, and of a spilled store without what is written and for
 -- each chunk that is left to copy.
-abbrev pub switch_leaves_in : State → Bytes → ℕ
+abbrev pub switch_leaves_in : StoreState → Bytes → ℕ
 switch_leaves_in (Alone kept) bytes = kept.sector_bytes - (header_bytes + copy_bytes * chunks)
 switch_leaves_in (Spilled kept) bytes = kept.sector_bytes - states.taken_of kept bytes
 switch_leaves_in Spent bytes = 0
@@ -161,7 +161,7 @@ abbrev pub switch_leaves : Store → ℕ
 switch_leaves store = switch_leaves_in store.state store.bytes
 
 -- the free bytes of home, which a spilled store doesn't use any more
-abbrev pub home_free_in : State → ℕ
+abbrev pub home_free_in : StoreState → ℕ
 home_free_in (Alone kept) = fits.free_of kept
 home_free_in (Spilled kept) = fits.free_of kept
 home_free_in Spent = 0
@@ -170,7 +170,7 @@ abbrev pub home_free : Store → ℕ
 home_free store = home_free_in store.state
 
 -- what holds of the log of home
-abbrev pub OnHomeIn : State → (Log → Type 0) → Type 0
+abbrev pub OnHomeIn : StoreState → (Log → Type 0) → Type 0
 OnHomeIn (Alone kept) P = P kept.home
 OnHomeIn (Spilled kept) P = P kept.home
 OnHomeIn Spent P = Unit {0}

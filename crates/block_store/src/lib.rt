@@ -14,12 +14,12 @@ ghost use Rattle.flash_traits.specs.Causes.{Rose};
 ghost use Rattle.storage_lines.specs.declared.lines.TheConstants.{STORAGE_BYTES};
 ghost use Rattle.storage_lines.specs.Lines.{after};
 ghost use Rattle.sector_image.specs.FirstBad.{FirstBad};
-ghost use Rattle.sector_image.specs.Stands.{Stands, Reads, is_alone as reads_alone, is_due};
+ghost use Rattle.sector_image.specs.Stands.{Stands, IsReadAs, is_alone as reads_alone, is_due};
 ghost use Rattle.sector_image.specs.Stands.{count_in, count_after};
 ghost use Rattle.sector_image.specs.Losses.{KeepsBytes};
 ghost use Rattle.sector_switch.specs.States.{CanServe, HomeAfter};
 ghost use Rattle.block_store.specs.declared.PutError.TheVariants.{NoRoom};
-ghost use Rattle.block_store.specs.Store.{Store, Fits, IsEntry, durable_of, is_alone, is_spilled};
+ghost use Rattle.block_store.specs.Store.{Store, Fits, AreOneEntry, durable_of, is_alone, is_spilled};
 ghost use Rattle.block_store.specs.Store.{is_spent, guard_of, guard_ahead, room_of, free_of};
 ghost use Rattle.block_store.specs.Store.{spare_of, home_free, switch_leaves, OnHome, entry_bytes};
 ghost use Rattle.block_store.specs.Store.{lacks_room, Voids, raise};
@@ -154,13 +154,13 @@ pub struct BlockStore {
 
 impl Model for BlockStore {
     ghost use Rattle.block_store.specs.Store.{Store};
-    ghost use Rattle.block_store.specs.Steps.Inside.{state_of, IsInside};
+    ghost use Rattle.block_store.specs.Steps.Inside.{state_of, HasBytesAndRoom};
 
     ghost Value = { Store };
 
     ghost view = { λ store. record { state = state_of store.state; bytes = store.images } };
 
-    ghost invariant = { λ store. IsInside (state_of store.state) store.images };
+    ghost invariant = { λ store. HasBytesAndRoom (state_of store.state) store.images };
 }
 
 impl BlockStore {
@@ -177,14 +177,14 @@ impl BlockStore {
         // the guard count rises by two where home is full, and by one where a sector is void;
         // nothing is done to an image that stands alone
         ensures guard { IfOk result (λ store. B.tells board.new → (reading : _)
-            → Reads (B.words board.old) reading → guard_of store ≡ count_after reading) }
-        ensures idle { B.tells board.new → (reading : _) → Reads (B.words board.old) reading
+            → IsReadAs (B.words board.old) reading → guard_of store ≡ count_after reading) }
+        ensures idle { B.tells board.new → (reading : _) → IsReadAs (B.words board.old) reading
             → IsTrue (reads_alone reading) → B.moment board.new ≡ B.moment board.old }
 
         // home has the log that was read, or no more than its entries and a copy of each chunk that
         // was left to copy
         ensures copied { IfOk result (λ store. B.tells board.new → (reading : _)
-            → Reads (B.words board.old) reading → OnHome store (HomeAfter reading)) }
+            → IsReadAs (B.words board.old) reading → OnHome store (HomeAfter reading)) }
 
         // words that are no image are left alone
         ensures left_alone { B.tells board.new → (place : _) → FirstBad (B.words board.old) place
@@ -196,11 +196,11 @@ impl BlockStore {
 
         // exactly where home is full and the count is 8,192
         ensures worn { IfErr result (λ e. OnOpenWorn e (λ count. (count ≡ GUARD_HALFWORDS)
-            × (B.tells board.new → (reading : _) × Reads (B.words board.old) reading
+            × (B.tells board.new → (reading : _) × IsReadAs (B.words board.old) reading
             × IsTrue (is_due reading) × (count_in reading ≡ GUARD_HALFWORDS)))) }
         ensures worn_copied { IfErr result (λ e. OnOpenWorn e (λ count. (bytes : _)
             × IsWorn B.Board board.new bytes)) }
-        ensures used_up { B.tells board.new → (reading : _) → Reads (B.words board.old) reading
+        ensures used_up { B.tells board.new → (reading : _) → IsReadAs (B.words board.old) reading
             → IsTrue (is_due reading) → count_in reading ≡ GUARD_HALFWORDS → IfOk result (λ _. ⊥) }
 
         ensures memory { IfErr result (λ e. OnMemory e (board.new ≡ board.old)) }
@@ -265,7 +265,7 @@ impl BlockStore {
         armed: bool,
     ) -> Result<(), PutError>
         requires fits { Fits B.Board board.old self.old }
-        requires entry { IsEntry lines.now }
+        requires entry { AreOneEntry lines.now }
 
         ensures fits { OnOk result (Fits B.Board board.new self.new) }
         ensures put { OnOk result (durable_of self.new ≡ after (durable_of self.old) lines.now) }

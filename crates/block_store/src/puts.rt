@@ -9,14 +9,14 @@ ghost use Rattle.flash_traits.specs.Calls.{Changes, ErasesNothing};
 ghost use Rattle.flash_traits.specs.Causes.{HasCause, Rose};
 ghost use Rattle.flash_traits.specs.Values.{put};
 ghost use Rattle.flash_traits.specs.Budget.{header_bytes, copy_bytes};
-ghost use Rattle.sector_log.specs.Appends.{AreLines};
+ghost use Rattle.sector_log.specs.Appends.{AreWholeLines};
 ghost use Rattle.sector_image.specs.Losses.{KeepsBytes, Puts, MayPut};
 ghost use Rattle.sector_image.specs.Fits as fits;
 ghost use Rattle.sector_image.specs.Fits.{FitsAlone};
 ghost use Rattle.block_store.specs.Store.{FitsState, in_one_sector, in_both_sectors, guard_in};
 ghost use Rattle.block_store.specs.Store.{room_in, free_in, spare_in, lacks_in, switch_leaves_in};
 ghost use Rattle.block_store.specs.Store.{home_free_in};
-ghost use Rattle.block_store.specs.Steps.Inside.{state_of, IsInside, due_in};
+ghost use Rattle.block_store.specs.Steps.Inside.{state_of, HasBytesAndRoom, due_in};
 ghost use Rattle.block_store.specs.Steps.Entries.{PutsEntry, MayPutEntry};
 ghost use Rattle.block_store.specs.Steps.Calls.{OnlyPrograms, FindsRoom};
 ghost use Rattle.block_store.specs.Refusals.{OnWorn, IsWornWith};
@@ -35,13 +35,13 @@ fn go_on<B: Board>(
     size: u32,
 ) -> Result<State, Fault>
     requires fits { FitsState B.Board board.old (state_of state) images.old }
-    requires inside { IsInside (state_of state) images.old }
+    requires inside { HasBytesAndRoom (state_of state) images.old }
     requires size { size ≤ copy_bytes }
     requires room { IsTrue (in_both_sectors (state_of state))
         → size ≤ room_in (state_of state) images.old }
     ensures whole { images.new.whole ≡ images.old.whole }
     ensures fits { IfOk result (λ next. FitsState B.Board board.new (state_of next) images.new) }
-    ensures inside { IfOk result (λ next. IsInside (state_of next) images.new) }
+    ensures inside { IfOk result (λ next. HasBytesAndRoom (state_of next) images.new) }
     ensures room { IfOk result (λ next. size ≤ room_in (state_of next) images.new) }
     ensures stays { IfOk result (λ next. IsFalse (lacks_in (state_of state) size)
         → IsTrue (in_one_sector (state_of next))) }
@@ -77,7 +77,7 @@ fn free_home<B: Board>(
     size: u32,
 ) -> Result<Alone, PutError>
     requires fits { FitsState B.Board board.old (state_of state) images.old }
-    requires inside { IsInside (state_of state) images.old }
+    requires inside { HasBytesAndRoom (state_of state) images.old }
     requires size { size ≤ copy_bytes }
     ensures whole { images.new.whole ≡ images.old.whole }
     ensures fits { IfOk result (λ alone. FitsAlone B.Board board.new alone images.new) }
@@ -122,11 +122,11 @@ fn append<B: Board>(
     bytes: &[u8],
 ) -> Result<State, Fault>
     requires fits { FitsState B.Board board.old (state_of state) images.old }
-    requires inside { IsInside (state_of state) images.old }
-    requires lines { AreLines first bytes.now }
+    requires inside { HasBytesAndRoom (state_of state) images.old }
+    requires lines { AreWholeLines first bytes.now }
     requires room { 2 + length bytes.now ≤ room_in (state_of state) images.old }
     ensures fits { IfOk result (λ next. FitsState B.Board board.new (state_of next) images.new) }
-    ensures inside { IfOk result (λ next. IsInside (state_of next) images.new) }
+    ensures inside { IfOk result (λ next. HasBytesAndRoom (state_of next) images.new) }
     ensures put { OnOk result (images.new.whole ≡ put (8 * first) bytes.now images.old.whole) }
     ensures err { OnErr result (images.new ≡ images.old) }
     ensures alone { IfOk result (λ next. in_one_sector (state_of next)
@@ -166,12 +166,12 @@ pub(crate) fn put_armed<B: Board>(
     bytes: &[u8],
 ) -> Result<State, Fault>
     requires fits { FitsState B.Board board.old (state_of state) images.old }
-    requires inside { IsInside (state_of state) images.old }
-    requires lines { AreLines first bytes.now }
+    requires inside { HasBytesAndRoom (state_of state) images.old }
+    requires lines { AreWholeLines first bytes.now }
     requires room { IsTrue (in_both_sectors (state_of state))
         → 2 + length bytes.now ≤ room_in (state_of state) images.old }
     ensures fits { IfOk result (λ next. FitsState B.Board board.new (state_of next) images.new) }
-    ensures inside { IfOk result (λ next. IsInside (state_of next) images.new) }
+    ensures inside { IfOk result (λ next. HasBytesAndRoom (state_of next) images.new) }
     ensures put { OnOk result (images.new.whole ≡ put (8 * first) bytes.now images.old.whole) }
     ensures kept { OnErr result (images.new.whole ≡ images.old.whole) }
     ensures stays { IfOk result (λ next. IsFalse (lacks_in (state_of state) (2 + length bytes.now))
@@ -201,10 +201,10 @@ pub(crate) fn put_unarmed<B: Board>(
     bytes: &[u8],
 ) -> Result<State, PutError>
     requires fits { FitsState B.Board board.old (state_of state) images.old }
-    requires inside { IsInside (state_of state) images.old }
-    requires lines { AreLines first bytes.now }
+    requires inside { HasBytesAndRoom (state_of state) images.old }
+    requires lines { AreWholeLines first bytes.now }
     ensures fits { IfOk result (λ next. FitsState B.Board board.new (state_of next) images.new) }
-    ensures inside { IfOk result (λ next. IsInside (state_of next) images.new) }
+    ensures inside { IfOk result (λ next. HasBytesAndRoom (state_of next) images.new) }
     ensures put { OnOk result (images.new.whole ≡ put (8 * first) bytes.now images.old.whole) }
     ensures kept { OnErr result (images.new.whole ≡ images.old.whole) }
     ensures alone { IfOk result (λ next. IsTrue (in_one_sector (state_of next))) }

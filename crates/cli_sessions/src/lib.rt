@@ -15,4 +15,6 @@ mod memory;
 #[cfg(test)]
 mod realistic;
 #[cfg(test)]
+mod replays;
+#[cfg(test)]
 mod texts;

@@ -9,7 +9,7 @@ use Rattle.clap.specs.Kinds.{Kinds}
 use Rattle.clap.specs.Faults.{positional_fault, settle_fault}
 use Rattle.clap.specs.declared.builder.action.ArgAction.TheVariants.{Append}
 use Rattle.clap.specs.declared.builder.value_parser.ValueParser.TheVariants as vp
-use Rattle.command_line.specs.Arguments.{Argument, Text, stands_alone, ends_options, refused, operand, option_value, role_of, role_if_named, is_named, name_in, value_in}
+use Rattle.command_line.specs.Arguments.{Argument, Text, stands_alone, ends_options, refused, operand, option_value, role_of, role_if_named, is_named, name_in, value_after_equals}
 
 abbrev pub image_rule : Rule
 image_rule = record (new_rule (codes "IMAGE")) {
@@ -85,7 +85,7 @@ class_of names (x ∷ y ∷ rest) = two (x == 45) refl (y == 45) refl rest
         (rw (e, f) refl)
     two true e true f [] = is_end (rw (e, f) refl) (rw (e, f) refl)
     two true e true f (z ∷ zs) =
-        is_long (name_in (z ∷ zs)) (value_in (z ∷ zs)) (rw (e, f) refl) (rw (e, f) refl) (rw (e, f) refl)
+        is_long (name_in (z ∷ zs)) (value_after_equals (z ∷ zs)) (rw (e, f) refl) (rw (e, f) refl) (rw (e, f) refl)
 
 -- ---- the positional takes one value a use, and any number of uses
 

@@ -21,7 +21,7 @@ use Rattle.clap.proofs.WalkLemmas.{raw_values-rows}
 use Rattle.clap.specs.declared.parser.matches.ArgMatches.{ArgMatches}
 use Rattle.command_line.specs.Arguments.{Argument, Text, is_named, arguments}
 use Rattle.command_line.specs.App.{app_of_rules, app_with, option_arg, image_arg}
-use Rattle.command_line.specs.Matches.{AreTexts, Reads, Says}
+use Rattle.command_line.specs.Matches.{AreTexts, ReadsWords, HoldsArguments}
 use Rattle.command_line.proofs.Building.{follows, image_id}
 use Rattle.command_line.proofs.Classes.{Agrees, put}
 use Rattle.command_line.proofs.Values.{Named, values_put, arguments_named, operands_put, vals}
@@ -39,7 +39,7 @@ one_more xs i x lt =
     (sym (map-append option_arg (map (λ (n : Bor Text). n.now) (take i xs)) ((get_or xs i x).now ∷ [])) ∙ ap (map option_arg) (sym more))
 
 says_from : (names : List Text) (ps : List Argument) (m : ArgMatches) → is_named names image_id ≡ false
-    → Named names ps → rows_of (found_of m) ≡ put [] ps → Says names ps m
+    → Named names ps → rows_of (found_of m) ≡ put [] ps → HoldsArguments names ps m
 says_from names ps m apart n is = record {
   operands_are = ap (λ (r : Option (List Text)). unwrap_or r []) (raw_values-rows (found_of m) image_id)
       ∙ ap (vals image_id) is ∙ operands_put names ps [] apart n;
@@ -55,19 +55,19 @@ says_from names ps m apart n is = record {
 
 some_says : (names : List Text) (r : Option (List Argument)) (m : ArgMatches) (fault : Kinds) (rows : List Row)
     → is_named names image_id ≡ false → IfSome r (Named names) → Agrees r fault [] rows
-    → fault ≡ [] → rows_of (found_of m) ≡ rows → Reads names r (Some m)
+    → fault ≡ [] → rows_of (found_of m) ≡ rows → ReadsWords names r (Some m)
 some_says names None m fault rows apart n agrees none is = absurd (true≢false (sym (ap is_empty none) ∙ agrees))
 some_says names (Some ps) m fault rows apart n agrees none is = says_from names ps m apart n (is ∙ agrees.1)
 
 none_says : (names : List Text) (r : Option (List Argument)) (fault : Kinds) (rows : List Row)
-    → Agrees r fault [] rows → fault ≢ [] → Reads names r None
+    → Agrees r fault [] rows → fault ≢ [] → ReadsWords names r None
 none_says names None fault rows agrees none = tt
 none_says names (Some ps) fault rows agrees none = absurd (none agrees.0)
 
 pub reads_some : (names : List Text) (words : List Text) (m : ArgMatches) → is_named names image_id ≡ false
     → All HasFirst (drop 1 words) → fault_of (app_with names) words ≡ []
     → rows_of (found_of m) ≡ matches_of (app_with names) words
-    → Reads names (arguments names None (drop 1 words)) (Some m)
+    → ReadsWords names (arguments names None (drop 1 words)) (Some m)
 reads_some names words m apart first none is =
     some_says names (arguments names None (drop 1 words)) m (fault_of (app_with names) words)
     (matches_of (app_with names) words) apart
@@ -75,7 +75,7 @@ reads_some names words m apart first none is =
 
 pub reads_none : (names : List Text) (words : List Text) → is_named names image_id ≡ false
     → All HasFirst (drop 1 words) → fault_of (app_with names) words ≢ []
-    → Reads names (arguments names None (drop 1 words)) None
+    → ReadsWords names (arguments names None (drop 1 words)) None
 reads_none names words apart first none =
     none_says names (arguments names None (drop 1 words)) (fault_of (app_with names) words)
     (matches_of (app_with names) words) (follows names apart words first) none

@@ -6,7 +6,7 @@ use Rattle.std.proofs.lemmas.Slice.Eq.{bytes_eq-Decides}
 use Rattle.clap.specs.Walk.{Row, all_of, with_values}
 use Rattle.clap.specs.declared.builder.value_parser.Reading.{Reading}
 use Rattle.clap.specs.declared.parser.matches.ValueSource.{ValueSource}
-use Rattle.command_line.specs.Arguments.{Argument, Text, Role, stands_alone, ends_options, opens, gives, refused, operand, option_value, arguments, arguments_from, arguments_waited, with_argument, role_of, is_named, option_role, name_in, value_in, role_after_dashes, operands, values_of}
+use Rattle.command_line.specs.Arguments.{Argument, Text, Role, stands_alone, ends_options, opens, gives, refused, operand, option_value, arguments, arguments_from, arguments_waited, with_argument, role_of, is_named, option_role, name_in, value_after_equals, role_after_dashes, operands, values_of}
 use Rattle.command_line.proofs.Classes.{put}
 use Rattle.command_line.proofs.Building.{image_id}
 
@@ -94,7 +94,7 @@ named_word names name (Some v) true e = e
 after_named : (names : List Text) (rest : Text) → IsNamedWord names (role_after_dashes names rest)
 after_named names [] = tt
 after_named names (x ∷ xs) =
-    named_word names (name_in (x ∷ xs)) (value_in (x ∷ xs)) (is_named names (name_in (x ∷ xs))) refl
+    named_word names (name_in (x ∷ xs)) (value_after_equals (x ∷ xs)) (is_named names (name_in (x ∷ xs))) refl
 
 word_named : (names : List Text) (word : Text) → IsNamedWord names (role_of names word)
 word_named names [] = tt

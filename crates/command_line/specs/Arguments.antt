@@ -39,14 +39,15 @@ role_if_named names name value = if is_named names name then option_role name va
 abbrev pub name_in : Text → Text
 name_in text = before_first (λ b. b == 0x3D) text
 
-abbrev pub value_in : Text → Option Text
-value_in text =
+abbrev pub value_after_equals : Text → Option Text
+value_after_equals text =
     if list_any (λ b. b == 0x3D) text then Some (after_first (λ b. b == 0x3D) text) else None
 
 -- the role of the word that is `--` and then this text
 abbrev pub role_after_dashes : List Text → Text → Role
 role_after_dashes names [] = ends_options
-role_after_dashes names (x ∷ xs) = role_if_named names (name_in (x ∷ xs)) (value_in (x ∷ xs))
+role_after_dashes names (x ∷ xs) =
+    role_if_named names (name_in (x ∷ xs)) (value_after_equals (x ∷ xs))
 
 -- the role of a word, for a command with options of these names; 0x2D is `-`
 abbrev pub role_of : List Text → Text → Role

@@ -12,7 +12,7 @@ use Rattle.std.specs.Prelude.{option_and_then, option_map, slice_get}
 use Rattle.std.specs.Str.{bytes_eq}
 use Rattle.flash_traits.specs.Words.{is_size}
 use Rattle.command_line.specs.Arguments.{Argument, Text, arguments, operands, values_of}
-use Rattle.command_line.specs.Numbers.{number_given, number_in, only}
+use Rattle.command_line.specs.Numbers.{number_given, number_in, only_text}
 
 pub data CommandLine : Type 0 where
   -- IMAGE, the UDP port and the number of turns
@@ -38,7 +38,7 @@ serve_options = codes "port" ∷ codes "turns" ∷ []
 -- P is from 1 to 65535, and 14550 where it is not given; N is from 1 to 4294967295, and that where
 -- it is not given.
 abbrev pub serve_says : List Text → List Text → List Text → Option CommandLine
-serve_says images ports turns = serve_with (only images) (number_given 1 65535 14550 ports)
+serve_says images ports turns = serve_with (only_text images) (number_given 1 65535 14550 ports)
     (number_given 1 4294967295 4294967295 turns)
 
 abbrev pub serve_from : Option (List Argument) → Option CommandLine
@@ -61,7 +61,7 @@ format_size_in n = if is_size n then Some n else None
 -- S is one of these sizes, and 131072 where it is not given.
 abbrev pub format_says : List Text → List Text → Option CommandLine
 format_says images sectors =
-    format_with (only images)
+    format_with (only_text images)
     (option_and_then format_size_in (number_given 16384 131072 131072 sectors))
 
 abbrev pub format_from : Option (List Argument) → Option CommandLine
@@ -73,21 +73,21 @@ abbrev pub no_options : List Text
 no_options = []
 
 abbrev pub replay_says : List Text → Option CommandLine
-replay_says images = option_map replay (only images)
+replay_says images = option_map replay (only_text images)
 
 abbrev pub replay_from : Option (List Argument) → Option CommandLine
 replay_from None = None
 replay_from (Some args) = replay_says (operands args)
 
 abbrev pub dump_says : List Text → Option CommandLine
-dump_says images = option_map dump (only images)
+dump_says images = option_map dump (only_text images)
 
 abbrev pub dump_from : Option (List Argument) → Option CommandLine
 dump_from None = None
 dump_from (Some args) = dump_says (operands args)
 
 abbrev pub report_says : List Text → Option CommandLine
-report_says images = option_map report (only images)
+report_says images = option_map report (only_text images)
 
 abbrev pub report_from : Option (List Argument) → Option CommandLine
 report_from None = None
@@ -95,7 +95,7 @@ report_from (Some args) = report_says (operands args)
 
 -- `gen N`: N is from 1 to 1000
 abbrev pub gen_says : List Text → Option CommandLine
-gen_says numbers = option_map gen (option_and_then (number_in 1 1000) (only numbers))
+gen_says numbers = option_map gen (option_and_then (number_in 1 1000) (only_text numbers))
 
 abbrev pub gen_from : Option (List Argument) → Option CommandLine
 gen_from None = None

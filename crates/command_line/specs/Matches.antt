@@ -16,13 +16,13 @@ abbrev pub texts_of : ArgMatches → Text → List Text
 texts_of m id = unwrap_or (option_map raw_values (matched_of (found_of m) id)) []
 
 -- the matches hold the operands and each option's values
-pub record Says (names : List Text) (args : List Argument) (m : ArgMatches) : Type 0 where
+pub record HoldsArguments (names : List Text) (args : List Argument) (m : ArgMatches) : Type 0 where
   pub operands_are : texts_of m (codes "IMAGE") ≡ operands args
   pub values_are : (name : Text) → is_named names name ≡ true
       → texts_of m name ≡ values_of name args
 
 -- there are matches exactly where there are arguments, and they say the same
-abbrev pub Reads : List Text → Option (List Argument) → Option ArgMatches → Type 0
-Reads names None None = Unit {0}
-Reads names (Some args) (Some m) = Says names args m
-Reads names _ _ = ⊥
+abbrev pub ReadsWords : List Text → Option (List Argument) → Option ArgMatches → Type 0
+ReadsWords names None None = Unit {0}
+ReadsWords names (Some args) (Some m) = HoldsArguments names args m
+ReadsWords names _ _ = ⊥

@@ -23,6 +23,6 @@ number_given low high absent (v ∷ []) = number_in low high v
 number_given low high absent (v ∷ w ∷ rest) = None
 
 -- the text, where there is exactly one
-abbrev pub only : List Text → Option Text
-only (v ∷ []) = Some v
-only _ = None
+abbrev pub only_text : List Text → Option Text
+only_text (v ∷ []) = Some v
+only_text _ = None

@@ -3,7 +3,7 @@
 
 ghost use Rattle.std.specs.Prelude.{◌≡◌, IfOk, IfSome, None, map, option_map, drop, codes};
 ghost use Rattle.command_line.specs.Arguments.{arguments};
-ghost use Rattle.command_line.specs.Commands.{IsFormatSize, IsInRange, line_of};
+ghost use Rattle.command_line.specs.Commands.{IsFormatSize, HasNumbersInRange, command_line_of};
 ghost use Rattle.command_line.specs.Lines.{dump_from, dump_says, format_from, format_options};
 ghost use Rattle.command_line.specs.Lines.{format_says, line_of_words, no_options, replay_from};
 ghost use Rattle.command_line.specs.Lines.{replay_says, report_from, report_says, format_size_in};
@@ -65,9 +65,10 @@ static SERVE_OPTIONS: [&str; 2] = ["port", "turns"];
 
 /// What the matches of `serve` say.
 fn serve_said<'a>(matches: &ArgMatches<'a>) -> Option<Command<'a>>
-    ensures value { option_map line_of result ≡ serve_says (texts_of matches.now (codes "IMAGE"))
+    ensures value { option_map command_line_of result
+        ≡ serve_says (texts_of matches.now (codes "IMAGE"))
         (texts_of matches.now (codes "port")) (texts_of matches.now (codes "turns")) }
-    ensures ranges { IfSome result IsInRange }
+    ensures ranges { IfSome result HasNumbersInRange }
 {
     let Some(image) = only_operand(matches) else {
         return None;
@@ -87,9 +88,9 @@ fn serve_said<'a>(matches: &ArgMatches<'a>) -> Option<Command<'a>>
 
 /// `serve IMAGE [--port P] [--turns N]`, from all the words.
 fn serve<'a>(alloc: Global, words: &'a [&'a str]) -> Result<Option<Command<'a>>, AllocError>
-    ensures value { IfOk result (λ r. option_map line_of r
+    ensures value { IfOk result (λ r. option_map command_line_of r
         ≡ serve_from (arguments serve_options None (drop 1 (map (λ s. s.now) words.entry.now)))) }
-    ensures ranges { IfOk result (λ r. IfSome r IsInRange) }
+    ensures ranges { IfOk result (λ r. IfSome r HasNumbersInRange) }
 {
     match read(alloc, SERVE_OPTIONS.as_slice(), words) {
         Err(error) => Err(error),
@@ -114,9 +115,10 @@ fn format_size(number: u32) -> Option<u32>
 
 /// What the matches of `format` say.
 fn format_said<'a>(matches: &ArgMatches<'a>) -> Option<Command<'a>>
-    ensures value { option_map line_of result ≡ format_says (texts_of matches.now (codes "IMAGE"))
+    ensures value { option_map command_line_of result
+        ≡ format_says (texts_of matches.now (codes "IMAGE"))
         (texts_of matches.now (codes "sector")) }
-    ensures ranges { IfSome result IsInRange }
+    ensures ranges { IfSome result HasNumbersInRange }
 {
     let Some(image) = only_operand(matches) else {
         return None;
@@ -132,9 +134,9 @@ fn format_said<'a>(matches: &ArgMatches<'a>) -> Option<Command<'a>>
 
 /// `format IMAGE [--sector S]`, from all the words.
 fn format<'a>(alloc: Global, words: &'a [&'a str]) -> Result<Option<Command<'a>>, AllocError>
-    ensures value { IfOk result (λ r. option_map line_of r
+    ensures value { IfOk result (λ r. option_map command_line_of r
         ≡ format_from (arguments format_options None (drop 1 (map (λ s. s.now) words.entry.now)))) }
-    ensures ranges { IfOk result (λ r. IfSome r IsInRange) }
+    ensures ranges { IfOk result (λ r. IfSome r HasNumbersInRange) }
 {
     match read(alloc, FORMAT_OPTIONS.as_slice(), words) {
         Err(error) => Err(error),
@@ -147,8 +149,9 @@ static NO_OPTIONS: [&str; 0] = [];
 
 /// What the matches of `replay` say.
 fn replay_said<'a>(matches: &ArgMatches<'a>) -> Option<Command<'a>>
-    ensures value { option_map line_of result ≡ replay_says (texts_of matches.now (codes "IMAGE")) }
-    ensures ranges { IfSome result IsInRange }
+    ensures value { option_map command_line_of result
+        ≡ replay_says (texts_of matches.now (codes "IMAGE")) }
+    ensures ranges { IfSome result HasNumbersInRange }
 {
     let Some(image) = only_operand(matches) else {
         return None;
@@ -158,9 +161,9 @@ fn replay_said<'a>(matches: &ArgMatches<'a>) -> Option<Command<'a>>
 
 /// `replay IMAGE`, from all the words.
 fn replay<'a>(alloc: Global, words: &'a [&'a str]) -> Result<Option<Command<'a>>, AllocError>
-    ensures value { IfOk result (λ r. option_map line_of r
+    ensures value { IfOk result (λ r. option_map command_line_of r
         ≡ replay_from (arguments no_options None (drop 1 (map (λ s. s.now) words.entry.now)))) }
-    ensures ranges { IfOk result (λ r. IfSome r IsInRange) }
+    ensures ranges { IfOk result (λ r. IfSome r HasNumbersInRange) }
 {
     match read(alloc, NO_OPTIONS.as_slice(), words) {
         Err(error) => Err(error),
@@ -171,8 +174,9 @@ fn replay<'a>(alloc: Global, words: &'a [&'a str]) -> Result<Option<Command<'a>>
 
 /// What the matches of `dump` say.
 fn dump_said<'a>(matches: &ArgMatches<'a>) -> Option<Command<'a>>
-    ensures value { option_map line_of result ≡ dump_says (texts_of matches.now (codes "IMAGE")) }
-    ensures ranges { IfSome result IsInRange }
+    ensures value { option_map command_line_of result
+        ≡ dump_says (texts_of matches.now (codes "IMAGE")) }
+    ensures ranges { IfSome result HasNumbersInRange }
 {
     let Some(image) = only_operand(matches) else {
         return None;
@@ -182,9 +186,9 @@ fn dump_said<'a>(matches: &ArgMatches<'a>) -> Option<Command<'a>>
 
 /// `dump IMAGE`, from all the words.
 fn dump<'a>(alloc: Global, words: &'a [&'a str]) -> Result<Option<Command<'a>>, AllocError>
-    ensures value { IfOk result (λ r. option_map line_of r
+    ensures value { IfOk result (λ r. option_map command_line_of r
         ≡ dump_from (arguments no_options None (drop 1 (map (λ s. s.now) words.entry.now)))) }
-    ensures ranges { IfOk result (λ r. IfSome r IsInRange) }
+    ensures ranges { IfOk result (λ r. IfSome r HasNumbersInRange) }
 {
     match read(alloc, NO_OPTIONS.as_slice(), words) {
         Err(error) => Err(error),
@@ -195,8 +199,9 @@ fn dump<'a>(alloc: Global, words: &'a [&'a str]) -> Result<Option<Command<'a>>, 
 
 /// What the matches of `report` say.
 fn report_said<'a>(matches: &ArgMatches<'a>) -> Option<Command<'a>>
-    ensures value { option_map line_of result ≡ report_says (texts_of matches.now (codes "IMAGE")) }
-    ensures ranges { IfSome result IsInRange }
+    ensures value { option_map command_line_of result
+        ≡ report_says (texts_of matches.now (codes "IMAGE")) }
+    ensures ranges { IfSome result HasNumbersInRange }
 {
     let Some(image) = only_operand(matches) else {
         return None;
@@ -206,9 +211,9 @@ fn report_said<'a>(matches: &ArgMatches<'a>) -> Option<Command<'a>>
 
 /// `report IMAGE`, from all the words.
 fn report<'a>(alloc: Global, words: &'a [&'a str]) -> Result<Option<Command<'a>>, AllocError>
-    ensures value { IfOk result (λ r. option_map line_of r
+    ensures value { IfOk result (λ r. option_map command_line_of r
         ≡ report_from (arguments no_options None (drop 1 (map (λ s. s.now) words.entry.now)))) }
-    ensures ranges { IfOk result (λ r. IfSome r IsInRange) }
+    ensures ranges { IfOk result (λ r. IfSome r HasNumbersInRange) }
 {
     match read(alloc, NO_OPTIONS.as_slice(), words) {
         Err(error) => Err(error),
@@ -222,8 +227,9 @@ const MOST_ROUNDS: u32 = 1000;
 
 /// What the matches of `gen` say.
 fn gen_said<'a>(matches: &ArgMatches<'a>) -> Option<Command<'a>>
-    ensures value { option_map line_of result ≡ gen_says (texts_of matches.now (codes "IMAGE")) }
-    ensures ranges { IfSome result IsInRange }
+    ensures value { option_map command_line_of result
+        ≡ gen_says (texts_of matches.now (codes "IMAGE")) }
+    ensures ranges { IfSome result HasNumbersInRange }
 {
     let Some(text) = only_operand(matches) else {
         return None;
@@ -238,9 +244,9 @@ fn gen_said<'a>(matches: &ArgMatches<'a>) -> Option<Command<'a>>
 
 /// `gen N`, from all the words.
 fn gen_command<'a>(alloc: Global, words: &'a [&'a str]) -> Result<Option<Command<'a>>, AllocError>
-    ensures value { IfOk result (λ r. option_map line_of r
+    ensures value { IfOk result (λ r. option_map command_line_of r
         ≡ gen_from (arguments no_options None (drop 1 (map (λ s. s.now) words.entry.now)))) }
-    ensures ranges { IfOk result (λ r. IfSome r IsInRange) }
+    ensures ranges { IfOk result (λ r. IfSome r HasNumbersInRange) }
 {
     match read(alloc, NO_OPTIONS.as_slice(), words) {
         Err(error) => Err(error),
@@ -261,9 +267,9 @@ pub fn command_of<'a>(
     alloc: Global,
     words: &'a [&'a str],
 ) -> Result<Option<Command<'a>>, AllocError>
-    ensures value { IfOk result (λ r. option_map line_of r
+    ensures value { IfOk result (λ r. option_map command_line_of r
         ≡ line_of_words (map (λ s. s.now) words.entry.now)) }
-    ensures ranges { IfOk result (λ r. IfSome r IsInRange) }
+    ensures ranges { IfOk result (λ r. IfSome r HasNumbersInRange) }
 {
     if words.is_empty() {
         return Ok(None);

@@ -5,8 +5,8 @@ ghost use Rattle.std.specs.Str.{IsUtf8};
 ghost use Rattle.clap.specs.Words.{FailsBy, fault_of, found_of, matches_of, rows_of};
 ghost use Rattle.command_line.specs.App.{app_with};
 ghost use Rattle.command_line.specs.Arguments.{arguments, is_named};
-ghost use Rattle.command_line.specs.Matches.{AreTexts, Reads, texts_of};
-ghost use Rattle.command_line.specs.Numbers.{number_given, only};
+ghost use Rattle.command_line.specs.Matches.{AreTexts, ReadsWords, texts_of};
+ghost use Rattle.command_line.specs.Numbers.{number_given, only_text};
 
 use crate::number::number_of;
 use clap::error::ErrorKind;
@@ -61,7 +61,7 @@ pub fn read<'a>(
     words: &'a [&'a str],
 ) -> Result<Option<ArgMatches<'a>>, AllocError>
     requires apart { is_named (map (λ n. n.now) names.now) (codes "IMAGE") ≡ false }
-    ensures { IfOk result (Reads (map (λ n. n.now) names.entry.now)
+    ensures { IfOk result (ReadsWords (map (λ n. n.now) names.entry.now)
         (arguments (map (λ n. n.now) names.entry.now) None
         (drop 1 (map (λ s. s.now) words.entry.now)))) }
 {
@@ -105,7 +105,7 @@ pub fn number_given_to(
 
 /// The operand, where there is exactly one. `clap` has it under the name IMAGE.
 pub fn only_operand<'a>(matches: &ArgMatches<'a>) -> Option<&'a str>
-    ensures { option_map (λ t. t.now) result ≡ only (texts_of matches.now (codes "IMAGE")) }
+    ensures { option_map (λ t. t.now) result ≡ only_text (texts_of matches.now (codes "IMAGE")) }
 {
     match matches.get_raw("IMAGE") {
         None => None,

@@ -17,7 +17,7 @@ use Rattle.sector_image.specs.Fits as fits
 use Rattle.sector_image.specs.Images.{Bytes}
 use Rattle.sector_image.proofs.ImageLaws.{one_value}
 use Rattle.sector_image.proofs.Standing.{raises_none, raises_then}
-use Rattle.block_store.specs.Store.{State, Alone, Spilled, Spent, Store, Fits, FitsState, durable_of, guard_of, guard_ahead, free_of, free_in, spare_of, room_of, room_in, home_free, home_free_in, is_alone, is_spilled, is_spent, in_one_sector, in_both_sectors, has_failed, entry_bytes, lacks_in, lacks_room, Voids, raise}
+use Rattle.block_store.specs.Store.{StoreState, Alone, Spilled, Spent, Store, Fits, FitsState, durable_of, guard_of, guard_ahead, free_of, free_in, spare_of, room_of, room_in, home_free, home_free_in, is_alone, is_spilled, is_spent, in_one_sector, in_both_sectors, has_failed, entry_bytes, lacks_in, lacks_room, Voids, raise}
 use Rattle.block_store.specs.Refusals.{OnWorn, IsWornWith}
 use Rattle.block_store.specs.declared.PutError.{PutError}
 use Rattle.block_store.specs.declared.PutError.TheVariants as put_error
@@ -26,7 +26,7 @@ use Rattle.block_store.specs.Losses.{PutsLines, MayPutLines}
 use Rattle.dirty_lines.specs.Lines.{Lines, lines_of}
 use Rattle.dirty_lines.specs.Entries.{IsLongest, CutIntoEntries, joined}
 use Rattle.dirty_lines.specs.Losses.{PutsFirst, MayPutFirst, MayPutNext, NextExceeds, NextVoids, IsWornForNext}
-use Rattle.dirty_lines.specs.Steps.Flushing.{HasPut, HasLeft, Refuses}
+use Rattle.dirty_lines.specs.Steps.Flushing.{HasPutEntries, HasLeft, Refuses}
 use Rattle.dirty_lines.proofs.RunLemmas.{one_next}
 use Rattle.dirty_lines.proofs.Cuts.{entries_few, cut_then, joined_one, length-joined, after-joined, fewest_more, wrote_then, wrote_none}
 
@@ -48,7 +48,7 @@ raise_fits false true has = absurd (cc)
 raise_fits false false has = omega arith
 
 -- where there was room, it falls by what is taken
-room_put : {B : Type 0} (g : Ghosts B) (a b : B) (s t : State) (old new : Bytes) (size : ℕ) → FitsState g a s old → FitsState g b t new → g.sector_bytes b ≡ g.sector_bytes a → IsFalse (lacks_in s size)
+room_put : {B : Type 0} (g : Ghosts B) (a b : B) (s t : StoreState) (old new : Bytes) (size : ℕ) → FitsState g a s old → FitsState g b t new → g.sector_bytes b ≡ g.sector_bytes a → IsFalse (lacks_in s size)
     → IsTrue (in_one_sector t) → free_in t + size ≡ free_in s → room_in t new + size ≡ room_in s old
 room_put g a b (Alone kept) (Alone next) old new size was now geometry has alone free = omega (arith, was.0.home.size, now.0.home.size, geometry, free)
 room_put g a b (Alone kept) (Spilled next) old new size was now geometry has alone free = absurd (cc)
@@ -213,7 +213,7 @@ module _ {B : Type 0} (g : Ghosts B) (reads : (b : B) (o : Outcome) → g.now b 
   changes_first {a} xs pending rest cut changes = first_words g reads (MayPutFirst pending) (PutsFirst 0 pending rest) changes (λ t o is. is) (λ t o is. puts_first xs pending rest (g.words a) o cut is)
 
   -- what was put so far, and more
-  pub put_then : {a b c : B} (xs ys : List (List LineWrite)) (armed : Bool) (old mid new : Lines) → HasPut g armed xs old mid a b → HasPut g armed ys mid new b c → HasPut g armed (xs ++ ys) old new a c
+  pub put_then : {a b c : B} (xs ys : List (List LineWrite)) (armed : Bool) (old mid new : Lines) → HasPutEntries g armed xs old mid a b → HasPutEntries g armed ys mid new b c → HasPutEntries g armed (xs ++ ys) old new a c
   put_then {a} {b} {c} xs ys armed old mid new first second = record {
     wrote = wrote_then xs ys armed old mid new first.wrote second.wrote (fits_whole g b mid.store first.fits) first.rises second.rises;
     fits = second.fits;
@@ -225,7 +225,7 @@ module _ {B : Type 0} (g : Ghosts B) (reads : (b : B) (o : Outcome) → g.now b 
     counts = λ k. omega (arith, first.counts k, second.counts k);
   }
 
-  pub put_none : (a : B) (armed : Bool) (lines : Lines) → Fits g a lines.store → HasPut g armed [] lines lines a a
+  pub put_none : (a : B) (armed : Bool) (lines : Lines) → Fits g a lines.store → HasPutEntries g armed [] lines lines a a
   put_none a armed lines fits = record {
     wrote = wrote_none armed lines;
     fits = fits;
@@ -247,7 +247,7 @@ module _ {B : Type 0} (g : Ghosts B) (reads : (b : B) (o : Outcome) → g.now b 
       → (Voids armed store entry → guard_of store ≡ GUARD_HALFWORDS → ⊥)
       → Changes g a b (MayPutLines (raise armed store entry) entry) (PutsLines (raise armed store entry) entry)
       → (raise armed store entry ≡ 0 → ErasesNothing g a b) → ((k : Fault) → g.faults a k ≤ g.faults b k)
-      → HasPut g armed (entry ∷ []) (lines_of store items) (lines_of next rest) a b
+      → HasPutEntries g armed (entry ∷ []) (lines_of store items) (lines_of next rest) a b
   one_put {a} {b} armed entry behind items rest store next was whole longest rest_is fits durable alone guard ahead free spare stays spills used_up changes erases counts =
       let most : raise armed store entry ≤ 2 = raise_most armed store entry in
       let one : joined (entry ∷ []) ≡ entry = joined_one entry in
@@ -288,7 +288,7 @@ module _ {B : Type 0} (g : Ghosts B) (reads : (b : B) (o : Outcome) → g.now b 
   pub left_first : (a : B) (armed : Bool) (n : ℕ) (lines : Lines) → Fits g a lines.store → HasLeft g armed n n lines lines a a
   left_first a armed n lines fits = record { entries = []; put = put_none a armed lines fits; rest = omega arith; still = λ none. (refl, refl); fitted = λ some. absurd (omega arith); fewest = λ k lt. absurd (omega arith) }
 
-  pub left_more : {a b c : B} (armed : Bool) (n left lines next : ℕ) (old mid new : Lines) (entry : List LineWrite) → HasLeft g armed n left old mid a b → HasPut g armed (entry ∷ []) mid new b c
+  pub left_more : {a b c : B} (armed : Bool) (n left lines next : ℕ) (old mid new : Lines) (entry : List LineWrite) → HasLeft g armed n left old mid a b → HasPutEntries g armed (entry ∷ []) mid new b c
       → (Refuses armed mid → ⊥) → 0 < left → lines ≡ length entry → next ≡ left - lines → HasLeft g armed n next old new a c
   left_more armed n left lines next old mid new entry first one taken some lines_is next_is = record {
     entries = first.entries ++ entry ∷ [];
@@ -314,7 +314,7 @@ answer_first (Ok v) pending rest u w some puts = done_first pending rest u w put
 answer_first (Err e) pending rest u w some may = next_first pending rest u w some may
 
 -- the guard row is used up
-home_lacks : (state : State) (size : ℕ) → IsTrue (lacks_in state size) → IsFalse (has_failed state) → (home_free_in state < size) ⊎ IsTrue (in_both_sectors state)
+home_lacks : (state : StoreState) (size : ℕ) → IsTrue (lacks_in state size) → IsFalse (has_failed state) → (home_free_in state < size) ⊎ IsTrue (in_both_sectors state)
 home_lacks (Alone kept) size lacks fit = inl (ltb-true (fits.free_of kept) size lacks)
 home_lacks (Spilled kept) size lacks fit = inr refl
 home_lacks Spent size lacks fit = absurd (cc)
@@ -326,7 +326,7 @@ worn_for_next g b armed store new entry behind fit voids worn whole longest = el
   | inr spilled ↦ inr spilled
 ]
 
-not_both : (state : State) → IsTrue (in_one_sector state) → IsTrue (in_both_sectors state) → ⊥
+not_both : (state : StoreState) → IsTrue (in_one_sector state) → IsTrue (in_both_sectors state) → ⊥
 not_both (Alone kept) one both = cc
 not_both (Spilled kept) one both = cc
 not_both Spent one both = cc

@@ -6,7 +6,7 @@ use Rattle.std.proofs.Math.Seq.{drop-append_seam, take-append_seam}
 use Rattle.std.proofs.lemmas.List.Elements.{All-drop}
 use Rattle.storage_lines.specs.declared.lines.LineWrite.{LineWrite}
 use Rattle.storage_lines.specs.declared.lines.TheConstants.{LINES}
-use Rattle.block_store.specs.Store.{Ascend, IsEntry}
+use Rattle.block_store.specs.Store.{Ascend, AreOneEntry}
 use Rattle.dirty_lines.specs.Lines.{AreInside}
 use Rattle.dirty_lines.specs.Entries.{DoesNotBegin, IsLongest, IsNext}
 
@@ -70,7 +70,7 @@ inside_left xs ys all = λ k d lt. subst (λ (w : LineWrite). w.line < LINES) (g
 none : LineWrite
 none = record { line = 0; bytes = [] }
 
-pub entry_of : (entry behind pending : List LineWrite) → pending ≡ entry ++ behind → IsLongest entry behind → AreInside pending → IsEntry entry
+pub entry_of : (entry behind pending : List LineWrite) → pending ≡ entry ++ behind → IsLongest entry behind → AreInside pending → AreOneEntry entry
 entry_of entry behind pending whole longest all =
     let inside : AreInside entry = inside_left entry behind (subst AreInside whole all) in
     record {

@@ -8,7 +8,7 @@ use Rattle.std.proofs.lemmas.Bool.Decides.{eqb_tells}
 use Rattle.flash_traits.specs.declared.numbers.TheConstants.{GUARD_HALFWORDS}
 use Rattle.storage_lines.specs.declared.lines.LineWrite.{LineWrite}
 use Rattle.sector_image.specs.Fits as fits
-use Rattle.block_store.specs.Store.{State, Alone, Spilled, Spent, Store, Ascend, guard_of, room_of, is_alone, is_spilled, in_one_sector, in_both_sectors, entry_bytes, lacks_in, lacks_room}
+use Rattle.block_store.specs.Store.{StoreState, Alone, Spilled, Spent, Store, Ascend, guard_of, room_of, is_alone, is_spilled, in_one_sector, in_both_sectors, entry_bytes, lacks_in, lacks_room}
 use Rattle.dirty_lines.specs.Entries.{IsLongest, CutIntoEntries, flash_bytes}
 use Rattle.dirty_lines.specs.Losses.{NextVoids}
 use Rattle.dirty_lines.specs.Wearing.{NoneWears}
@@ -26,7 +26,7 @@ entries_full armed [] old new each full = ap guard_of each ∙ full
 entries_full armed (x ∷ xs) old new each full =
     entries_full armed xs each.1 new each.3 (omega (arith, each.2.guard, raise_none armed (lacks_room old x) (λ voids. each.0 voids full), full))
 
-lacks_spilled : (state : State) (size : ℕ) → IsTrue (in_both_sectors state) → IsTrue (lacks_in state size)
+lacks_spilled : (state : StoreState) (size : ℕ) → IsTrue (in_both_sectors state) → IsTrue (lacks_in state size)
 lacks_spilled (Alone kept) size is = absurd (cc)
 lacks_spilled (Spilled kept) size is = refl
 lacks_spilled Spent size is = refl
@@ -42,7 +42,7 @@ not_lacking : (lacks : Bool) → (IsTrue lacks → ⊥) → IsFalse lacks
 not_lacking true never = absurd (never refl)
 not_lacking false never = refl
 
-alone_with : (state : State) (size : ℕ) → IsFalse (lacks_in state size) → IsTrue (in_one_sector state)
+alone_with : (state : StoreState) (size : ℕ) → IsFalse (lacks_in state size) → IsTrue (in_one_sector state)
 alone_with (Alone kept) size has = refl
 alone_with (Spilled kept) size has = absurd (cc)
 alone_with Spent size has = absurd (cc)
@@ -122,7 +122,7 @@ longer_next entry (w ∷ behind) writes longest = record {
   grown = omega arith;
 }
 
-lacks_more : (state : State) (size more : ℕ) → size ≤ more → IsTrue (lacks_in state size) → IsTrue (lacks_in state more)
+lacks_more : (state : StoreState) (size more : ℕ) → size ≤ more → IsTrue (lacks_in state size) → IsTrue (lacks_in state more)
 lacks_more (Alone kept) size more le lacks = lt-ltb (fits.free_of kept) more (omega (arith, le, ltb-true (fits.free_of kept) size lacks))
 lacks_more (Spilled kept) size more le lacks = refl
 lacks_more Spent size more le lacks = refl

@@ -11,7 +11,7 @@ ghost use Rattle.flash_traits.specs.Causes.{Rose};
 ghost use Rattle.storage_lines.specs.declared.lines.LineWrite.{LineWrite};
 ghost use Rattle.storage_lines.specs.declared.lines.TheConstants.{STORAGE_BYTES};
 ghost use Rattle.sector_image.specs.FirstBad.{FirstBad};
-ghost use Rattle.sector_image.specs.Stands.{Stands, Reads, is_alone as reads_alone, is_due, count_in, count_after};
+ghost use Rattle.sector_image.specs.Stands.{Stands, IsReadAs, is_alone as reads_alone, is_due, count_in, count_after};
 ghost use Rattle.sector_image.specs.Losses.{KeepsBytes};
 ghost use Rattle.sector_switch.specs.States.{CanServe, HomeAfter};
 ghost use Rattle.block_store.specs.declared.PutError.TheVariants.{NoRoom};
@@ -20,7 +20,7 @@ ghost use Rattle.block_store.specs.Refusals.{OnMemory, OnOpenFault, OnOpenForeig
 ghost use Rattle.dirty_lines.specs.Lines.{Lines, lines_of, current_of, AreInside};
 ghost use Rattle.dirty_lines.specs.Entries.{Wrote, IsFewest, joined};
 ghost use Rattle.dirty_lines.specs.Losses.{PutsFirst, MayPutFirst, MayPutNext, NextExceeds, NextVoids, IsWornForNext};
-ghost use Rattle.dirty_lines.specs.Steps.Flushing.{HasPut, IsHeld, Refuses};
+ghost use Rattle.dirty_lines.specs.Steps.Flushing.{HasPutEntries, IsHeld, Refuses};
 
 mod runs;
 
@@ -76,14 +76,14 @@ impl DirtyLines {
         // the guard count rises by two where home is full, and by one where a sector is void;
         // nothing is done to an image that stands alone
         ensures guard { IfOk result (λ lines. B.tells board.new → (reading : _)
-            → Reads (B.words board.old) reading → guard_of lines.store ≡ count_after reading) }
-        ensures idle { B.tells board.new → (reading : _) → Reads (B.words board.old) reading
+            → IsReadAs (B.words board.old) reading → guard_of lines.store ≡ count_after reading) }
+        ensures idle { B.tells board.new → (reading : _) → IsReadAs (B.words board.old) reading
             → IsTrue (reads_alone reading) → B.moment board.new ≡ B.moment board.old }
 
         // home has the log that was read, or no more than its entries and a copy of each chunk that
         // was left to copy
         ensures copied { IfOk result (λ lines. B.tells board.new → (reading : _)
-            → Reads (B.words board.old) reading → OnHome lines.store (HomeAfter reading)) }
+            → IsReadAs (B.words board.old) reading → OnHome lines.store (HomeAfter reading)) }
 
         // words that are no image are left alone
         ensures left_alone { B.tells board.new → (place : _) → FirstBad (B.words board.old) place
@@ -95,11 +95,11 @@ impl DirtyLines {
 
         // exactly where home is full and the count is 8,192
         ensures worn { IfErr result (λ e. OnOpenWorn e (λ count. (count ≡ GUARD_HALFWORDS)
-            × (B.tells board.new → (reading : _) × Reads (B.words board.old) reading
+            × (B.tells board.new → (reading : _) × IsReadAs (B.words board.old) reading
             × IsTrue (is_due reading) × (count_in reading ≡ GUARD_HALFWORDS)))) }
         ensures worn_copied { IfErr result (λ e. OnOpenWorn e (λ count. (bytes : _)
             × IsWorn B.Board board.new bytes)) }
-        ensures used_up { B.tells board.new → (reading : _) → Reads (B.words board.old) reading
+        ensures used_up { B.tells board.new → (reading : _) → IsReadAs (B.words board.old) reading
             → IsTrue (is_due reading) → count_in reading ≡ GUARD_HALFWORDS → IfOk result (λ _. ⊥) }
 
         ensures memory { IfErr result (λ e. OnMemory e (board.new ≡ board.old)) }
@@ -217,7 +217,7 @@ impl DirtyLines {
         requires fits { Fits B.Board board.old self.old.store }
         ensures put { IfOk result (λ lines. (entry : List LineWrite) × (lines ≡ length entry)
             × (1 ≤ lines)
-            × HasPut B.Board armed (entry ∷ []) self.old self.new board.old board.new) }
+            × HasPutEntries B.Board armed (entry ∷ []) self.old self.new board.old board.new) }
         ensures taken { OnOk result (Refuses armed self.old → ⊥) }
         ensures held { OnErr result (IsHeld self.old self.new) }
         ensures changes { OnErr result (Changes B.Board board.old board.new

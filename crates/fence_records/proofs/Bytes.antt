@@ -4,7 +4,7 @@ use Rattle.std.proofs.Common.{ltb-true, ltb-false}
 use Rattle.std.specs.Prelude.{pos, neg_ℤ, FitsSigned}
 use Rattle.std.specs.Int.{w32}
 use Rattle.std.proofs.lemmas.Int.{ints}
-use Rattle.storage_lines.specs.Numbers.{bytes_of, number_of, unsigned, signed_of}
+use Rattle.storage_lines.specs.Numbers.{bytes_of_number, number_of, unsigned, signed_of}
 
 abbrev pub IsBytes : List ℕ → Type 0
 IsBytes bs = (i : ℕ) → get_or bs i 0 < 256
@@ -20,14 +20,14 @@ drop-IsBytes zero bs h i = h i
 drop-IsBytes (suc n) [] h i = omega arith
 drop-IsBytes (suc n) (b ∷ bs) h i = drop-IsBytes n bs (λ j. h (suc j)) i
 
-pub bytes_of-number_of : (bs : List ℕ) → IsBytes bs → bytes_of (length bs) (number_of bs) ≡ bs
-unfolding bytes_of number_of
+pub bytes_of-number_of : (bs : List ℕ) → IsBytes bs → bytes_of_number (length bs) (number_of bs) ≡ bs
+unfolding bytes_of_number number_of
 bytes_of-number_of [] h = refl
 bytes_of-number_of (b ∷ bs) h =
     let small : b < 256 = h zero in
     let low : (b + 256 * number_of bs) % 256 ≡ b = omega arith in
     let high : (b + 256 * number_of bs) / 256 ≡ number_of bs = omega arith in
-    let rest : bytes_of (length bs) (number_of bs) ≡ bs = bytes_of-number_of bs (λ i. h (suc i)) in
+    let rest : bytes_of_number (length bs) (number_of bs) ≡ bs = bytes_of-number_of bs (λ i. h (suc i)) in
     rw (low, high, rest) refl
 
 pub number_of-small : (bs : List ℕ) → IsBytes bs → number_of bs < 256 ^ length bs
@@ -51,10 +51,10 @@ pub unsigned-signed_of : (n : ℕ) → n < 2 ^ 32 → unsigned 4 (signed_of 4 n)
 unsigned-signed_of n h = half_signed n (nat_lt (2 * n) (2 ^ 32)) refl h
 
 -- four bytes are those of their number in two's complement
-pub four_bytes : (bs : List ℕ) → length bs ≡ 4 → IsBytes bs → bytes_of 4 (unsigned 4 (signed_of 4 (number_of bs))) ≡ bs
+pub four_bytes : (bs : List ℕ) → length bs ≡ 4 → IsBytes bs → bytes_of_number 4 (unsigned 4 (signed_of 4 (number_of bs))) ≡ bs
 four_bytes bs e h =
     let small : number_of bs < 2 ^ 32 = rw e at (number_of-small bs h) in
-    ap (bytes_of 4) (unsigned-signed_of (number_of bs) small) ∙ subst (λ w. bytes_of w (number_of bs) ≡ bs) e (bytes_of-number_of bs h)
+    ap (bytes_of_number 4) (unsigned-signed_of (number_of bs) small) ∙ subst (λ w. bytes_of_number w (number_of bs) ≡ bs) e (bytes_of-number_of bs h)
 
 signed_fits : (n : ℕ) (b : Bool) → nat_lt (2 * n) (2 ^ 32) ≡ b → n < 2 ^ 32 → FitsSigned w32 (signed_of 4 n)
 signed_fits n true e h = let less : 2 * n < 2 ^ 32 = ltb-true (2 * n) (2 ^ 32) e in rw e (omega (arith, ints))

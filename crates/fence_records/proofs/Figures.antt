@@ -7,16 +7,16 @@ use Rattle.std.proofs.Math.Seq.{take-add}
 use Rattle.std.proofs.lemmas.Grind.{common_steps, flat_map-append}
 use Rattle.std.proofs.lemmas.List.Elements.{All-append, All-cons, All-nil}
 use Rattle.std.proofs.lemmas.List.Concat.{flat_map-cons}
-use Rattle.storage_lines.specs.Numbers.{number_of, bytes_of}
+use Rattle.storage_lines.specs.Numbers.{number_of, bytes_of_number}
 use Rattle.mission_commands.specs.Commands.{IsPatternOfWhole}
 use Rattle.storage_lines.proofs.NumberLemmas.{length-bytes_of}
 use Rattle.fence_records.specs.declared.items.Point.{Point}
-use Rattle.fence_records.specs.Fence.{Figure, Polygon, Round, ReturnPoint, record_of, items_of, IsFigure, IsEnd, point_of, points_from, point_bytes}
+use Rattle.fence_records.specs.Fence.{Figure, Polygon, Round, ReturnPoint, record_of, items_of, IsFigure, IsFenceEnd, point_of, points_from, point_bytes}
 use Rattle.fence_records.proofs.Bytes.{IsBytes, take-IsBytes, drop-IsBytes, bytes_of-number_of, number_of-small}
 use Rattle.fence_records.proofs.Points.{point_of-bytes, points_from-bytes, length-points_from, drop_twice}
 
 pub length-point_bytes : (p : Point) → length (point_bytes p) ≡ 8
-length-point_bytes p = length-append (bytes_of 4 _) (bytes_of 4 _) ∙ (rw (length-bytes_of 4, length-bytes_of 4) refl)
+length-point_bytes p = length-append (bytes_of_number 4 _) (bytes_of_number 4 _) ∙ (rw (length-bytes_of 4, length-bytes_of 4) refl)
 
 pub length-all_bytes : (ps : List Point) → length (flat_map point_bytes ps) ≡ 8 * length ps
 length-all_bytes [] = refl
@@ -49,10 +49,10 @@ tells (Polygon inside pattern points) rest =
     (one_of inside 98 97, omega arith)
 tells (Round inside radius p) rest =
     let first : length (point_bytes p) ≡ 8 = length-point_bytes p in
-    let last : length (bytes_of 4 radius) ≡ 4 = length-bytes_of 4 radius in
-    let front : length (point_bytes p ++ bytes_of 4 radius) ≡ length (point_bytes p) + length (bytes_of 4 radius) = length-append (point_bytes p) (bytes_of 4 radius) in
-    let whole : length ((point_bytes p ++ bytes_of 4 radius) ++ rest) ≡ length (point_bytes p ++ bytes_of 4 radius) + length rest = length-append (point_bytes p ++ bytes_of 4 radius) rest in
-    let all : 13 ≤ suc (length ((point_bytes p ++ bytes_of 4 radius) ++ rest)) = omega arith in
+    let last : length (bytes_of_number 4 radius) ≡ 4 = length-bytes_of 4 radius in
+    let front : length (point_bytes p ++ bytes_of_number 4 radius) ≡ length (point_bytes p) + length (bytes_of_number 4 radius) = length-append (point_bytes p) (bytes_of_number 4 radius) in
+    let whole : length ((point_bytes p ++ bytes_of_number 4 radius) ++ rest) ≡ length (point_bytes p ++ bytes_of_number 4 radius) + length rest = length-append (point_bytes p ++ bytes_of_number 4 radius) rest in
+    let all : 13 ≤ suc (length ((point_bytes p ++ bytes_of_number 4 radius) ++ rest)) = omega arith in
     (round_of inside (if inside then 92 else 93) refl, all)
 tells (ReturnPoint p) rest =
     let first : length (point_bytes p) ≡ 8 = length-point_bytes p in
@@ -64,7 +64,7 @@ tells (ReturnPoint p) rest =
 pub no_record : (bytes : List ℕ)
     → ((get_or bytes 0 0 ≡ 97) ⊎ (get_or bytes 0 0 ≡ 98) → length bytes < 2 + 8 * get_or bytes 1 0)
     → ((get_or bytes 0 0 ≡ 92) ⊎ (get_or bytes 0 0 ≡ 93) → length bytes < 13)
-    → (get_or bytes 0 0 ≡ 95 → length bytes < 9) → IsEnd bytes
+    → (get_or bytes 0 0 ≡ 95 → length bytes < 9) → IsFenceEnd bytes
 no_record bytes polygon round home (Polygon inside pattern points) rest right e =
     let t = subst (Tells (Polygon inside pattern points)) (sym e) (tells (Polygon inside pattern points) rest) in
     let few = polygon t.0 in omega arith
@@ -89,7 +89,7 @@ round_record (b ∷ bs) inside h long e =
     let few : 12 ≤ length bs = omega (arith, long) in
     let point : point_bytes (point_of bs) ≡ take 8 bs = point_of-bytes bs (omega arith) (λ i. h (suc i)) in
     let size : length (take 4 (drop 8 bs)) ≡ 4 = grind (arith, common_steps) in
-    let radius = subst (λ w. bytes_of w (number_of (take 4 (drop 8 bs))) ≡ take 4 (drop 8 bs)) size (bytes_of-number_of (take 4 (drop 8 bs)) (take-IsBytes 4 (drop 8 bs) (drop-IsBytes 8 bs (λ i. h (suc i))))) in
+    let radius = subst (λ w. bytes_of_number w (number_of (take 4 (drop 8 bs))) ≡ take 4 (drop 8 bs)) size (bytes_of-number_of (take 4 (drop 8 bs)) (take-IsBytes 4 (drop 8 bs) (drop-IsBytes 8 bs (λ i. h (suc i))))) in
     ap (λ t. t ∷ take 12 bs) e ∙ ap (λ t. (if inside then 92 else 93) ∷ t) (take-add 8 4 bs ∙ (ap (λ t. t ++ take 4 (drop 8 bs)) (sym point) ∙ ap (λ t. point_bytes (point_of bs) ++ t) (sym radius)))
 
 pub polygon_record : (bytes : List ℕ) (inside : Bool) (pattern : ℕ) → IsBytes bytes → 2 + 8 * get_or bytes 1 0 ≤ length bytes → get_or bytes 0 0 ≡ (if inside then 98 else 97)

@@ -12,13 +12,13 @@ use Rattle.std.proofs.lemmas.List.Elements.{All-cons, All-nil}
 use Rattle.std.proofs.lemmas.List.Concat.{flat_map-cons}
 use Rattle.std.proofs.lemmas.Grind.{common_steps}
 use Rattle.fence_records.specs.declared.TheConstants.{FENCE_BYTES}
-use Rattle.storage_lines.specs.Numbers.{number_of, bytes_of}
+use Rattle.storage_lines.specs.Numbers.{number_of, bytes_of_number}
 use Rattle.storage_lines.proofs.NumberLemmas.{length-bytes_of}
 use Rattle.storage_lines.specs.declared.areas.Area.TheVariants.{Fence}
 use Rattle.storage_lines.specs.Areas.{place_of}
 use Rattle.fence_records.specs.declared.items.FenceItem.{FenceItem}
 use Rattle.fence_records.specs.declared.items.Point.{Point}
-use Rattle.fence_records.specs.Fence.{Figure, Polygon, Round, ReturnPoint, record_of, items_of, IsFigure, IsEnd, IsPoint, HoldsItems, point_of, points_from, point_bytes, version}
+use Rattle.fence_records.specs.Fence.{Figure, Polygon, Round, ReturnPoint, record_of, items_of, IsFigure, IsFenceEnd, IsPoint, HoldsItems, point_of, points_from, point_bytes, fence_version}
 use Rattle.fence_records.specs.Write.{fence_area}
 use Rattle.fence_records.specs.Lists.{pattern_of, if_whole, first_figure, figures_in, FenceIsListed}
 use Rattle.fence_records.proofs.Bytes.{IsBytes, drop-IsBytes}
@@ -60,10 +60,10 @@ polygon_first bytes f low code h =
 
 round_size : (inside : Bool) (radius : ℕ) (p : Point) → length (record_of (Round inside radius p)) ≡ 13
 round_size inside radius p =
-    let a : length (point_bytes p ++ bytes_of 4 radius) ≡ length (point_bytes p) + length (bytes_of 4 radius) = length-append (point_bytes p) (bytes_of 4 radius) in
+    let a : length (point_bytes p ++ bytes_of_number 4 radius) ≡ length (point_bytes p) + length (bytes_of_number 4 radius) = length-append (point_bytes p) (bytes_of_number 4 radius) in
     let b : length (point_bytes p) ≡ 8 = length-point_bytes p in
-    let c : length (bytes_of 4 radius) ≡ 4 = length-bytes_of 4 radius in
-    let d : length (point_bytes p ++ bytes_of 4 radius) ≡ 12 = omega (arith, a, b, c) in
+    let c : length (bytes_of_number 4 radius) ≡ 4 = length-bytes_of 4 radius in
+    let d : length (point_bytes p ++ bytes_of_number 4 radius) ≡ 12 = omega (arith, a, b, c) in
     ap suc d
 
 round_first : (bytes : List ℕ) (f : Figure) → IsBytes bytes → (get_or bytes 0 0 ≡ 92) ⊎ (get_or bytes 0 0 ≡ 93)
@@ -117,16 +117,16 @@ first_is : (bytes : List ℕ) (f : Figure) → IsBytes bytes → first_figure by
 first_is bytes f low h = polygon_test bytes f ((get_or bytes 0 0 == 98) || (get_or bytes 0 0 == 97)) low refl h
 
 -- no whole record begins the bytes where there is no figure
-end_of : (bytes : List ℕ) → first_figure bytes ≡ None → IsEnd bytes
+end_of : (bytes : List ℕ) → first_figure bytes ≡ None → IsFenceEnd bytes
 end_of bytes h f rest right e = none-some (reread f) (sym h ∙ (ap first_figure e ∙ first_back f rest))
 
-none_at : (o : Option Figure) (bytes : List ℕ) → IsBytes bytes → IsEnd bytes → first_figure bytes ≡ o → first_figure bytes ≡ None
+none_at : (o : Option Figure) (bytes : List ℕ) → IsBytes bytes → IsFenceEnd bytes → first_figure bytes ≡ o → first_figure bytes ≡ None
 none_at None bytes low ends h = h
 none_at (Some f) bytes low ends h =
     let first = first_is bytes f low h in
     absurd (ends f (drop (length (record_of f)) bytes) first.right (sym (take-append-drop (length (record_of f)) bytes) ∙ ap (λ t. t ++ drop (length (record_of f)) bytes) first.part))
 
-none_of : (bytes : List ℕ) → IsBytes bytes → IsEnd bytes → first_figure bytes ≡ None
+none_of : (bytes : List ℕ) → IsBytes bytes → IsFenceEnd bytes → first_figure bytes ≡ None
 none_of bytes low ends = none_at (first_figure bytes) bytes low ends refl
 
 -- a figure in storage is read back as it is
@@ -207,7 +207,7 @@ listed_at area items true low size =
 listed_at area items false low size = (λ h. h, λ h. h)
 
 pub fence_is_listed : FenceIsListed
-fence_is_listed bytes items low = listed_at (fence_area bytes) items (bytes_eq (take 4 (fence_area bytes)) version) low (length-area bytes)
+fence_is_listed bytes items low = listed_at (fence_area bytes) items (bytes_eq (take 4 (fence_area bytes)) fence_version) low (length-area bytes)
 
 pub low_area : (b : List ℕ) → IsBytes b → IsBytes (fence_area b)
 low_area b low i = elim (cases_lt i FENCE_BYTES) [

@@ -6,7 +6,7 @@ use Rattle.std.proofs.Math.Seq.{take-add, drop-nil}
 use Rattle.std.proofs.lemmas.Grind.{common_steps}
 use Rattle.std.proofs.lemmas.List.Elements.{All-cons, All-nil}
 use Rattle.std.proofs.lemmas.List.Concat.{flat_map-cons}
-use Rattle.storage_lines.specs.Numbers.{number_of, bytes_of, unsigned}
+use Rattle.storage_lines.specs.Numbers.{number_of, bytes_of_number, unsigned}
 use Rattle.fence_records.specs.declared.items.FenceItem.{FenceItem}
 use Rattle.fence_records.specs.Fence.{point_of, points_from, point_bytes, IsPoint, item}
 use Rattle.fence_records.proofs.Bytes.{IsBytes, take-IsBytes, drop-IsBytes, four_bytes, number_of-small, signed_of-fits}
@@ -21,7 +21,7 @@ pub point_of-bytes : (bs : List ℕ) → 8 ≤ length bs → IsBytes bs → poin
 point_of-bytes bs h bytes =
     let a = four_bytes (take 4 bs) (length_first bs 4 (omega arith)) (take-IsBytes 4 bs bytes) in
     let b = four_bytes (take 4 (drop 4 bs)) (length_part bs 4 4 (omega arith)) (take-IsBytes 4 (drop 4 bs) (drop-IsBytes 4 bs bytes)) in
-    ap (λ t. t ++ bytes_of 4 (unsigned 4 (point_of bs).y)) a ∙ (ap (λ t. take 4 bs ++ t) b ∙ sym (take-add 4 4 bs))
+    ap (λ t. t ++ bytes_of_number 4 (unsigned 4 (point_of bs).y)) a ∙ (ap (λ t. take 4 bs ++ t) b ∙ sym (take-add 4 4 bs))
 
 pub point_of-fits : (bs : List ℕ) → 8 ≤ length bs → IsBytes bs → IsPoint (point_of bs)
 point_of-fits bs h bytes =

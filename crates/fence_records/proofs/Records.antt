@@ -6,7 +6,7 @@ use Rattle.std.proofs.lemmas.List.{length-map}
 use Rattle.std.proofs.lemmas.List.Concat.{flat_map-cons}
 use Rattle.fence_records.specs.declared.TheConstants.{FENCE_BYTES}
 use Rattle.storage_lines.specs.declared.lines.LineWrite.{LineWrite}
-use Rattle.storage_lines.specs.Numbers.{bytes_of}
+use Rattle.storage_lines.specs.Numbers.{bytes_of_number}
 use Rattle.storage_lines.proofs.NumberLemmas.{length-bytes_of}
 use Rattle.fence_records.specs.declared.items.FenceItem.{FenceItem}
 use Rattle.fence_records.specs.declared.items.Point.{Point}
@@ -32,10 +32,10 @@ home_size p = sym (ap suc (length-point_bytes p))
 
 pub circle_size : (inside : Bool) (radius : ℕ) (p : Point) → 13 ≡ length (record_of (Round inside radius p))
 circle_size inside radius p =
-    let a : length (point_bytes p ++ bytes_of 4 radius) ≡ length (point_bytes p) + length (bytes_of 4 radius) = length-append (point_bytes p) (bytes_of 4 radius) in
+    let a : length (point_bytes p ++ bytes_of_number 4 radius) ≡ length (point_bytes p) + length (bytes_of_number 4 radius) = length-append (point_bytes p) (bytes_of_number 4 radius) in
     let b : length (point_bytes p) ≡ 8 = length-point_bytes p in
-    let c : length (bytes_of 4 radius) ≡ 4 = length-bytes_of 4 radius in
-    let d : length (point_bytes p ++ bytes_of 4 radius) ≡ 12 = omega (arith, a, b, c) in
+    let c : length (bytes_of_number 4 radius) ≡ 4 = length-bytes_of 4 radius in
+    let d : length (point_bytes p ++ bytes_of_number 4 radius) ≡ 12 = omega (arith, a, b, c) in
     sym (ap suc d)
 
 pub polygon_size : (inside : Bool) (pattern : ℕ) (items : List FenceItem) → 2 + 8 * length items ≡ length (record_of (Polygon inside pattern (map point items)))

@@ -13,9 +13,9 @@ use Rattle.storage_lines.specs.declared.lines.LineWrite.{LineWrite}
 use Rattle.storage_lines.specs.Lines.{after}
 use Rattle.storage_lines.proofs.ApartLemmas.{each_change}
 use Rattle.fence_records.specs.declared.items.FenceItem.{FenceItem}
-use Rattle.fence_records.specs.Fence.{Figure, Polygon, Round, ReturnPoint, record_of, items_of, version}
+use Rattle.fence_records.specs.Fence.{Figure, Polygon, Round, ReturnPoint, record_of, items_of, fence_version}
 use Rattle.fence_records.specs.Write.{fence_area, encoded, without_fence, with_fence, fence_writes}
-use Rattle.fence_records.specs.Lists.{fence_of, figures_in, figures_of, figure_writes, replace_writes, clear_writes, is_return_point, FencesAreReplaced, FencesInSteps}
+use Rattle.fence_records.specs.Lists.{fence_of, figures_in, figures_of, figure_writes, replace_writes, clear_fence_writes, is_return_point, FencesAreReplaced, FencesInSteps}
 use Rattle.fence_records.proofs.Steps.{Begins, area_begins, clearing_begins, step_of, step_begins, whole_writes, written_begins}
 use Rattle.fence_records.proofs.Rereads.{reread, figures_back, no_figure, kept_figures}
 use Rattle.fence_records.proofs.Cutting.{figures_hold}
@@ -36,7 +36,7 @@ few_figures (f ∷ fs) =
 
 -- the items in the area, as `fence_of` has them
 abbrev items_in : List ℕ → List FenceItem
-items_in area = if bytes_eq (take 4 area) version then flat_map items_of (figures_in FENCE_BYTES (drop 4 area)) else []
+items_in area = if bytes_eq (take 4 area) fence_version then flat_map items_of (figures_in FENCE_BYTES (drop 4 area)) else []
 
 -- bytes that begin with encoded figures hold these, as they are read back
 pub begins_items : (b : List ℕ) (fs : List Figure) → length (encoded fs) ≤ FENCE_BYTES → Begins b (encoded fs) → fence_of b ≡ flat_map items_of (map reread fs)
@@ -44,12 +44,12 @@ begins_items b fs few h =
     let rest = drop (length (encoded fs)) (fence_area b) in
     let area : fence_area b ≡ encoded fs ++ rest = area_begins b (encoded fs) few h in
     let inner : length (flat_map record_of fs ++ 99 ∷ []) ≡ length (flat_map record_of fs) + 1 = length-append (flat_map record_of fs) (99 ∷ []) in
-    let all : length (encoded fs) ≡ 4 + length (flat_map record_of fs ++ 99 ∷ []) = length-append version (flat_map record_of fs ++ 99 ∷ []) in
+    let all : length (encoded fs) ≡ 4 + length (flat_map record_of fs ++ 99 ∷ []) = length-append fence_version (flat_map record_of fs ++ 99 ∷ []) in
     let small : length fs ≤ FENCE_BYTES = omega (arith, few_figures fs, inner, all, few) in
     let figures : figures_in FENCE_BYTES (flat_map record_of fs ++ 99 ∷ rest) ≡ map reread fs = figures_back FENCE_BYTES fs (99 ∷ rest) small (no_figure rest) in
     ap items_in area ∙ (ap (λ t. flat_map items_of (figures_in FENCE_BYTES t)) (append_assoc (flat_map record_of fs) (99 ∷ []) rest) ∙ ap (flat_map items_of) figures)
 
-begins_none : (b : List ℕ) → Begins b (version ++ 99 ∷ []) → fence_of b ≡ []
+begins_none : (b : List ℕ) → Begins b (fence_version ++ 99 ∷ []) → fence_of b ≡ []
 begins_none b h = begins_items b [] (omega arith) h
 
 same_items : (a b : List ℕ) → fence_area a ≡ fence_area b → fence_of a ≡ fence_of b
@@ -110,11 +110,11 @@ up_to_all ws j = elim (cases_lt (length ws) j) [
   | inl more ↦ (length ws, omega arith, take_past j ws (omega (arith, more)) ∙ sym (take-length ws))
 ]
 
-clears : (bytes : List ℕ) (j : ℕ) → length bytes ≡ STORAGE_BYTES → (fence_of (after bytes (take j (clear_writes bytes))) ≡ fence_of bytes) ⊎ (fence_of (after bytes (take j (clear_writes bytes))) ≡ [])
+clears : (bytes : List ℕ) (j : ℕ) → length bytes ≡ STORAGE_BYTES → (fence_of (after bytes (take j (clear_fence_writes bytes))) ≡ fence_of bytes) ⊎ (fence_of (after bytes (take j (clear_fence_writes bytes))) ≡ [])
 clears bytes j size =
-    let k = up_to_all (clear_writes bytes) j in
-    let now = after bytes (take k.0 (clear_writes bytes)) in
-    let e : fence_of (after bytes (take j (clear_writes bytes))) ≡ fence_of now = ap (λ t. fence_of (after bytes t)) k.2 in
+    let k = up_to_all (clear_fence_writes bytes) j in
+    let now = after bytes (take k.0 (clear_fence_writes bytes)) in
+    let e : fence_of (after bytes (take j (clear_fence_writes bytes))) ≡ fence_of now = ap (λ t. fence_of (after bytes t)) k.2 in
     let m = each_change bytes (without_fence bytes) k.0 size k.1 in
     elim (clearing_begins m.0 bytes now size m.1) [
       | inl same ↦ inl (e ∙ same_items now bytes (sym same))

@@ -8,7 +8,7 @@ use Rattle.std.proofs.Math.Seq.{drop-append_seam}
 use Rattle.std.proofs.lemmas.Int.{ints}
 use Rattle.std.proofs.lemmas.List.{length-map}
 use Rattle.std.proofs.lemmas.List.Concat.{flat_map-cons}
-use Rattle.storage_lines.specs.Numbers.{number_of, bytes_of, unsigned, signed_of}
+use Rattle.storage_lines.specs.Numbers.{number_of, bytes_of_number, unsigned, signed_of}
 use Rattle.storage_lines.proofs.NumberLemmas.{length-bytes_of, number_of-bytes_of}
 use Rattle.mission_commands.proofs.Back.{at_place, signed_part, IsHalf}
 use Rattle.fence_records.specs.declared.items.Point.{Point}
@@ -18,12 +18,12 @@ use Rattle.fence_records.proofs.Figures.{length-point_bytes, length-all_bytes}
 
 -- a point, once it is stored and read
 abbrev pub reread_point : Point → Point
-reread_point p = record { x = signed_of 4 (number_of (bytes_of 4 (unsigned 4 p.x))); y = signed_of 4 (number_of (bytes_of 4 (unsigned 4 p.y))) }
+reread_point p = record { x = signed_of 4 (number_of (bytes_of_number 4 (unsigned 4 p.x))); y = signed_of 4 (number_of (bytes_of_number 4 (unsigned 4 p.y))) }
 
 -- a figure, once it is stored and read
 abbrev pub reread : Figure → Figure
 reread (Polygon inside pattern points) = Polygon inside (pattern_of (length points)) (map reread_point points)
-reread (Round inside radius p) = Round inside (number_of (bytes_of 4 radius)) (reread_point p)
+reread (Round inside radius p) = Round inside (number_of (bytes_of_number 4 radius)) (reread_point p)
 reread (ReturnPoint p) = ReturnPoint (reread_point p)
 
 abbrev two_numbers : ℕ → ℕ → Point
@@ -34,8 +34,8 @@ same_point a b c d e f = rw (e, f) refl
 
 point_back : (p : Point) (rest : List ℕ) → point_of (point_bytes p ++ rest) ≡ reread_point p
 point_back p rest =
-    let a = bytes_of 4 (unsigned 4 p.x) in
-    let b = bytes_of 4 (unsigned 4 p.y) in
+    let a = bytes_of_number 4 (unsigned 4 p.x) in
+    let b = bytes_of_number 4 (unsigned 4 p.y) in
     let e : (a ++ b) ++ rest ≡ a ++ (b ++ rest) = append_assoc a b rest in
     let la : length a ≡ 4 = length-bytes_of 4 (unsigned 4 p.x) in
     let lb : length b ≡ 4 = length-bytes_of 4 (unsigned 4 p.y) in
@@ -63,25 +63,25 @@ length-record (Polygon inside pattern points) =
     let c : length (map reread_point points) ≡ length points = length-map points reread_point in
     ap (λ n. suc (suc n)) (a ∙ (ap (λ n. 8 * n) c ∙ sym b))
 length-record (Round inside radius p) =
-    let a = length-append (point_bytes (reread_point p)) (bytes_of 4 (number_of (bytes_of 4 radius))) in
-    let b = length-append (point_bytes p) (bytes_of 4 radius) in
+    let a = length-append (point_bytes (reread_point p)) (bytes_of_number 4 (number_of (bytes_of_number 4 radius))) in
+    let b = length-append (point_bytes p) (bytes_of_number 4 radius) in
     let c : length (point_bytes (reread_point p)) ≡ length (point_bytes p) = length-point_bytes (reread_point p) ∙ sym (length-point_bytes p) in
-    let d : length (bytes_of 4 (number_of (bytes_of 4 radius))) ≡ length (bytes_of 4 radius) = length-bytes_of 4 (number_of (bytes_of 4 radius)) ∙ sym (length-bytes_of 4 radius) in
-    ap suc (a ∙ (ap (λ n. n + length (bytes_of 4 (number_of (bytes_of 4 radius)))) c ∙ (ap (λ n. length (point_bytes p) + n) d ∙ sym b)))
+    let d : length (bytes_of_number 4 (number_of (bytes_of_number 4 radius))) ≡ length (bytes_of_number 4 radius) = length-bytes_of 4 (number_of (bytes_of_number 4 radius)) ∙ sym (length-bytes_of 4 radius) in
+    ap suc (a ∙ (ap (λ n. n + length (bytes_of_number 4 (number_of (bytes_of_number 4 radius)))) c ∙ (ap (λ n. length (point_bytes p) + n) d ∙ sym b)))
 length-record (ReturnPoint p) = ap suc (length-point_bytes (reread_point p) ∙ sym (length-point_bytes p))
 
-radius_back : (radius : ℕ) (p : Point) (rest : List ℕ) → take 4 (drop 8 ((point_bytes p ++ bytes_of 4 radius) ++ rest)) ≡ bytes_of 4 radius
-radius_back radius p rest = at_place (point_bytes p) (bytes_of 4 radius) rest ((point_bytes p ++ bytes_of 4 radius) ++ rest) 8 4 (append_assoc (point_bytes p) (bytes_of 4 radius) rest) (length-point_bytes p) (length-bytes_of 4 radius)
+radius_back : (radius : ℕ) (p : Point) (rest : List ℕ) → take 4 (drop 8 ((point_bytes p ++ bytes_of_number 4 radius) ++ rest)) ≡ bytes_of_number 4 radius
+radius_back radius p rest = at_place (point_bytes p) (bytes_of_number 4 radius) rest ((point_bytes p ++ bytes_of_number 4 radius) ++ rest) 8 4 (append_assoc (point_bytes p) (bytes_of_number 4 radius) rest) (length-point_bytes p) (length-bytes_of 4 radius)
 
 figure_back : (f : Figure) (rest : List ℕ) → figure_of (slice_index (record_of f ++ rest) 0) (record_of f ++ rest) ≡ Some (reread f)
 figure_back (Polygon true pattern points) rest = ap (λ ps. Some (Polygon true (pattern_of (length points)) ps)) (points_back points rest)
 figure_back (Polygon false pattern points) rest = ap (λ ps. Some (Polygon false (pattern_of (length points)) ps)) (points_back points rest)
 figure_back (Round true radius p) rest =
-    ap (λ n. Some (Round true (number_of n) (point_of ((point_bytes p ++ bytes_of 4 radius) ++ rest)))) (radius_back radius p rest)
-    ∙ ap (λ q. Some (Round true (number_of (bytes_of 4 radius)) q)) (ap point_of (append_assoc (point_bytes p) (bytes_of 4 radius) rest) ∙ point_back p (bytes_of 4 radius ++ rest))
+    ap (λ n. Some (Round true (number_of n) (point_of ((point_bytes p ++ bytes_of_number 4 radius) ++ rest)))) (radius_back radius p rest)
+    ∙ ap (λ q. Some (Round true (number_of (bytes_of_number 4 radius)) q)) (ap point_of (append_assoc (point_bytes p) (bytes_of_number 4 radius) rest) ∙ point_back p (bytes_of_number 4 radius ++ rest))
 figure_back (Round false radius p) rest =
-    ap (λ n. Some (Round false (number_of n) (point_of ((point_bytes p ++ bytes_of 4 radius) ++ rest)))) (radius_back radius p rest)
-    ∙ ap (λ q. Some (Round false (number_of (bytes_of 4 radius)) q)) (ap point_of (append_assoc (point_bytes p) (bytes_of 4 radius) rest) ∙ point_back p (bytes_of 4 radius ++ rest))
+    ap (λ n. Some (Round false (number_of n) (point_of ((point_bytes p ++ bytes_of_number 4 radius) ++ rest)))) (radius_back radius p rest)
+    ∙ ap (λ q. Some (Round false (number_of (bytes_of_number 4 radius)) q)) (ap point_of (append_assoc (point_bytes p) (bytes_of_number 4 radius) rest) ∙ point_back p (bytes_of_number 4 radius ++ rest))
 figure_back (ReturnPoint p) rest = ap (λ q. Some (ReturnPoint q)) (point_back p rest)
 
 pub first_back : (f : Figure) (rest : List ℕ) → first_figure (record_of f ++ rest) ≡ Some (reread f)
@@ -135,9 +135,9 @@ same_ends x y u v e f = rw (e, f) refl
 
 kept_point : (p : Point) → IsPoint p → reread_point p ≡ p
 kept_point p h =
-    let x = signed_part 4 (2 ^ 31) p.x (bytes_of 4 (unsigned 4 p.x)) refl (half p.x h.0) refl in
-    let y = signed_part 4 (2 ^ 31) p.y (bytes_of 4 (unsigned 4 p.y)) refl (half p.y h.1) refl in
-    same_ends (signed_of 4 (number_of (bytes_of 4 (unsigned 4 p.x)))) (signed_of 4 (number_of (bytes_of 4 (unsigned 4 p.y)))) p.x p.y x y
+    let x = signed_part 4 (2 ^ 31) p.x (bytes_of_number 4 (unsigned 4 p.x)) refl (half p.x h.0) refl in
+    let y = signed_part 4 (2 ^ 31) p.y (bytes_of_number 4 (unsigned 4 p.y)) refl (half p.y h.1) refl in
+    same_ends (signed_of 4 (number_of (bytes_of_number 4 (unsigned 4 p.x)))) (signed_of 4 (number_of (bytes_of_number 4 (unsigned 4 p.y)))) p.x p.y x y
 
 kept_points : (ps : List Point) → AllPoints ps → map reread_point ps ≡ ps
 kept_points [] h = refl
@@ -146,7 +146,7 @@ kept_points (p ∷ ps) h = ap (λ q. q ∷ map reread_point ps) (kept_point p h.
 pub kept_figure : (f : Figure) → IsKept f → reread f ≡ f
 kept_figure (Polygon inside pattern points) h = ap (λ q. Polygon inside q (map reread_point points)) (sym h.0) ∙ ap (Polygon inside pattern) (kept_points points h.1)
 kept_figure (Round inside radius p) h =
-    let number : number_of (bytes_of 4 radius) ≡ radius = number_of-bytes_of 4 radius h.0 in
+    let number : number_of (bytes_of_number 4 radius) ≡ radius = number_of-bytes_of 4 radius h.0 in
     ap (λ q. Round inside q (reread_point p)) number ∙ ap (Round inside radius) (kept_point p h.1)
 kept_figure (ReturnPoint p) h = ap ReturnPoint (kept_point p h)
 

@@ -18,7 +18,7 @@ use Rattle.storage_lines.proofs.AreaLemmas.{length-put_in, put_in-at, put_in-oth
 use Rattle.storage_lines.proofs.LineLemmas.{line_cases, changes_more}
 use Rattle.storage_lines.proofs.SplitLemmas.{changes_before, changes_behind}
 use Rattle.storage_lines.proofs.ApartLemmas.{whole_changes, each_change}
-use Rattle.fence_records.specs.Fence.{Figure, IsFigure, IsFence, record_of, items_of, version}
+use Rattle.fence_records.specs.Fence.{Figure, IsFigure, IsFence, record_of, items_of, fence_version}
 use Rattle.fence_records.specs.Write.{fence_area, encoded, without_fence, with_records, with_fence, fence_writes}
 use Rattle.fence_records.proofs.Figures.{no_record}
 
@@ -62,7 +62,7 @@ begins_fence b figures few right h = fence_of_encoded (fence_area b) (drop (leng
 no_figures : All IsFigure []
 no_figures k d h = absurd (omega arith)
 
-begins_empty : (b : List ℕ) → Begins b (version ++ 99 ∷ []) → IsFence (fence_area b) []
+begins_empty : (b : List ℕ) → Begins b (fence_version ++ 99 ∷ []) → IsFence (fence_area b) []
 begins_empty b h = begins_fence b [] (omega arith) no_figures h
 
 same_area : (a b : List ℕ) → ((i : ℕ) → i < FENCE_BYTES → get_or a (place_of Fence i) 0 ≡ get_or b (place_of Fence i) 0) → fence_area a ≡ fence_area b
@@ -86,7 +86,7 @@ put_byte : (at : ℕ) (xs b : List ℕ) (i : ℕ) → length b ≡ STORAGE_BYTES
 put_byte at xs b i size few h = put_in-at (spans_of Fence) at xs b i 0 rising size few h
 
 pub length-cleared : (b : List ℕ) → length (without_fence b) ≡ length b
-length-cleared b = length-put_in (spans_of Fence) 0 (version ++ 99 ∷ []) b
+length-cleared b = length-put_in (spans_of Fence) 0 (fence_version ++ 99 ∷ []) b
 
 pub length-behind : (new b : List ℕ) → length (with_records new b) ≡ length b
 length-behind new b = length-put_in (spans_of Fence) 8 (drop 8 new) (without_fence b) ∙ length-cleared b
@@ -142,26 +142,26 @@ put_first xs b i size few h =
     ap (λ k. get_or (put_in (spans_of Fence) 0 xs b) (place_of Fence k) 0) e ∙ put_byte 0 xs b i size (omega arith) h
 
 -- clearing has with_fence the first line or nothing
-pub clearing_begins : (border : ℕ) (b now : List ℕ) → length b ≡ STORAGE_BYTES → UpToLine border b (without_fence b) now → (fence_area b ≡ fence_area now) ⊎ Begins now (version ++ 99 ∷ [])
+pub clearing_begins : (border : ℕ) (b now : List ℕ) → length b ≡ STORAGE_BYTES → UpToLine border b (without_fence b) now → (fence_area b ≡ fence_area now) ⊎ Begins now (fence_version ++ 99 ∷ [])
 clearing_begins border b now size m = elim (cases_lt 492 border) [
   | inl above ↦ inr (λ i less.
       let place = first_place i (omega arith) in
-      m.front (place_of Fence i) (omega (arith, place)) (omega (arith, place)) ∙ put_first (version ++ 99 ∷ []) b i size (omega arith) less)
+      m.front (place_of Fence i) (omega (arith, place)) (omega (arith, place)) ∙ put_first (fence_version ++ 99 ∷ []) b i size (omega arith) less)
   | inr below ↦ inl (same_area b now (λ i less.
       let low = place_low i less in
       let inside = place_inside (spans_of Fence) i rising less in
       sym (m.back (place_of Fence i) (omega (arith, low)) (omega (arith, inside)))))
 ]
 
-cleared_head : (b : List ℕ) → length b ≡ STORAGE_BYTES → Begins (without_fence b) (version ++ 99 ∷ [])
-cleared_head b size i less = put_first (version ++ 99 ∷ []) b i size (omega arith) less
+cleared_head : (b : List ℕ) → length b ≡ STORAGE_BYTES → Begins (without_fence b) (fence_version ++ 99 ∷ [])
+cleared_head b size i less = put_first (fence_version ++ 99 ∷ []) b i size (omega arith) less
 
-behind_head : (new b : List ℕ) → length b ≡ STORAGE_BYTES → length new ≤ FENCE_BYTES → Begins (with_records new b) (version ++ 99 ∷ [])
+behind_head : (new b : List ℕ) → length b ≡ STORAGE_BYTES → length new ≤ FENCE_BYTES → Begins (with_records new b) (fence_version ++ 99 ∷ [])
 behind_head new b size few i less =
     let rest : 8 + length (drop 8 new) ≤ FENCE_BYTES = grind (arith, common_steps) in
     kept_byte 8 (drop 8 new) (without_fence b) i rest (omega arith) (inl (omega arith)) ∙ cleared_head b size i less
 
-on_filling : (border : ℕ) (new b now : List ℕ) → length b ≡ STORAGE_BYTES → length new ≤ FENCE_BYTES → UpToLine border (without_fence b) (with_records new b) now → Begins now (version ++ 99 ∷ [])
+on_filling : (border : ℕ) (new b now : List ℕ) → length b ≡ STORAGE_BYTES → length new ≤ FENCE_BYTES → UpToLine border (without_fence b) (with_records new b) now → Begins now (fence_version ++ 99 ∷ [])
 on_filling border new b now size few m i less =
     let inside = place_inside (spans_of Fence) i rising (omega arith) in
     let long = length-cleared b in
@@ -199,7 +199,7 @@ closed_head border new b now above size few m i less =
       ]
     ]
 
-on_closing : (border : ℕ) (new b now : List ℕ) → length b ≡ STORAGE_BYTES → length new ≤ FENCE_BYTES → UpToLine border (with_records new b) (with_fence new b) now → Begins now (version ++ 99 ∷ []) ⊎ Begins now new
+on_closing : (border : ℕ) (new b now : List ℕ) → length b ≡ STORAGE_BYTES → length new ≤ FENCE_BYTES → UpToLine border (with_records new b) (with_fence new b) now → Begins now (fence_version ++ 99 ∷ []) ⊎ Begins now new
 on_closing border new b now size few m =
     let long = length-behind new b in
     elim (cases_lt 492 border) [
@@ -211,7 +211,7 @@ on_closing border new b now size few m =
     ]
 
 -- after each number of the writes the area is the old one, or begins with an end, or with the new bytes
-pub step_begins : (b new now : List ℕ) → length b ≡ STORAGE_BYTES → length new ≤ FENCE_BYTES → Step b new now → (fence_area b ≡ fence_area now) ⊎ (Begins now (version ++ 99 ∷ []) ⊎ Begins now new)
+pub step_begins : (b new now : List ℕ) → length b ≡ STORAGE_BYTES → length new ≤ FENCE_BYTES → Step b new now → (fence_area b ≡ fence_area now) ⊎ (Begins now (fence_version ++ 99 ∷ []) ⊎ Begins now new)
 step_begins b new now size few (clearing border m) = elim (clearing_begins border b now size m) [ inl h ↦ inl h | inr h ↦ inr (inl h) ]
 step_begins b new now size few (filling border m) = inr (inl (on_filling border new b now size few m))
 step_begins b new now size few (closing border m) = inr (on_closing border new b now size few m)
@@ -246,8 +246,8 @@ pub one_line : (b : List ℕ) → length b ≡ STORAGE_BYTES → length (changes
 one_line b size =
     let place : place_in (spans_of Fence) 0 ≡ 3936 = first_place 0 (omega arith) in
     let last : place_in (spans_of Fence) 4 ≡ 3940 = first_place 4 (omega arith) in
-    let before = changes_before (spans_of Fence) 0 (version ++ 99 ∷ []) b 492 rising size (omega arith) (omega arith) refl in
-    let behind = changes_behind (spans_of Fence) 0 (version ++ 99 ∷ []) b 492 rising size (omega arith) (omega arith) refl in
+    let before = changes_before (spans_of Fence) 0 (fence_version ++ 99 ∷ []) b 492 rising size (omega arith) (omega arith) refl in
+    let behind = changes_behind (spans_of Fence) 0 (fence_version ++ 99 ∷ []) b 492 rising size (omega arith) (omega arith) refl in
     let all : changes b (without_fence b) ≡ line_change 492 b (without_fence b) = behind ∙ (changes_more 492 b (without_fence b) ∙ ap (λ t. t ++ line_change 492 b (without_fence b)) before) in
     elim (line_cases 492 b (without_fence b)) [
       | inl same ↦ let e : length (changes b (without_fence b)) ≡ 0 = ap length all ∙ ap length same.1 in omega arith

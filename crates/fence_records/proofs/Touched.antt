@@ -17,7 +17,7 @@ use Rattle.storage_lines.proofs.LineLemmas.{length-after, line_cases, changes_mo
 use Rattle.storage_lines.proofs.SplitLemmas.{line_untouched, no_lines}
 use Rattle.storage_lines.proofs.ApartLemmas.{whole_changes}
 use Rattle.fence_records.specs.declared.items.FenceItem.{FenceItem}
-use Rattle.fence_records.specs.Fence.{point_bytes, version}
+use Rattle.fence_records.specs.Fence.{point_bytes, fence_version}
 use Rattle.fence_records.specs.Lists.{point}
 use Rattle.fence_records.specs.Write.{without_fence, with_records, with_fence, fence_writes}
 use Rattle.fence_records.proofs.Steps.{length-cleared, length-behind, first_place}
@@ -113,17 +113,17 @@ head_cases n head e = elim (cases_lt 8 n) [
 ]
 
 -- clearing gives one write at most
-pub few_first : (b : List ℕ) (none first : List LineWrite) → length b ≡ STORAGE_BYTES → none ≡ [] → first ≡ none ++ writes_of_piece Fence 0 (version ++ 99 ∷ []) (after b none) → length first ≤ 1
+pub few_first : (b : List ℕ) (none first : List LineWrite) → length b ≡ STORAGE_BYTES → none ≡ [] → first ≡ none ++ writes_of_piece Fence 0 (fence_version ++ 99 ∷ []) (after b none) → length first ≤ 1
 few_first b none first size e f =
     let long : length (after b none) ≡ STORAGE_BYTES = length-after b none ∙ size in
-    let few = few_head (version ++ 99 ∷ []) (after b none) long (omega arith) in
+    let few = few_head (fence_version ++ 99 ∷ []) (after b none) long (omega arith) in
     let zero_length : length none ≡ 0 = ap length e in
-    let both : length first ≡ length none + length (writes_of_piece Fence 0 (version ++ 99 ∷ []) (after b none)) = ap length f ∙ length-append none (writes_of_piece Fence 0 (version ++ 99 ∷ []) (after b none)) in
+    let both : length first ≡ length none + length (writes_of_piece Fence 0 (fence_version ++ 99 ∷ []) (after b none)) = ap length f ∙ length-append none (writes_of_piece Fence 0 (fence_version ++ 99 ∷ []) (after b none)) in
     omega (arith, few, zero_length, both)
 
 -- the three steps are the writes
 pub steps_follow : (b new : List ℕ) (none first second third : List LineWrite) (tail head : List ℕ) → length b ≡ STORAGE_BYTES → none ≡ [] → tail ≡ drop 8 new → head ≡ take 8 new
-    → first ≡ none ++ writes_of_piece Fence 0 (version ++ 99 ∷ []) (after b none)
+    → first ≡ none ++ writes_of_piece Fence 0 (fence_version ++ 99 ∷ []) (after b none)
     → second ≡ first ++ writes_of_piece Fence 8 tail (after b first)
     → third ≡ second ++ writes_of_piece Fence 0 head (after b second)
     → (after b first ≡ without_fence b) × (first ≡ changes b (without_fence b)) × (after b second ≡ with_records new b) × (second ≡ changes b (without_fence b) ++ changes (without_fence b) (with_records new b)) × (third ≡ fence_writes new b)
@@ -135,7 +135,7 @@ steps_follow b new none first second third tail head size e0 et eh f1 f2 f3 =
     let s2 : length (with_records new b) ≡ STORAGE_BYTES = length-behind new b ∙ size in
     let a1 : after b xs ≡ without_fence b = whole_changes b (without_fence b) size s1 in
     let a2 : after (without_fence b) ys ≡ with_records new b = whole_changes (without_fence b) (with_records new b) s1 s2 in
-    let g1 : first ≡ xs = f1 ∙ ap (λ t. t ++ writes_of_piece Fence 0 (version ++ 99 ∷ []) (after b t)) e0 in
+    let g1 : first ≡ xs = f1 ∙ ap (λ t. t ++ writes_of_piece Fence 0 (fence_version ++ 99 ∷ []) (after b t)) e0 in
     let h1 : after b first ≡ without_fence b = ap (after b) g1 ∙ a1 in
     let g2 : second ≡ xs ++ ys = f2 ∙ (ap (λ t. first ++ writes_of_piece Fence 8 t (after b first)) et ∙ (ap (λ t. first ++ writes_of_piece Fence 8 (drop 8 new) t) h1 ∙ ap (λ t. t ++ ys) g1)) in
     let h2 : after b second ≡ with_records new b = ap (after b) g2 ∙ (fold-append put_line b xs ys ∙ (ap (λ t. after t ys) a1 ∙ a2)) in

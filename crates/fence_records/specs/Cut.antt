@@ -22,7 +22,7 @@ GoesWith Circle first rest = rest ≡ []
 GoesWith Unknown first rest = ⊥
 
 -- the items are one circle, return point or polygon
-pub record IsRun (run : List FenceItem) : Type 0 where
+pub record AreOneFigure (run : List FenceItem) : Type 0 where
   pub first : FenceItem
   pub rest : List FenceItem
   pub run_is : run ≡ first ∷ rest
@@ -31,7 +31,7 @@ pub record IsRun (run : List FenceItem) : Type 0 where
 -- the items are such runs, one after another
 pub record IsCut (items : List FenceItem) : Type 0 where
   pub runs : List (List FenceItem)
-  pub right : All IsRun runs
+  pub right : All AreOneFigure runs
   pub items_are : items ≡ flat_map (λ run. run) runs
 
 -- MAV_CMD_NAV_FENCE_RETURN_POINT

@@ -4,7 +4,7 @@ use Rattle.std.specs.Prelude.{List, [], ◌∷◌, ◌++◌, length, take, drop,
 use Rattle.std.specs.Int.{w32}
 use Rattle.std.specs.List.{flat_map}
 use Rattle.std.specs.Str.{bytes_eq}
-use Rattle.storage_lines.specs.Numbers.{bytes_of, number_of, unsigned, signed_of}
+use Rattle.storage_lines.specs.Numbers.{bytes_of_number, number_of, unsigned, signed_of}
 use Rattle.mission_commands.specs.Commands.{IsPatternOfWhole}
 use Rattle.fence_records.specs.declared.items.FenceItem.{FenceItem}
 use Rattle.fence_records.specs.declared.items.Point.{Point}
@@ -28,14 +28,14 @@ items_of (ReturnPoint p) = item 5000 0 p ∷ []
 
 -- latitude and longitude, four bytes each
 abbrev pub point_bytes : Point → List ℕ
-point_bytes p = bytes_of 4 (unsigned 4 p.x) ++ bytes_of 4 (unsigned 4 p.y)
+point_bytes p = bytes_of_number 4 (unsigned 4 p.x) ++ bytes_of_number 4 (unsigned 4 p.y)
 
 -- how a figure is stored: a byte of its type, then its numbers
 abbrev pub record_of : Figure → List ℕ
 record_of (Polygon inside pattern points) =
     (if inside then 98 else 97) ∷ length points ∷ flat_map point_bytes points
 record_of (Round inside radius p) =
-    (if inside then 92 else 93) ∷ (point_bytes p ++ bytes_of 4 radius)
+    (if inside then 92 else 93) ∷ (point_bytes p ++ bytes_of_number 4 radius)
 record_of (ReturnPoint p) = 95 ∷ point_bytes p
 
 -- both are numbers of four bytes
@@ -50,8 +50,8 @@ IsFigure (Round inside radius p) = (radius < 2 ^ 32) × (IsPoint p)
 IsFigure (ReturnPoint p) = IsPoint p
 
 -- the bytes begin with no whole record
-abbrev pub IsEnd : List ℕ → Type 0
-IsEnd bytes = (f : Figure) (rest : List ℕ) → IsFigure f → bytes ≢ record_of f ++ rest
+abbrev pub IsFenceEnd : List ℕ → Type 0
+IsFenceEnd bytes = (f : Figure) (rest : List ℕ) → IsFigure f → bytes ≢ record_of f ++ rest
 
 -- the bytes are records up to an end, and these hold the items
 pub record HoldsItems (bytes : List ℕ) (items : List FenceItem) : Type 0 where
@@ -59,17 +59,17 @@ pub record HoldsItems (bytes : List ℕ) (items : List FenceItem) : Type 0 where
   pub rest : List ℕ
   pub right : All IsFigure figures
   pub bytes_are : bytes ≡ flat_map record_of figures ++ rest
-  pub ends : IsEnd rest
+  pub ends : IsFenceEnd rest
   pub items_are : items ≡ flat_map items_of figures
 
 -- the first four bytes of the area, without which there are no items
-abbrev pub version : List ℕ
-version = 0xEB ∷ 0 ∷ 0 ∷ 0 ∷ []
+abbrev pub fence_version : List ℕ
+fence_version = 0xEB ∷ 0 ∷ 0 ∷ 0 ∷ []
 
 -- the area holds the items; without the version it holds none
 abbrev pub IsFence : List ℕ → List FenceItem → Type 0
 IsFence area items =
-    MatchBool (bytes_eq (take 4 area) version) (HoldsItems (drop 4 area) items) (items ≡ [])
+    MatchBool (bytes_eq (take 4 area) fence_version) (HoldsItems (drop 4 area) items) (items ≡ [])
 
 -- the point that the first eight bytes say
 abbrev pub point_of : List ℕ → Point

@@ -21,7 +21,7 @@ use Rattle.fence_records.specs.declared.items.Point.{Point}
 use Rattle.fence_records.specs.Items.{kind_of}
 use Rattle.fence_records.specs.Cut.{IsCut, IsAllowedFence}
 use Rattle.fence_records.specs.Fence.{Figure, IsFence, Polygon, Round, ReturnPoint, items_of}
-use Rattle.fence_records.specs.Fence.{record_of, version, point_of, points_from}
+use Rattle.fence_records.specs.Fence.{record_of, fence_version, point_of, points_from}
 use Rattle.fence_records.specs.Write.{fence_area, encoded, without_fence, fence_writes}
 
 -- how many of the powers of two from 2 to 2 ^ 23 a number reaches: its highest bit
@@ -35,8 +35,8 @@ pattern_of n =
     else (127 + highest_bit n) * 2 ^ 23 + (n * 2 ^ (23 - highest_bit n) - 2 ^ 23)
 
 -- the whole number of a pattern that isn't negative
-abbrev pub number_in : ℕ → ℕ
-number_in pattern = magnitude pattern / 2 ^ 149
+abbrev pub whole_number_in : ℕ → ℕ
+whole_number_in pattern = magnitude pattern / 2 ^ 149
 
 -- the figure of a type that begins the bytes, with how many bytes it takes
 abbrev pub figure_of : ℕ → List ℕ → Option (Figure)
@@ -67,7 +67,7 @@ figures_in (suc n) bytes =
 -- The stored fence: the one list with `IsFence`.
 abbrev pub fence_of : List ℕ → List FenceItem
 fence_of bytes =
-    if bytes_eq (take 4 (fence_area bytes)) version
+    if bytes_eq (take 4 (fence_area bytes)) fence_version
     then flat_map items_of (figures_in FENCE_BYTES (drop 4 (fence_area bytes))) else []
 
 -- It is: the area holds these items and no others.
@@ -94,9 +94,9 @@ abbrev pub figure_with : Kind → FenceItem → List FenceItem → Option Figure
 figure_with Return first items = Some (ReturnPoint (point first))
 figure_with Circle first items = Some (Round (first.command == 5003) first.param1 (point first))
 figure_with Vertex first items =
-    if is_polygon first (take (number_in first.param1) items) (number_in first.param1)
+    if is_polygon first (take (whole_number_in first.param1) items) (whole_number_in first.param1)
     then Some (Polygon (first.command == 5001) first.param1
-    (map point (take (number_in first.param1) items)))
+    (map point (take (whole_number_in first.param1) items)))
     else None
 figure_with Unknown first items = None
 
@@ -145,8 +145,8 @@ pub record FiguresAreCuts : Type 0 where
       → (¬ IsAllowedFence items) ↔ (replace_writes bytes items ≡ Err 5)
 
 -- the lines that clear the fence
-abbrev pub clear_writes : List ℕ → List LineWrite
-clear_writes bytes = changes bytes (without_fence bytes)
+abbrev pub clear_fence_writes : List ℕ → List LineWrite
+clear_fence_writes bytes = changes bytes (without_fence bytes)
 
 -- an item that `from_item` gives: a return point has no parameter, and a vertex the one pattern of
 -- its count
@@ -155,7 +155,7 @@ pub record IsFenceItem (i : FenceItem) : Type 0 where
   pub y : FitsSigned w32 i.y
   pub bits : i.param1 < 2 ^ 32
   pub return_point : i.command ≡ 5000 → i.param1 ≡ 0
-  pub vertex : kind_of i.command ≡ Vertex → i.param1 ≡ pattern_of (number_in i.param1)
+  pub vertex : kind_of i.command ≡ Vertex → i.param1 ≡ pattern_of (whole_number_in i.param1)
 
 -- all of them are
 abbrev pub AreFenceItems : List FenceItem → Type 0
@@ -172,8 +172,8 @@ FencesAreReplaced = (bytes : List ℕ) (items : List FenceItem) (ws : List LineW
 -- new one.
 pub record FencesInSteps : Type 0 where
   pub clears : (bytes : List ℕ) (j : ℕ) → length bytes ≡ STORAGE_BYTES
-      → (fence_of (after bytes (take j (clear_writes bytes))) ≡ fence_of bytes)
-      ⊎ (fence_of (after bytes (take j (clear_writes bytes))) ≡ [])
+      → (fence_of (after bytes (take j (clear_fence_writes bytes))) ≡ fence_of bytes)
+      ⊎ (fence_of (after bytes (take j (clear_fence_writes bytes))) ≡ [])
   pub replaces : (bytes : List ℕ) (items : List FenceItem) (ws : List LineWrite) (j : ℕ)
       → length bytes ≡ STORAGE_BYTES → replace_writes bytes items ≡ Ok ws
       → (fence_of (after bytes (take j ws)) ≡ fence_of bytes)

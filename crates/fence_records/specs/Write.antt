@@ -5,7 +5,7 @@ use Rattle.storage_lines.specs.declared.areas.Area.TheVariants.{Fence}
 use Rattle.storage_lines.specs.declared.lines.LineWrite.{LineWrite}
 use Rattle.storage_lines.specs.Areas.{logical_of, put_in, spans_of}
 use Rattle.storage_lines.specs.Lines.{changes}
-use Rattle.fence_records.specs.Fence.{Figure, record_of, version}
+use Rattle.fence_records.specs.Fence.{Figure, record_of, fence_version}
 
 -- the bytes of the fence's area
 abbrev pub fence_area : List ℕ → List ℕ
@@ -13,11 +13,11 @@ fence_area bytes = logical_of Fence bytes
 
 -- the version, the records and the end mark
 abbrev pub encoded : List Figure → List ℕ
-encoded figures = version ++ flat_map record_of figures ++ 99 ∷ []
+encoded figures = fence_version ++ flat_map record_of figures ++ 99 ∷ []
 
 -- the storage without a fence: an end behind the version
 abbrev pub without_fence : List ℕ → List ℕ
-without_fence bytes = put_in (spans_of Fence) 0 (version ++ 99 ∷ []) bytes
+without_fence bytes = put_in (spans_of Fence) 0 (fence_version ++ 99 ∷ []) bytes
 
 -- all lines but the first are those of the new fence
 abbrev pub with_records : List ℕ → List ℕ → List ℕ

@@ -3,7 +3,7 @@
 ghost use Rattle.std.specs.Prelude.{◌≡◌, ◌≢◌, ◌<◌, ◌≤◌, ◌++◌, List, length, take, All, MatchOption};
 ghost use Rattle.std.specs.Prelude.{MatchBool, MatchResult, count_by};
 ghost use Rattle.fence_records.specs.declared.items.FenceItem.{FenceItem};
-ghost use Rattle.fence_records.specs.Cut.{IsRun, IsCut, IsAlike, IsAllowedFence, is_return};
+ghost use Rattle.fence_records.specs.Cut.{AreOneFigure, IsCut, IsAlike, IsAllowedFence, is_return};
 
 use crate::items::{FenceItem, Kind, kind_of};
 use word_bits::whole_of;
@@ -20,8 +20,8 @@ fn are_alike(first: &FenceItem, items: &[FenceItem]) -> bool
 pub fn run_length(items: &[FenceItem]) -> Option<usize>
     requires { 0 < length items.now }
     ensures { MatchOption result
-        ((run rest : List FenceItem) → IsRun run → items.now ≢ run ++ rest)
-        (λ n. (0 < n) × (n ≤ length items.now) × IsRun (take n items.now)) }
+        ((run rest : List FenceItem) → AreOneFigure run → items.now ≢ run ++ rest)
+        (λ n. (0 < n) × (n ≤ length items.now) × AreOneFigure (take n items.now)) }
 {
     let first = items[0];
     match kind_of(first.command) {

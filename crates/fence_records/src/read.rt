@@ -8,7 +8,7 @@ ghost use Rattle.storage_lines.specs.declared.lines.TheConstants.{STORAGE_BYTES}
 ghost use Rattle.fence_records.specs.declared.TheConstants.{FENCE_BYTES};
 ghost use Rattle.fence_records.specs.Write.{fence_area};
 ghost use Rattle.fence_records.specs.Lists.{fence_of};
-ghost use Rattle.fence_records.specs.Fence.{Figure, IsFigure, IsEnd, IsFence, item, items_of};
+ghost use Rattle.fence_records.specs.Fence.{Figure, IsFigure, IsFenceEnd, IsFence, item, items_of};
 ghost use Rattle.fence_records.specs.Fence.{record_of, point_of, points_from};
 
 use crate::FENCE_BYTES;
@@ -85,7 +85,7 @@ fn choice(first: bool, a: u16, b: u16) -> u16
 fn read_record(bytes: &[u8], items: &mut ArrayVec<FenceItem, 52>) -> Option<usize>
     requires { 8 * array_vec_len items.old + length bytes.now ≤ FENCE_BYTES }
     ensures figure { MatchOption result
-        (IsEnd bytes.now × (items.new.items ≡ items.old.items))
+        (IsFenceEnd bytes.now × (items.new.items ≡ items.old.items))
         (λ n. (f : Figure) × (IsFigure f) × (take n bytes.now ≡ record_of f)
         × (items.new.items ≡ items.old.items ++ items_of f)) }
     ensures size { IfSome result (λ n. (2 ≤ n) × (n ≤ length bytes.now)

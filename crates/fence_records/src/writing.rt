@@ -11,12 +11,12 @@ ghost use Rattle.storage_lines.specs.Pieces.{writes_of_piece};
 ghost use Rattle.fence_records.specs.declared.TheConstants.{FENCE_BYTES};
 ghost use Rattle.fence_records.specs.declared.items.FenceItem.{FenceItem};
 ghost use Rattle.fence_records.specs.Items.{kind_of};
-ghost use Rattle.fence_records.specs.Cut.{IsRun, IsCut, IsAllowedFence};
+ghost use Rattle.fence_records.specs.Cut.{AreOneFigure, IsCut, IsAllowedFence};
 ghost use Rattle.fence_records.specs.Fence.{Figure, ReturnPoint, Round, Polygon, record_of};
 ghost use Rattle.fence_records.specs.Fence.{point_bytes};
 ghost use Rattle.fence_records.specs.Write.{encoded, fence_writes};
 ghost use Rattle.fence_records.specs.Lists.{point, figure_at, figures_of, replace_writes};
-ghost use Rattle.fence_records.specs.Lists.{clear_writes};
+ghost use Rattle.fence_records.specs.Lists.{clear_fence_writes};
 
 use crate::FENCE_BYTES;
 use crate::cut::run_length;
@@ -103,7 +103,7 @@ fn push_polygon(inside: bool, items: &[FenceItem], bytes: &mut ArrayVec<u8, FENC
 /// Appends the record of a circle, a return point or a polygon, where it leaves room for the end
 /// mark.
 fn push_record(run: &[FenceItem], bytes: &mut ArrayVec<u8, FENCE_BYTES>) -> bool
-    requires run { IsRun run.now }
+    requires run { AreOneFigure run.now }
     requires room { array_vec_len bytes.old ≤ 415 }
     ensures record { (i : FenceItem) (others : List FenceItem) → run.now ≡ i ∷ others →
         MatchBool result
@@ -223,7 +223,7 @@ pub fn clear(current: &[u8], batch: &mut Batch)
     requires size { length current.now ≡ STORAGE_BYTES }
     requires room { array_vec_len batch.old + 1 ≤ BATCH_LINES }
     ensures { batch.new.items ≡
-        batch.old.items ++ clear_writes (after current.now batch.old.items) }
+        batch.old.items ++ clear_fence_writes (after current.now batch.old.items) }
 {
     put(0, &[0xEB, 0, 0, 0, 99], current, batch);
 }

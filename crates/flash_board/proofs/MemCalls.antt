@@ -4,7 +4,7 @@ use Rattle.flash_traits.specs.Words.{Words}
 use Rattle.flash_traits.specs.Losses.{SentFrame, Moment, IsUpTo, Outcome, Elapses, OnWords, ChangesWords, Covers}
 use Rattle.flash_board.specs.Flash.{words_of}
 use Rattle.flash_board.specs.Record.{stepped, replayed, counted, moment_after, MayLeave, LeftBy}
-use Rattle.flash_board.specs.Kept.{start, moment_of, frame_of, IsKept}
+use Rattle.flash_board.specs.Kept.{outcome_at_attach, moment_of, frame_of, KeepsRecord}
 use Rattle.flash_board.specs.MemoryLaws.{Now, Left, HasLists}
 use Rattle.flash_board.specs.declared.memory.Memory.{Memory}
 use Rattle.flash_board.specs.declared.flash.Flash.{Flash}
@@ -17,7 +17,7 @@ use Rattle.flash_traits.proofs.Moments.{up_to_self}
 
 -- the outcome that the record gives
 abbrev pub before_of : Memory → Outcome
-before_of m = replayed m.feed.items m.calls.items (start m.base)
+before_of m = replayed m.feed.items m.calls.items (outcome_at_attach m.base)
 
 -- what the fields have to do with each other, after one more call
 pub kept-push : (m : Memory) (image : Flash) (calls : List Call) (sent : List Sent) (after : Counts) (c : Call)
@@ -25,11 +25,11 @@ pub kept-push : (m : Memory) (image : Flash) (calls : List Call) (sent : List Se
     → words_of image ≡ (stepped m.feed.items c (record { words = words_of m.image; events = (before_of m).events; frames = (before_of m).frames })).words
     → moment_of after ≡ counted m.feed.items c (moment_of m.counts)
     → map frame_of sent ≡ take 4096 (stepped m.feed.items c (before_of m)).frames
-    → IsKept image m.base m.feed.items calls sent after m.first
+    → KeepsRecord image m.base m.feed.items calls sent after m.first
 kept-push m image calls sent after c told is words moment frames =
     let o = before_of m in
     let kept = m.kept told in
-    let pushed = replayed-noted m.feed.items m.calls.items calls c (start m.base) is in
+    let pushed = replayed-noted m.feed.items m.calls.items calls c (outcome_at_attach m.base) is in
     record {
       words = words ∙ ap (λ (w : Words). let from : Outcome = record { words = w; events = o.events; frames = o.frames } in (stepped m.feed.items c from).words) kept.words
           ∙ sym (ap (λ (o : Outcome). o.words) pushed);
@@ -64,38 +64,38 @@ module _ (old new : Memory) (c : Call) (notes : Notes old new c) where
   feed = old.feed.items
 
   abbrev before : Outcome
-  before = replayed feed old.calls.items (start old.base)
+  before = replayed feed old.calls.items (outcome_at_attach old.base)
 
-  pub after_is : new.full ≡ false → replayed new.feed.items new.calls.items (start new.base) ≡ stepped feed c before
+  pub after_is : new.full ≡ false → replayed new.feed.items new.calls.items (outcome_at_attach new.base) ≡ stepped feed c before
   after_is told =
-      ap (λ (f : List Feed). replayed f new.calls.items (start new.base)) notes.feed
-      ∙ ap (λ (b : Flash). replayed feed new.calls.items (start b)) notes.base
-      ∙ ap (λ (l : List Call). replayed feed l (start old.base)) (notes.noted told)
-      ∙ replayed-push feed old.calls.items c (start old.base)
+      ap (λ (f : List Feed). replayed f new.calls.items (outcome_at_attach new.base)) notes.feed
+      ∙ ap (λ (b : Flash). replayed feed new.calls.items (outcome_at_attach b)) notes.base
+      ∙ ap (λ (l : List Call). replayed feed l (outcome_at_attach old.base)) (notes.noted told)
+      ∙ replayed-push feed old.calls.items c (outcome_at_attach old.base)
 
   left_is : (t : Moment) (o : Outcome) → Left new t o → Left old t o ⊎ (MayLeave feed c before o ⊎ (o ≡ stepped feed c before))
   left_is t o left =
-      let old_left : LeftBy feed (old.calls.items ++ c ∷ []) (moment_of old.first) (start old.base) t o =
-      subst (λ (l : List Call). LeftBy feed l (moment_of old.first) (start old.base) t o) (notes.noted left.0)
-      (subst (λ (n : Counts). LeftBy feed new.calls.items (moment_of n) (start old.base) t o) notes.first
-      (subst (λ (b : Flash). LeftBy feed new.calls.items (moment_of new.first) (start b) t o) notes.base
-      (subst (λ (f : List Feed). LeftBy f new.calls.items (moment_of new.first) (start new.base) t o) notes.feed left.1))) in
-      ⊎_elim (λ was. inl (notes.told left.0, was)) (λ new. inr new) (left-push feed old.calls.items c (moment_of old.first) t (start old.base) o old_left)
+      let old_left : LeftBy feed (old.calls.items ++ c ∷ []) (moment_of old.first) (outcome_at_attach old.base) t o =
+      subst (λ (l : List Call). LeftBy feed l (moment_of old.first) (outcome_at_attach old.base) t o) (notes.noted left.0)
+      (subst (λ (n : Counts). LeftBy feed new.calls.items (moment_of n) (outcome_at_attach old.base) t o) notes.first
+      (subst (λ (b : Flash). LeftBy feed new.calls.items (moment_of new.first) (outcome_at_attach b) t o) notes.base
+      (subst (λ (f : List Feed). LeftBy f new.calls.items (moment_of new.first) (outcome_at_attach new.base) t o) notes.feed left.1))) in
+      ⊎_elim (λ was. inl (notes.told left.0, was)) (λ new. inr new) (left-push feed old.calls.items c (moment_of old.first) t (outcome_at_attach old.base) o old_left)
 
-  to_new : (t : Moment) (o : Outcome) → new.full ≡ false → LeftBy feed (old.calls.items ++ c ∷ []) (moment_of old.first) (start old.base) t o → Left new t o
+  to_new : (t : Moment) (o : Outcome) → new.full ≡ false → LeftBy feed (old.calls.items ++ c ∷ []) (moment_of old.first) (outcome_at_attach old.base) t o → Left new t o
   to_new t o told left = (
     told,
-    subst (λ (f : List Feed). LeftBy f new.calls.items (moment_of new.first) (start new.base) t o) (sym notes.feed)
-        (subst (λ (b : Flash). LeftBy feed new.calls.items (moment_of new.first) (start b) t o) (sym notes.base)
-        (subst (λ (n : Counts). LeftBy feed new.calls.items (moment_of n) (start old.base) t o) (sym notes.first)
-        (subst (λ (l : List Call). LeftBy feed l (moment_of old.first) (start old.base) t o) (sym (notes.noted told)) left))),
+    subst (λ (f : List Feed). LeftBy f new.calls.items (moment_of new.first) (outcome_at_attach new.base) t o) (sym notes.feed)
+        (subst (λ (b : Flash). LeftBy feed new.calls.items (moment_of new.first) (outcome_at_attach b) t o) (sym notes.base)
+        (subst (λ (n : Counts). LeftBy feed new.calls.items (moment_of n) (outcome_at_attach old.base) t o) (sym notes.first)
+        (subst (λ (l : List Call). LeftBy feed l (moment_of old.first) (outcome_at_attach old.base) t o) (sym (notes.noted told)) left))),
   )
 
   pub covers : (lost : Outcome → Outcome → Type 0) → ((o : Outcome) → lost before o → MayLeave feed c before o)
       → Covers (Unit {0}) (λ (m : Memory). moment_of m.counts) Now Left old new lost
   covers lost is_may = record {
     each = λ kept n now o in_it. to_new (moment_of old.counts) o now.0
-        (left-cover feed old.calls.items c (moment_of old.first) (moment_of old.counts) (start old.base) o
+        (left-cover feed old.calls.items c (moment_of old.first) (moment_of old.counts) (outcome_at_attach old.base) o
         (subst (λ (t : Moment). IsUpTo (moment_of old.counts) t) (old.kept (notes.told now.0)).moment (up_to_self (moment_of old.counts)))
         (is_may o (subst (λ (s : Outcome). lost s o) in_it.was.1 in_it.steps)));
   }
@@ -111,7 +111,7 @@ module _ (old new : Memory) (c : Call) (notes : Notes old new c) where
         (λ (fresh : _). inr (record { from = before; was = (notes.told left.0, refl); steps = ⊎_elim (may_lose o) (λ is. subst (λ (o : Outcome). lost before o) (sym is) (loses left.0)) fresh }))
         (left_is t o left);
     here = λ o now. record { from = before; was = (notes.told now.0, refl); steps = subst (λ (o : Outcome). done before o) (sym (now.1 ∙ after_is now.0)) (does now.0) };
-    keeps = λ kept n now t o le left. to_new t o now.0 (left-keep feed old.calls.items c (moment_of old.first) t (start old.base) o left.1);
+    keeps = λ kept n now t o le left. to_new t o now.0 (left-keep feed old.calls.items c (moment_of old.first) t (outcome_at_attach old.base) o left.1);
   }
 
   pub changes : (lost done : Words → Words → Type 0) → new.sector_bytes ≡ old.sector_bytes

@@ -46,8 +46,9 @@ sent_on f h = record {
 }
 
 -- an image of this sector size is attached
-abbrev pub begun : ℕ → Holdings → Holdings
-begun size h = record { image_size = size; upcoming = h.upcoming; first_frames = []; recorded = 0 }
+abbrev pub newly_attached : ℕ → Holdings → Holdings
+newly_attached size h = record
+    { image_size = size; upcoming = h.upcoming; first_frames = []; recorded = 0 }
 
 -- the event that comes next
 abbrev pub next_event : Holdings → Received

@@ -33,8 +33,8 @@ fault_count f kind.Recv = f.recv
 fault_count f kind.Send = f.send
 
 -- how the board stood at its attach
-abbrev pub start : Flash → Outcome
-start base = record { words = words_of base; events = []; frames = [] }
+abbrev pub outcome_at_attach : Flash → Outcome
+outcome_at_attach base = record { words = words_of base; events = []; frames = [] }
 
 -- a kept frame with its peer
 abbrev pub frame_of : Sent → SentFrame
@@ -42,11 +42,12 @@ frame_of s = sent_frame s.peer s.bytes.items
 
 -- The record, replayed over the image of the last attach, gives the image, the moment and the first
 -- frames.
-pub record IsKept (image base : Flash) (feed : List Feed) (calls : List Call) (sent : List Sent)
+pub record KeepsRecord (image base : Flash) (feed : List Feed) (calls : List Call)
+    (sent : List Sent)
     (now first : Counts) : Type 0 where
-  pub words : words_of image ≡ (replayed feed calls (start base)).words
+  pub words : words_of image ≡ (replayed feed calls (outcome_at_attach base)).words
   pub moment : moment_of now ≡ moment_after feed calls (moment_of first)
-  pub frames : map frame_of sent ≡ take 4096 (replayed feed calls (start base)).frames
+  pub frames : map frame_of sent ≡ take 4096 (replayed feed calls (outcome_at_attach base)).frames
 
 -- the record has room for 65,536 calls, and beside it there is room for 4,096 frames
 pub record HasSpace (calls : Vec Call Global) (sent : Vec Sent Global) : Type 0 where

@@ -6,17 +6,18 @@ use Rattle.flash_traits.specs.Losses.{Received, Idle, SentFrame, Moment, IsUpTo,
 use Rattle.flash_traits.proofs.Sizes.{size_not_zero}
 use Rattle.flash_board.specs.Flash.{words_of}
 use Rattle.flash_board.specs.Record.{replayed, LeftBy, only_last, counts_last}
-use Rattle.flash_board.specs.Kept.{start, moment_of}
+use Rattle.flash_board.specs.Kept.{outcome_at_attach, moment_of}
 use Rattle.flash_board.specs.declared.memory.Memory.{Memory}
 
 -- while there is room in the record: what stands after all recorded calls
 abbrev pub Now : Memory → Outcome → Type 0
-Now m o = (m.full ≡ false) × (o ≡ replayed m.feed.items m.calls.items (start m.base))
+Now m o = (m.full ≡ false) × (o ≡ replayed m.feed.items m.calls.items (outcome_at_attach m.base))
 
 -- while there is room in the record: what a loss between or inside the recorded calls may have left
 -- since a moment
 abbrev pub Left : Memory → Moment → Outcome → Type 0
-Left m t o = (m.full ≡ false) × LeftBy m.feed.items m.calls.items (moment_of m.first) (start m.base)
+Left m t o = (m.full ≡ false) × LeftBy m.feed.items m.calls.items (moment_of m.first)
+    (outcome_at_attach m.base)
     t o
 
 -- a loss now leaves what reads give
@@ -29,9 +30,11 @@ pub counts_left : (m : Memory) (t : Moment) (o : Outcome) → IsUpTo t (moment_o
     Now m o → Left m t o
 counts_left m t o le now = (
   now.0,
-  subst (λ (o : Outcome). LeftBy m.feed.items m.calls.items (moment_of m.first) (start m.base) t o)
+  subst (λ (o : Outcome). LeftBy m.feed.items m.calls.items (moment_of m.first)
+      (outcome_at_attach m.base) t o)
       (sym now.1)
-      (counts_last m.feed.items m.calls.items (moment_of m.first) t (start m.base) (subst (λ (n :
+      (counts_last m.feed.items m.calls.items (moment_of m.first) t (outcome_at_attach m.base)
+      (subst (λ (n :
       Moment). IsUpTo t n) (m.kept now.0).moment le)),
 )
 
@@ -39,21 +42,22 @@ counts_left m t o le now = (
 pub only_left : (m : Memory) (o : Outcome) → Left m (moment_of m.counts) o → Now m o
 only_left m o left = (
   left.0,
-  only_last m.feed.items m.calls.items (moment_of m.first) (start m.base) o
-      (subst (λ (n : Moment). LeftBy m.feed.items m.calls.items (moment_of m.first) (start m.base) n
+  only_last m.feed.items m.calls.items (moment_of m.first) (outcome_at_attach m.base) o
+      (subst (λ (n : Moment). LeftBy m.feed.items m.calls.items (moment_of m.first)
+      (outcome_at_attach m.base) n
       o) (m.kept left.0).moment left.1),
 )
 
 -- the events received and the frames sent by the recorded calls
-abbrev pub events_of : Memory → List Received
-events_of m = (replayed m.feed.items m.calls.items (start m.base)).events
+abbrev pub recorded_events : Memory → List Received
+recorded_events m = (replayed m.feed.items m.calls.items (outcome_at_attach m.base)).events
 
-abbrev pub frames_of : Memory → List SentFrame
-frames_of m = (replayed m.feed.items m.calls.items (start m.base)).frames
+abbrev pub recorded_frames : Memory → List SentFrame
+recorded_frames m = (replayed m.feed.items m.calls.items (outcome_at_attach m.base)).frames
 
 -- while there is room in the record, just these lists; afterwards any
 abbrev pub HasLists : Memory → List Received → List SentFrame → Type 0
-HasLists m e f = m.full ≡ false → (e ≡ events_of m) × (f ≡ frames_of m)
+HasLists m e f = m.full ≡ false → (e ≡ recorded_events m) × (f ≡ recorded_frames m)
 
 -- the clauses of a board's calls, of a device in memory
 abbrev pub MemoryChanges : Memory → Memory → (Words → Words → Type 0) → (Words → Words → Type 0) →
@@ -76,8 +80,8 @@ MemoryKeeps old new = KeepsWords (λ (m : Memory). m.sector_bytes) (λ (m : Memo
     ≡ false) (λ (m : Memory). words_of m.image) old new
 
 -- where there is room in the record and for the count, what is told is told on
-abbrev pub GoesOn : Memory → Memory → ℕ → Type 0
-GoesOn old new count = old.full ≡ false → length old.calls.items < 65536 → count < 2 ^ 64 - 1 →
+abbrev pub StaysTold : Memory → Memory → ℕ → Type 0
+StaysTold old new count = old.full ≡ false → length old.calls.items < 65536 → count < 2 ^ 64 - 1 →
     new.full ≡ false
 
 -- one more event
@@ -117,11 +121,11 @@ pub record MemorySends (old new : Memory) (frame : SentFrame) (done : Bool) : Ty
 -- while it tells, it stands for one pair of lists, and a loss now leaves just these and what reads
 -- give
 pub one_pair : (m : Memory) (told : m.full ≡ false) (e : List Received) (f : List SentFrame) →
-    HasLists m e f ↔ ((e ≡ events_of m) × (f ≡ frames_of m))
+    HasLists m e f ↔ ((e ≡ recorded_events m) × (f ≡ recorded_frames m))
 one_pair m told e f = (λ stood. stood told, λ same told. same)
 
 pub just_now : (m : Memory) (told : m.full ≡ false) (o : Outcome) → Now m o ↔
-    ((o.words ≡ words_of m.image) × (o.events ≡ events_of m) × (o.frames ≡ frames_of m))
+    ((o.words ≡ words_of m.image) × (o.events ≡ recorded_events m) × (o.frames ≡ recorded_frames m))
 just_now m told o = (
   λ now. (
     ap (λ (o : Outcome). o.words) now.1 ∙ sym (m.kept told).words,
@@ -143,8 +147,8 @@ just_now m told o = (
 pub untold_is_full : (m : Memory) → ((e : List Received) (f : List SentFrame) → HasLists m e f) →
     m.full ≡ false → ⊥
 untold_is_full m any told =
-    let none : [] ≡ events_of m = (any [] [] told).0 in
-    let one : Idle ∷ [] ≡ events_of m = (any (Idle ∷ []) [] told).0 in
+    let none : [] ≡ recorded_events m = (any [] [] told).0 in
+    let one : Idle ∷ [] ≡ recorded_events m = (any (Idle ∷ []) [] told).0 in
     cc
 
 -- the lists have the lengths of the sector size

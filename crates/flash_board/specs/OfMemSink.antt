@@ -11,5 +11,5 @@ abbrev pub next_call : MemSink → ℕ
 next_call s = s.number
 
 -- how many bytes are kept at most
-abbrev pub room_of : MemSink → ℕ
-room_of s = s.output.room
+abbrev pub capacity_of : MemSink → ℕ
+capacity_of s = s.output.room

@@ -3,5 +3,5 @@ use Rattle.std.specs.Prelude.{ℕ}
 use Rattle.flash_board.specs.declared.sure_sink.SureSink.{SureSink}
 
 -- how many bytes are kept at most
-abbrev pub room_of : SureSink → ℕ
-room_of s = s.output.room
+abbrev pub capacity_of : SureSink → ℕ
+capacity_of s = s.output.room

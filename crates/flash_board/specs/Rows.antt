@@ -3,7 +3,7 @@ use Rattle.std.specs.Prelude.{ℕ, ◌≤◌, List, [], ◌∷◌, length, Vec, 
 use Rattle.std.specs.declared.alloc.Global.{Global}
 
 -- at most n halfwords, in room for n, so that no call takes memory
-pub record HasRoom (halfwords : Vec ℕ Global) (n : ℕ) : Type 0 where
+pub record HasRoomFor (halfwords : Vec ℕ Global) (n : ℕ) : Type 0 where
   pub size : length halfwords.items ≤ n
   pub room : n ≤ vec_capacity halfwords
 

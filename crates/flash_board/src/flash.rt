@@ -1,7 +1,7 @@
 // The words of a device, in memory.
 ghost use Rattle.std.specs.Prelude.{◌≡◌, ◌<◌, ◌≤◌, ◌^◌, ◌++◌, ℕ, length, IfOk, slice_index, slice_set, replicate, bit_and, vec_capacity};
 ghost use Rattle.flash_traits.specs.Words.{Words, halfwords_in, bytes_of, programmed, erased, IsSectorRegion};
-ghost use Rattle.flash_board.specs.Rows.{HasRoom, half_set};
+ghost use Rattle.flash_board.specs.Rows.{HasRoomFor, half_set};
 ghost use Rattle.flash_board.specs.Image.{image_bytes};
 
 use crate::{GUARD_HALFWORDS, Region};
@@ -15,7 +15,7 @@ pub(crate) struct Flash {
     pub(crate) s0: Vec<u16>,
     pub(crate) s1: Vec<u16>,
     pub(crate) guard: Vec<u16>,
-    ghost sizes: { HasRoom s0 65536 × (HasRoom s1 65536 × HasRoom guard 8192) },
+    ghost sizes: { HasRoomFor s0 65536 × (HasRoomFor s1 65536 × HasRoomFor guard 8192) },
 }
 
 // Clears the bits of a halfword that the word lacks.

@@ -1,6 +1,6 @@
 // Makes a device in memory from an image's bytes.
 ghost use Rattle.std.specs.Prelude.{◌≡◌, ◌≢◌, ◌<◌, ◌≤◌, ◌*◌, ◌+◌, [], ℕ, List, length, IfOk, IsTrue, false};
-ghost use Rattle.flash_board.specs.Rows.{HasRoom};
+ghost use Rattle.flash_board.specs.Rows.{HasRoomFor};
 ghost use Rattle.flash_traits.specs.Words.{IsSectorSize, halfwords_of};
 ghost use Rattle.flash_board.specs.Flash.{words_of};
 ghost use Rattle.flash_board.specs.Kept.{peers_fit, moment_of};
@@ -22,7 +22,7 @@ const GUARD: usize = 8_192;
 fn halfwords_of(alloc: Global, bytes: &[u8], room: usize) -> Result<Vec<u16>, AllocError>
     requires { length bytes.now ≤ 2 * room }
     ensures items { IfOk result (λ list. list.items ≡ halfwords_of bytes.now) }
-    ensures room { IfOk result (λ list. HasRoom list room) }
+    ensures room { IfOk result (λ list. HasRoomFor list room) }
 {
     let mut list = Vec::with_capacity(alloc, room)?;
     let mut rest = bytes;

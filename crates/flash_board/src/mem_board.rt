@@ -118,7 +118,7 @@ impl Board for MemBoard {
     ghost use Rattle.flash_board.specs.Flash.{words_of, half_erased};
     ghost use Rattle.flash_board.specs.Kept.{moment_of, fault_count};
     ghost use Rattle.flash_board.specs.MemoryLaws.{Now, Left, HasLists, reads_now, counts_left, only_left, shape_now};
-    ghost use Rattle.flash_board.specs.Holdings.{noted, fed, sent_on, begun, next_event};
+    ghost use Rattle.flash_board.specs.Holdings.{noted, fed, sent_on, newly_attached, next_event};
     ghost use Rattle.flash_board.specs.Numbers.{is_among, CountsKind};
     ghost use Rattle.flash_board.specs.OfMemBoard.{device, holdings, failing_calls, next_call};
 
@@ -177,7 +177,7 @@ impl Board for MemBoard {
             ≡ ⟦<MemBoard as Board>⟧.words self.old) (λ size. ⟦<MemBoard as Board>⟧.words self.new
             ≡ blank size)) }
         ensures holdings { OnOk result (holdings self.new
-            ≡ begun (⟦<MemBoard as Board>⟧.sector_bytes self.new) (holdings self.old)) }
+            ≡ newly_attached (⟦<MemBoard as Board>⟧.sector_bytes self.new) (holdings self.old)) }
         ensures still { OnErr result (device self.new ≡ device self.old) }
     {
         if fails_now(&self.fails, &mut self.number) || !self.memory.attach(make) {

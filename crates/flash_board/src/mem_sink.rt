@@ -18,14 +18,14 @@ pub struct MemSink {
 
 impl MemSink {
     ghost use Rattle.std.specs.Prelude.{IfOk, []};
-    ghost use Rattle.flash_board.specs.OfMemSink.{failing_calls, next_call, room_of};
+    ghost use Rattle.flash_board.specs.OfMemSink.{failing_calls, next_call, capacity_of};
 
     /// A sink with room for so many bytes. The call with the number k, counted from 0, fails where
     /// k is in `fails`, and writes nothing.
     pub fn new(alloc: Global, room: u32, fails: &[u32]) -> Result<MemSink, AllocError>
         ensures told { IfOk result (λ sink. ⟦<MemSink as Sink>⟧.tells_written sink) }
         ensures written { IfOk result (λ sink. ⟦<MemSink as Sink>⟧.written sink ≡ []) }
-        ensures room { IfOk result (λ sink. room_of sink ≡ room) }
+        ensures room { IfOk result (λ sink. capacity_of sink ≡ room) }
         ensures faults { IfOk result (λ sink. ⟦<MemSink as Sink>⟧.faults sink ≡ 0) }
         ensures fails { IfOk result (λ sink. (failing_calls sink ≡ fails.now) × (next_call sink
             ≡ 0)) }
@@ -54,7 +54,7 @@ impl MemSink {
 impl Sink for MemSink {
     ghost use Rattle.std.specs.Prelude.{◌≡◌, ◌↔◌, ◌≤◌, ◌+◌, ◌++◌, ℕ, true, length, take, IsOk, IsErr, IsTrue, OnErr, MatchResult, Ok, Err};
     ghost use Rattle.flash_traits.specs.Causes.{HasOneCause};
-    ghost use Rattle.flash_board.specs.OfMemSink.{failing_calls, next_call, room_of};
+    ghost use Rattle.flash_board.specs.OfMemSink.{failing_calls, next_call, capacity_of};
     ghost use Rattle.flash_board.specs.Numbers.{is_among, CountsFault};
     ghost use Rattle.flash_traits.specs.Counts.{raised};
 
@@ -80,11 +80,11 @@ impl Sink for MemSink {
         ensures leaves { OnErr result (⟦<MemSink as Sink>⟧.written self.new
             ≡ ⟦<MemSink as Sink>⟧.written self.old) }
         ensures goes_on { ⟦<MemSink as Sink>⟧.tells_written self.old →
-            length (⟦<MemSink as Sink>⟧.written self.old) + length from.now ≤ room_of self.old →
+            length (⟦<MemSink as Sink>⟧.written self.old) + length from.now ≤ capacity_of self.old →
             ⟦<MemSink as Sink>⟧.tells_written self.new }
         ensures stops { (⟦<MemSink as Sink>⟧.tells_written self.new → ⊥) →
             ⟦<MemSink as Sink>⟧.written self.new ≡ ⟦<MemSink as Sink>⟧.written self.old }
-        ensures room { room_of self.new ≡ room_of self.old }
+        ensures room { capacity_of self.new ≡ capacity_of self.old }
     {
         if fails_now(&self.fails, &mut self.number) {
             self.faults = self.faults.saturating_add(1);

@@ -1,7 +1,7 @@
 // The device in memory: the words, the feed, and the record of calls since the last attach.
 ghost use Rattle.std.specs.Prelude.{◌≡◌, ◌↔◌, ◌<◌, ◌≤◌, ◌≢◌, ◌^◌, ◌-◌, ◌+◌, ◌++◌, [], ◌∷◌, List, ℕ, Bool, true, false, min, length, map, take, drop, slice_get, IfOk, OnOk, OnErr, IsTrue, vec_capacity};
 ghost use Rattle.std.specs.Bool.{OnTrue, OnFalse};
-ghost use Rattle.flash_board.specs.Kept.{IsKept, IsShaped, HasSpace, peers_fit, frame_of};
+ghost use Rattle.flash_board.specs.Kept.{KeepsRecord, IsShaped, HasSpace, peers_fit, frame_of};
 ghost use Rattle.flash_traits.specs.Losses.{received, sent_frame, IsEventInRange};
 ghost use Rattle.flash_board.specs.Record.{event_of};
 ghost use Rattle.flash_traits.specs.Words.{IsSectorSize, is_size};
@@ -31,7 +31,8 @@ pub(crate) struct Memory {
     pub(crate) counts: Counts,
     pub(crate) first: Counts,
     pub(crate) frames: Vec<Sent>,
-    ghost kept: { full ≡ false → IsKept image base feed.items calls.items frames.items counts first },
+    ghost kept: { full ≡ false
+        → KeepsRecord image base feed.items calls.items frames.items counts first },
     ghost room: { HasSpace calls frames },
     ghost shaped: { IsShaped size image },
     ghost attached: { sector_bytes ≢ 0 → sector_bytes ≡ size },
@@ -121,8 +122,8 @@ impl Memory {
     ghost use Rattle.flash_traits.specs.Losses.{OnWords, after_program, after_erase, after_recv, after_send};
     ghost use Rattle.flash_board.specs.Flash.{words_of, half_erased};
     ghost use Rattle.flash_board.specs.Kept.{moment_of};
-    ghost use Rattle.flash_board.specs.Holdings.{holdings_of, noted, fed, sent_on, begun, next_event, frame_in};
-    ghost use Rattle.flash_board.specs.MemoryLaws.{MemoryChanges, MemoryCovers, MemoryReceives, MemoryReceivesNothing, MemorySends, GoesOn};
+    ghost use Rattle.flash_board.specs.Holdings.{holdings_of, noted, fed, sent_on, newly_attached, next_event, frame_in};
+    ghost use Rattle.flash_board.specs.MemoryLaws.{MemoryChanges, MemoryCovers, MemoryReceives, MemoryReceivesNothing, MemorySends, StaysTold};
 
     pub(crate) fn program(&mut self, region: Region, at: usize, word: u16)
         requires { at < length (halfwords_in (words_of self.old.image) region) }
@@ -133,7 +134,7 @@ impl Memory {
         ensures words { words_of self.new.image
             ≡ programmed (words_of self.old.image) region at word }
         ensures holdings { holdings_of self.new ≡ noted (holdings_of self.old) }
-        ensures goes_on { GoesOn self.old self.new (moment_of self.old.counts).programs }
+        ensures goes_on { StaysTold self.old self.new (moment_of self.old.counts).programs }
     {
         let count = self.counts.programs;
         self.counts.programs = count.saturating_add(1);
@@ -154,7 +155,7 @@ impl Memory {
         ensures moment { moment_of self.new.counts ≡ after_program (moment_of self.old.counts) }
         ensures words { words_of self.new.image ≡ words_of self.old.image }
         ensures holdings { holdings_of self.new ≡ noted (holdings_of self.old) }
-        ensures goes_on { GoesOn self.old self.new (moment_of self.old.counts).programs }
+        ensures goes_on { StaysTold self.old self.new (moment_of self.old.counts).programs }
     {
         let count = self.counts.programs;
         self.counts.programs = count.saturating_add(1);
@@ -173,7 +174,7 @@ impl Memory {
         ensures moment { moment_of self.new.counts ≡ after_erase (moment_of self.old.counts) }
         ensures words { words_of self.new.image ≡ erased (words_of self.old.image) region }
         ensures holdings { holdings_of self.new ≡ noted (holdings_of self.old) }
-        ensures goes_on { GoesOn self.old self.new (moment_of self.old.counts).erases }
+        ensures goes_on { StaysTold self.old self.new (moment_of self.old.counts).erases }
     {
         let count = self.counts.erases;
         self.counts.erases = count.saturating_add(1);
@@ -189,7 +190,7 @@ impl Memory {
         ensures moment { moment_of self.new.counts ≡ after_erase (moment_of self.old.counts) }
         ensures words { words_of self.new.image ≡ half_erased (words_of self.old.image) region }
         ensures holdings { holdings_of self.new ≡ noted (holdings_of self.old) }
-        ensures goes_on { GoesOn self.old self.new (moment_of self.old.counts).erases }
+        ensures goes_on { StaysTold self.old self.new (moment_of self.old.counts).erases }
     {
         let count = self.counts.erases;
         self.counts.erases = count.saturating_add(1);
@@ -209,7 +210,7 @@ impl Memory {
         ensures next { received result into.new ≡ next_event (holdings_of self.old) }
         ensures words { words_of self.new.image ≡ words_of self.old.image }
         ensures holdings { holdings_of self.new ≡ noted (fed (holdings_of self.old)) }
-        ensures goes_on { GoesOn self.old self.new (moment_of self.old.counts).receptions }
+        ensures goes_on { StaysTold self.old self.new (moment_of self.old.counts).receptions }
     {
         let count = self.counts.receptions;
         self.counts.receptions = count.saturating_add(1);
@@ -226,7 +227,7 @@ impl Memory {
         ensures moment { moment_of self.new.counts ≡ after_recv (moment_of self.old.counts) }
         ensures words { words_of self.new.image ≡ words_of self.old.image }
         ensures holdings { holdings_of self.new ≡ noted (holdings_of self.old) }
-        ensures goes_on { GoesOn self.old self.new (moment_of self.old.counts).receptions }
+        ensures goes_on { StaysTold self.old self.new (moment_of self.old.counts).receptions }
     {
         let count = self.counts.receptions;
         self.counts.receptions = count.saturating_add(1);
@@ -242,7 +243,7 @@ impl Memory {
         ensures words { words_of self.new.image ≡ words_of self.old.image }
         ensures holdings { holdings_of self.new
             ≡ noted (sent_on (sent_frame peer bytes.now) (holdings_of self.old)) }
-        ensures goes_on { GoesOn self.old self.new (moment_of self.old.counts).sendings }
+        ensures goes_on { StaysTold self.old self.new (moment_of self.old.counts).sendings }
     {
         let count = self.counts.sendings;
         self.counts.sendings = count.saturating_add(1);
@@ -262,7 +263,7 @@ impl Memory {
         ensures moment { moment_of self.new.counts ≡ after_send (moment_of self.old.counts) }
         ensures words { words_of self.new.image ≡ words_of self.old.image }
         ensures holdings { holdings_of self.new ≡ noted (holdings_of self.old) }
-        ensures goes_on { GoesOn self.old self.new (moment_of self.old.counts).sendings }
+        ensures goes_on { StaysTold self.old self.new (moment_of self.old.counts).sendings }
     {
         let count = self.counts.sendings;
         self.counts.sendings = count.saturating_add(1);
@@ -294,7 +295,7 @@ impl Memory {
             ≡ words_of self.old.image) (λ size. words_of self.new.image ≡ blank size)) }
         ensures anew { OnTrue result (self.new.calls.items ≡ []) }
         ensures holdings { OnTrue result (holdings_of self.new
-            ≡ begun self.new.sector_bytes (holdings_of self.old)) }
+            ≡ newly_attached self.new.sector_bytes (holdings_of self.old)) }
         ensures counts { self.new.counts ≡ self.old.counts }
         ensures known { OnTrue result (IsTrue (is_size self.new.size)) }
         ensures fails { (result ≡ false) ↔ ((make ≡ None) × (is_size self.old.size ≡ false)) }

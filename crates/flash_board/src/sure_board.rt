@@ -101,7 +101,7 @@ impl Board for SureBoard {
     ghost use Rattle.flash_board.specs.Flash.{words_of};
     ghost use Rattle.flash_board.specs.Kept.{moment_of};
     ghost use Rattle.flash_board.specs.MemoryLaws.{Now, Left, HasLists, reads_now, counts_left, only_left, shape_now};
-    ghost use Rattle.flash_board.specs.Holdings.{noted, fed, sent_on, begun, next_event};
+    ghost use Rattle.flash_board.specs.Holdings.{noted, fed, sent_on, newly_attached, next_event};
     ghost use Rattle.flash_board.specs.OfSureBoard.{device, holdings};
 
     ghost sector_bytes = { λ m. m.memory.sector_bytes };
@@ -156,7 +156,7 @@ impl Board for SureBoard {
             ≡ ⟦<SureBoard as Board>⟧.words self.old) (λ size. ⟦<SureBoard as Board>⟧.words self.new
             ≡ blank size)) }
         ensures holdings { OnOk result (holdings self.new
-            ≡ begun (⟦<SureBoard as Board>⟧.sector_bytes self.new) (holdings self.old)) }
+            ≡ newly_attached (⟦<SureBoard as Board>⟧.sector_bytes self.new) (holdings self.old)) }
     {
         if self.memory.attach(make) {
             Ok(self.geometry())

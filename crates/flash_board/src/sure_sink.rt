@@ -14,13 +14,13 @@ pub struct SureSink {
 
 impl SureSink {
     ghost use Rattle.std.specs.Prelude.{IfOk, []};
-    ghost use Rattle.flash_board.specs.OfSureSink.{room_of};
+    ghost use Rattle.flash_board.specs.OfSureSink.{capacity_of};
 
     /// A sink with room for so many bytes.
     pub fn new(alloc: Global, room: u32) -> Result<SureSink, AllocError>
         ensures told { IfOk result (λ sink. ⟦<SureSink as Sink>⟧.tells_written sink) }
         ensures written { IfOk result (λ sink. ⟦<SureSink as Sink>⟧.written sink ≡ []) }
-        ensures room { IfOk result (λ sink. room_of sink ≡ room) }
+        ensures room { IfOk result (λ sink. capacity_of sink ≡ room) }
         ensures faults { IfOk result (λ sink. ⟦<SureSink as Sink>⟧.faults sink ≡ 0) }
     {
         let kept = Vec::with_capacity(alloc, room as usize)?;
@@ -49,7 +49,7 @@ impl SureSink {
 impl Sink for SureSink {
     ghost use Rattle.std.specs.Prelude.{◌≡◌, ◌↔◌, ◌≤◌, ◌+◌, ◌++◌, ℕ, true, length, take, IsOk, IsErr, IsTrue, OnErr, MatchResult, Ok, Err};
     ghost use Rattle.flash_traits.specs.Causes.{HasOneCause};
-    ghost use Rattle.flash_board.specs.OfSureSink.{room_of};
+    ghost use Rattle.flash_board.specs.OfSureSink.{capacity_of};
 
     ghost tells_written = { λ s. s.output.told ≡ true };
 
@@ -68,11 +68,12 @@ impl Sink for SureSink {
         ensures cause { HasOneCause (⟦<SureSink as Sink>⟧.faults self.old) (⟦<SureSink as Sink>⟧.faults self.new) result }
         ensures sure { IsOk result }
         ensures goes_on { ⟦<SureSink as Sink>⟧.tells_written self.old →
-            length (⟦<SureSink as Sink>⟧.written self.old) + length from.now ≤ room_of self.old →
+            length (⟦<SureSink as Sink>⟧.written self.old) + length from.now
+            ≤ capacity_of self.old →
             ⟦<SureSink as Sink>⟧.tells_written self.new }
         ensures stops { (⟦<SureSink as Sink>⟧.tells_written self.new → ⊥) →
             ⟦<SureSink as Sink>⟧.written self.new ≡ ⟦<SureSink as Sink>⟧.written self.old }
-        ensures room { room_of self.new ≡ room_of self.old }
+        ensures room { capacity_of self.new ≡ capacity_of self.old }
     {
         self.output.write(from);
         Ok(())

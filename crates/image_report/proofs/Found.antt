@@ -2,7 +2,7 @@
 use Rattle.std.proofs.Common.{◌≡◌, ℕ, [], refl}
 use Rattle.flash_traits.specs.Words.{Words}
 use Rattle.flash_traits.specs.declared.board.Board.{Ghosts}
-use Rattle.sector_image.specs.Stands.{Reading, Reads, count_in, shape_of}
+use Rattle.sector_image.specs.Stands.{Reading, IsReadAs, count_in, shape_of_reading}
 use Rattle.sector_image.specs.Images.{Bytes}
 use Rattle.sector_image.specs.Fits.{FitsShape, reading_of}
 use Rattle.sector_image.specs.declared.kept.Kept.{Kept}
@@ -12,8 +12,8 @@ use Rattle.sector_image.specs.declared.kept.Shape.TheVariants as shape
 -- the words are an image of this state and this guard count
 pub record IsState (w : Words) (name : Shape) (count : ℕ) : Type 0 where
   pub reading : Reading
-  pub reads : Reads w reading
-  pub shape : shape_of reading ≡ name
+  pub reads : IsReadAs w reading
+  pub shape : shape_of_reading reading ≡ name
   pub counted : count_in reading ≡ count
 
 pub state_of : {B : Type 0} (g : Ghosts B) (b : B) (name : Shape) (kept : Kept) (images : Bytes) → FitsShape name g b kept images → g.tells b → IsState (g.words b) name kept.guard

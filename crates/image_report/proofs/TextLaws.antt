@@ -10,10 +10,10 @@ use Rattle.sector_log.specs.declared.log.Log.{Log}
 use Rattle.sector_log.specs.Entries.{Entry}
 use Rattle.sector_log.specs.Bytes.{IsValue}
 use Rattle.sector_log.specs.Sector.{IsSector}
-use Rattle.sector_log.specs.Log.{IsLogOf, end_of, torn_of}
+use Rattle.sector_log.specs.Log.{IsLogOf, end_of_entries, torn_of}
 use Rattle.sector_log.proofs.SectorLemmas as sectors
 use Rattle.sector_log.proofs.ValueLemmas as values
-use Rattle.sector_image.specs.Stands.{Reading, Stands, entries_in, count_in, shape_of}
+use Rattle.sector_image.specs.Stands.{Reading, Stands, entries_in, count_in, shape_of_reading}
 use Rattle.sector_image.specs.declared.kept.Shape.{Shape}
 use Rattle.sector_image.proofs.ImageLaws as image
 use Rattle.sector_image.proofs.Regions.{big, half_of}
@@ -30,7 +30,7 @@ pub one_dump : (w : Words) (a b : List ℕ) → IsDump w a → IsDump w b → a 
 one_dump w a b p q =
     let same : p.reading ≡ q.reading = image.one_reading w p.reading q.reading p.reads q.reads in
     let bytes : p.bytes ≡ q.bytes = values.one_value (entries_in p.reading) p.bytes q.bytes p.value (subst (λ (r : Reading). IsValue (entries_in r) q.bytes) (sym same) q.value) in
-    p.is ∙ (ap (λ (r : Reading). dump_text (2 * length w.s0) (count_in r) (shape_of r) p.bytes) same ∙ ap (dump_text (2 * length w.s0) (count_in q.reading) (shape_of q.reading)) bytes) ∙ sym q.is
+    p.is ∙ (ap (λ (r : Reading). dump_text (2 * length w.s0) (count_in r) (shape_of_reading r) p.bytes) same ∙ ap (dump_text (2 * length w.s0) (count_in q.reading) (shape_of_reading q.reading)) bytes) ∙ sym q.is
 
 -- words with a dump stand for bytes
 pub dump_stands : (w : Words) (text : List ℕ) → IsDump w text → (bytes : List ℕ) × Stands w bytes
@@ -38,7 +38,7 @@ dump_stands w text p = (p.bytes, (p.reading, p.reads, p.value))
 
 -- words that stand for bytes have a dump
 pub dump_of : (w : Words) (bytes : List ℕ) → Stands w bytes → (text : List ℕ) × IsDump w text
-dump_of w bytes s = (dump_text (2 * length w.s0) (count_in s.0) (shape_of s.0) bytes, record { reading = s.0; bytes = bytes; reads = s.1; value = s.2; is = refl })
+dump_of w bytes s = (dump_text (2 * length w.s0) (count_in s.0) (shape_of_reading s.0) bytes, record { reading = s.0; bytes = bytes; reads = s.1; value = s.2; is = refl })
 
 one_guard : (words : List ℕ) (f h : GuardFound) → IsGuardFound words f → IsGuardFound words h → f ≡ h
 one_guard words (guard.Count c) (guard.Count d) p q = ap guard.Count (row.one_count words c d p q)
@@ -50,7 +50,7 @@ one_log : (region : Region) (words : List ℕ) (a b : Log) (es fs : List Entry) 
 one_log region words a b es fs x y p q =
     let same = sectors.one_sector words a.mark b.mark es fs x y in
     let same_region : a.region ≡ b.region = p.region ∙ sym q.region in
-    let same_end : a.end ≡ b.end = p.end ∙ ap end_of same.1 ∙ sym q.end in
+    let same_end : a.end ≡ b.end = p.end ∙ ap end_of_entries same.1 ∙ sym q.end in
     let same_torn : a.torn ≡ b.torn = p.torn ∙ ap torn_of same.1 ∙ sym q.torn in
     let same_valid : a.valid ≡ b.valid = p.valid ∙ ap (count_by (λ e. e.header.state == 0)) same.1 ∙ sym q.valid in
     let same_gaps : a.gaps ≡ b.gaps = p.gaps ∙ ap (count_by (λ e. e.header.state == 1)) same.1 ∙ sym q.gaps in
@@ -71,7 +71,7 @@ one_state : (w : Words) (f h : Option Shape) → IsStateFound w f → IsStateFou
 one_state w None None p q = refl
 one_state w None (Some b) p q = absurd (p q.0 q.1)
 one_state w (Some a) None p q = absurd (q p.0 p.1)
-one_state w (Some a) (Some b) p q = ap Some (sym p.2 ∙ (ap shape_of (image.one_reading w p.0 q.0 p.1 q.1) ∙ q.2))
+one_state w (Some a) (Some b) p q = ap Some (sym p.2 ∙ (ap shape_of_reading (image.one_reading w p.0 q.0 p.1 q.1) ∙ q.2))
 
 one_found : (w : Words) (f h : Findings) → IsFound w f → IsFound w h → f ≡ h
 one_found w f h p q =
@@ -107,7 +107,7 @@ void_or None r = inr (λ e. cc)
 void_or (Some q) r = elim (same_or q r) [ inl e ↦ inl (ap Some e) | inr n ↦ inr (λ e. n (cc)) ]
 
 log_of : Region → Mark → List Entry → Log
-log_of region mark es = record { region = region; mark = mark; end = end_of es; torn = torn_of es; valid = count_by (λ e. e.header.state == 0) es; gaps = count_by (λ e. e.header.state == 1) es }
+log_of region mark es = record { region = region; mark = mark; end = end_of_entries es; torn = torn_of es; valid = count_by (λ e. e.header.state == 0) es; gaps = count_by (λ e. e.header.state == 1) es }
 
 log_found : (region : Region) (words : List ℕ) (mark : Mark) (es : List Entry) → IsSector words mark es → IsSector words (log_of region mark es).mark es × IsLogOf (log_of region mark es) region (log_of region mark es).mark es
 unfolding log_of
@@ -124,7 +124,7 @@ sector_of void region words long = elim (void_or void region) [
 
 state_of : (w : Words) (size : ℕ) → IsSectorSize size → HasShape size w → (f : Option Shape) × IsStateFound w f
 state_of w size known shaped = elim (image.either w size known shaped) [
-  | inl p ↦ (Some (shape_of p.1.0), (p.1.0, p.1.1, refl))
+  | inl p ↦ (Some (shape_of_reading p.1.0), (p.1.0, p.1.1, refl))
   | inr p ↦ (None, λ reading reads. image.never_both w reading p.0 reads p.1)
 ]
 

@@ -22,7 +22,7 @@ use Rattle.hex.specs.Hex.{encode_upper, encode_lower}
 use Rattle.sha2.specs.Sha256.{sha256}
 use Rattle.flash_traits.specs.Words.{Words}
 use Rattle.sector_log.specs.Bytes.{IsValue}
-use Rattle.sector_image.specs.Stands.{Reading, Reads, entries_in, count_in, shape_of}
+use Rattle.sector_image.specs.Stands.{Reading, IsReadAs, entries_in, count_in, shape_of_reading}
 use Rattle.sector_image.specs.declared.kept.Shape.{Shape}
 use Rattle.param_tree.specs.declared.Kind.{Kind}
 use Rattle.param_tree.specs.declared.Kind.TheVariants.{I8, I16, I32, F32, Vec3}
@@ -122,6 +122,6 @@ dump_text sector_bytes count shape bytes = head_line sector_bytes count shape ++
 pub record IsDump (w : Words) (text : List ℕ) : Type 0 where
   pub reading : Reading
   pub bytes : List ℕ
-  pub reads : Reads w reading
+  pub reads : IsReadAs w reading
   pub value : IsValue (entries_in reading) bytes
-  pub is : text ≡ dump_text (2 * length w.s0) (count_in reading) (shape_of reading) bytes
+  pub is : text ≡ dump_text (2 * length w.s0) (count_in reading) (shape_of_reading reading) bytes

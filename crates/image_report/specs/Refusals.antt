@@ -1,13 +1,13 @@
 -- What the answers of the calls say.
 use Rattle.std.specs.Prelude.{Result, Ok, Err}
 use Rattle.flash_traits.specs.declared.board.Fault.{Fault}
-use Rattle.sector_image.specs.FirstBad.{Place, place_of}
+use Rattle.sector_image.specs.FirstBad.{Place, foreign_place}
 use Rattle.image_report.specs.declared.errors.ReportError.{ReportError}
 use Rattle.image_report.specs.declared.errors.ReportError.TheVariants as errors
 
 -- what holds where a foreign word is named, of its place
 abbrev pub OnForeign : ReportError → (Place → Type 0) → Type 0
-OnForeign (errors.Foreign region offset word) P = P (place_of region offset word)
+OnForeign (errors.Foreign region offset word) P = P (foreign_place region offset word)
 OnForeign _ P = Unit {0}
 
 -- what holds where a call of the board failed, of its kind

@@ -18,7 +18,7 @@ use Rattle.sector_log.specs.declared.log.Log.{Log}
 use Rattle.sector_log.specs.Entries.{Entry}
 use Rattle.sector_log.specs.Sector as sector
 use Rattle.sector_log.specs.Log.{IsLogOf}
-use Rattle.sector_image.specs.Stands.{Reading, Reads, shape_of}
+use Rattle.sector_image.specs.Stands.{Reading, IsReadAs, shape_of_reading}
 use Rattle.sector_image.specs.declared.kept.Shape.{Shape}
 use Rattle.image_report.specs.declared.findings.GuardFound.{GuardFound}
 use Rattle.image_report.specs.declared.findings.GuardFound.TheVariants as guard
@@ -50,8 +50,9 @@ IsSectorFound void region halfwords (found.Foreign offset word) = (void ≢ Some
 
 -- the words are in this state, or in none
 abbrev pub IsStateFound : Words → Option Shape → Type 0
-IsStateFound w (Some shape) = (reading : Reading) × Reads w reading × (shape_of reading ≡ shape)
-IsStateFound w None = (reading : Reading) → Reads w reading → ⊥
+IsStateFound w (Some shape) = (reading : Reading) × IsReadAs w reading
+    × (shape_of_reading reading ≡ shape)
+IsStateFound w None = (reading : Reading) → IsReadAs w reading → ⊥
 
 -- what is found in the words
 pub record IsFound (w : Words) (findings : Findings) : Type 0 where

@@ -4,7 +4,7 @@ use Rattle.mav_messages.specs.declared.messages.Message.{Message}
 use Rattle.mav_messages.specs.declared.messages.Message.TheVariants.{Heartbeat, ParamRequestRead, ParamRequestList, ParamValue, ParamSet, MissionRequest, MissionRequestList, MissionCount, MissionClearAll, MissionAck, MissionRequestInt, MissionItemInt, CommandLong, CommandAck}
 use Rattle.mav_messages.specs.Fields.{Description, layout_of}
 use Rattle.mav_messages.specs.Descriptions.{described}
-use Rattle.mav_messages.specs.Payload.{values_in, filled, wire_bytes, plain_values, Suit, IsPayload, total}
+use Rattle.mav_messages.specs.Payload.{values_in, filled, wire_bytes, plain_values, Suit, IsPayload, total_width}
 use Rattle.mav_messages.specs.Messages.{field_values, description_of, FitsTypes, SaysMessage, ArrivesAs}
 use Rattle.mav_messages.proofs.Plain.{plain, sent}
 use Rattle.mav_messages.proofs.One.{plain_fits}
@@ -18,7 +18,7 @@ record Kind (m : Message) : Type 0 where
   same : description_of (plain m) ≡ description_of m
   values : field_values (plain m) ≡ plain_values (layout_of (description_of m)) (field_values m)
   last : Last (layout_of (description_of m))
-  small : total (layout_of (description_of m)) ≤ 64
+  small : total_width (layout_of (description_of m)) ≤ 64
 
 facts : (m : Message) → Kind m
 facts (Heartbeat custom_mode kind autopilot base_mode system_status mavlink_version) = record { listed = refl; same = refl; values = refl; last = inl (refl, inl (refl, inl (refl, inl (refl, inl (refl, inl (refl, tt)))))); small = lit≤ tt }

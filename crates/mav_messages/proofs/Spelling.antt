@@ -2,7 +2,7 @@
 use Rattle.std.proofs.Common.{ℕ, max, ◌≡◌, ◌*◌, ◌<◌, ◌≤◌, Bool, true, false, not, ◌&&◌, cond, List, [], ◌∷◌, length, arith, length-append}
 use Rattle.byteorder.specs.Numbers.{length-bytes_low_first}
 use Rattle.mav_messages.specs.declared.layouts.Row.{Row}
-use Rattle.mav_messages.specs.Payload.{Value, Number, Bytes, number_bytes, value_bytes, wire_bytes, Suits, Suit, total}
+use Rattle.mav_messages.specs.Payload.{Value, Number, Bytes, number_bytes, value_bytes, wire_bytes, Suits, Suit, total_width}
 
 pub length-number_bytes : (w n : ℕ) → length (number_bytes w n) ≡ w
 unfolding number_bytes
@@ -26,7 +26,7 @@ skipped : (b : Bool) (xs : List ℕ) → length (cond b [] xs) ≤ length xs
 skipped true xs = omega arith
 skipped false xs = omega arith
 
-pub length-spelling : (v2 : Bool) (rs : List Row) (vs : List Value) → Suit rs vs → length (wire_bytes v2 rs vs) ≤ total rs
+pub length-spelling : (v2 : Bool) (rs : List Row) (vs : List Value) → Suit rs vs → length (wire_bytes v2 rs vs) ≤ total_width rs
 unfolding wire_bytes
 length-spelling v2 [] vs h = omega arith
 length-spelling v2 (r ∷ rs) [] h = absurd h

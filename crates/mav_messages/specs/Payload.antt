@@ -83,6 +83,6 @@ IsPayload false rows values bytes = bytes ≡ wire_bytes false rows values
 IsPayload true rows values bytes = IsTrimmed (wire_bytes true rows values) bytes
 
 -- how many bytes all fields take
-abbrev pub total : List Row → ℕ
-total [] = 0
-total (r ∷ rs) = r.width * max 1 r.array + total rs
+abbrev pub total_width : List Row → ℕ
+total_width [] = 0
+total_width (r ∷ rs) = r.width * max 1 r.array + total_width rs

@@ -10,7 +10,7 @@ use Rattle.mission_commands.specs.declared.table.Shape.{Shape}
 use Rattle.mission_commands.specs.declared.table.Shape.TheVariants.{Located, Plain, Unlisted}
 use Rattle.mission_commands.specs.declared.commands.Item.{Item}
 use Rattle.mission_commands.specs.declared.commands.Command.{Command}
-use Rattle.storage_lines.specs.Numbers.{bytes_of, number_of, unsigned, signed_of}
+use Rattle.storage_lines.specs.Numbers.{bytes_of_number, number_of, unsigned, signed_of}
 use Rattle.mission_commands.specs.Rows.{IsRow, stored_width}
 use Rattle.mission_commands.specs.Table.{row_of}
 use Rattle.mission_commands.specs.Commands.{Meets, MeetsAll, item_rules, Allows, StoredAs, IsPacked, IsUnpacked, IsLocation, IsRest, IsPlaceOf, IsLatitude, IsLongitude, IfLocated, IsBelowZero, parameter_bytes, location_of, part_at, frame_flags, frame_with, sign_flag, has_sign, has_location}
@@ -74,12 +74,12 @@ half_altitude (negsuc k) h = omega (arith, ints, h.0)
 pub location_back : (content : List ℕ) (flags : ℕ) (k x y : ℤ) → content ≡ location_of flags k x y → IsCentimetres k → IsLatitude x → IsLongitude y
     → (get_or content 0 0 ≡ flags) × (signed_of 3 (number_of (part_at 1 3 content)) ≡ k) × (signed_of 4 (number_of (part_at 4 4 content)) ≡ x) × (signed_of 4 (number_of (part_at 8 4 content)) ≡ y)
 location_back content flags k x y e h lat lon =
-    let a = bytes_of 3 (unsigned 3 k) in
-    let b = bytes_of 4 (unsigned 4 x) in
-    let d = bytes_of 4 (unsigned 4 y) in
-    let la : length (bytes_of 3 (unsigned 3 k)) ≡ 3 = length-bytes_of 3 (unsigned 3 k) in
-    let lb : length (bytes_of 4 (unsigned 4 x)) ≡ 4 = length-bytes_of 4 (unsigned 4 x) in
-    let ld : length (bytes_of 4 (unsigned 4 y)) ≡ 4 = length-bytes_of 4 (unsigned 4 y) in
+    let a = bytes_of_number 3 (unsigned 3 k) in
+    let b = bytes_of_number 4 (unsigned 4 x) in
+    let d = bytes_of_number 4 (unsigned 4 y) in
+    let la : length (bytes_of_number 3 (unsigned 3 k)) ≡ 3 = length-bytes_of 3 (unsigned 3 k) in
+    let lb : length (bytes_of_number 4 (unsigned 4 x)) ≡ 4 = length-bytes_of 4 (unsigned 4 x) in
+    let ld : length (bytes_of_number 4 (unsigned 4 y)) ≡ 4 = length-bytes_of 4 (unsigned 4 y) in
     let l4 : length ((flags ∷ []) ++ a) ≡ 4 = length-append (flags ∷ []) a ∙ ap (λ n. 1 + n) la in
     let l8 : length ((flags ∷ []) ++ a ++ b) ≡ 8 = length-append ((flags ∷ []) ++ a) b ∙ (rw (l4, lb) refl) in
     let e8 = e ∙ ap (λ t. (flags ∷ []) ++ a ++ b ++ t) (sym (append_nil d)) in

@@ -11,10 +11,10 @@ use Rattle.mission_commands.specs.declared.table.Shape.{Shape}
 use Rattle.mission_commands.specs.declared.table.Shape.TheVariants.{Located, Plain, Unlisted}
 use Rattle.mission_commands.specs.declared.commands.Item.{Item}
 use Rattle.mission_commands.specs.declared.commands.Command.{Command}
-use Rattle.storage_lines.specs.Numbers.{bytes_of, unsigned}
+use Rattle.storage_lines.specs.Numbers.{bytes_of_number, unsigned}
 use Rattle.mission_commands.specs.Rows.{IsRow, stored_width}
 use Rattle.mission_commands.specs.Table.{rows, row_of, unlisted}
-use Rattle.mission_commands.specs.Commands.{StoredAs, IsPacked, IsListed, has_location, parameter_bytes, filled, frame_flags, sign_flag}
+use Rattle.mission_commands.specs.Commands.{StoredAs, IsPacked, IsListed, has_location, parameter_bytes, filled_to, frame_flags, sign_flag}
 use Rattle.storage_lines.specs.Bytes.{IsBytes}
 use Rattle.mission_commands.specs.Storable.{StoresFit}
 use Rattle.storage_lines.proofs.NumberLemmas.{length-bytes_of}
@@ -35,10 +35,10 @@ low_append [] ys h k i = k i
 low_append (x ∷ xs) ys h k zero = h zero
 low_append (x ∷ xs) ys h k (suc i) = low_append xs ys (λ j. h (suc j)) k i
 
-pub low_bytes_of : (w n : ℕ) → IsBytes (bytes_of w n)
-unfolding bytes_of
+pub low_bytes_of : (w n : ℕ) → IsBytes (bytes_of_number w n)
+unfolding bytes_of_number
 low_bytes_of zero n = low_nil
-low_bytes_of (suc w) n = low_cons (n % 256) (bytes_of w (n / 256)) (omega arith) (low_bytes_of w (n / 256))
+low_bytes_of (suc w) n = low_cons (n % 256) (bytes_of_number w (n / 256)) (omega arith) (low_bytes_of w (n / 256))
 
 pub low_zeros : (n : ℕ) → IsBytes (replicate {A = ℕ} n 0)
 low_zeros zero = low_nil
@@ -54,13 +54,13 @@ low_part (Whole low high width) bits part h = subst IsBytes (sym h.2) (low_bytes
 low_part (Signed high width) bits part h = subst IsBytes (sym h.2) (low_bytes_of width _)
 low_part Pattern bits part h = subst IsBytes (sym h) (low_bytes_of 4 bits)
 
-pub low_filled : (xs : List ℕ) → IsBytes xs → IsBytes (filled 12 xs)
+pub low_filled : (xs : List ℕ) → IsBytes xs → IsBytes (filled_to 12 xs)
 low_filled xs h = low_append xs (replicate {A = ℕ} (12 - length xs) 0) h (low_zeros (12 - length xs))
 
-pub length-filled : (xs : List ℕ) → length xs ≤ 12 → length (filled 12 xs) ≡ 12
+pub length-filled : (xs : List ℕ) → length xs ≤ 12 → length (filled_to 12 xs) ≡ 12
 length-filled xs h =
     let rest : length (replicate {A = ℕ} (12 - length xs) 0) ≡ 12 - length xs = length-zeros (12 - length xs) in
-    let both : length (filled 12 xs) ≡ length xs + length (replicate {A = ℕ} (12 - length xs) 0) = length-append xs (replicate {A = ℕ} (12 - length xs) 0) in
+    let both : length (filled_to 12 xs) ≡ length xs + length (replicate {A = ℕ} (12 - length xs) 0) = length-append xs (replicate {A = ℕ} (12 - length xs) 0) in
     omega arith
 
 two_more : (m n : ℕ) → n ≡ suc (suc m) → replicate {A = ℕ} n 0 ≡ replicate {A = ℕ} m 0 ++ 0 ∷ 0 ∷ []
@@ -68,15 +68,15 @@ two_more zero n e = rw e refl
 two_more (suc m) n e = rw e (ap (λ t. 0 ∷ t) (two_more m (suc (suc m)) refl))
 
 -- at most ten bytes are filled with two zeros at least
-pub ends_with_zeros : (xs : List ℕ) → length xs ≤ 10 → filled 12 xs ≡ take 10 (filled 12 xs) ++ 0 ∷ 0 ∷ []
+pub ends_with_zeros : (xs : List ℕ) → length xs ≤ 10 → filled_to 12 xs ≡ take 10 (filled_to 12 xs) ++ 0 ∷ 0 ∷ []
 ends_with_zeros xs h =
     let front = xs ++ replicate {A = ℕ} (10 - length xs) 0 in
-    let whole : filled 12 xs ≡ front ++ 0 ∷ 0 ∷ [] =
+    let whole : filled_to 12 xs ≡ front ++ 0 ∷ 0 ∷ [] =
     ap (λ t. xs ++ t) (two_more (10 - length xs) (12 - length xs) (omega arith)) ∙ sym (append_assoc xs (replicate {A = ℕ} (10 - length xs) 0) (0 ∷ 0 ∷ [])) in
     let rest : length (replicate {A = ℕ} (10 - length xs) 0) ≡ 10 - length xs = length-zeros (10 - length xs) in
     let both : length (xs ++ replicate {A = ℕ} (10 - length xs) 0) ≡ length xs + length (replicate {A = ℕ} (10 - length xs) 0) = length-append xs (replicate {A = ℕ} (10 - length xs) 0) in
     let size : 10 ≡ length (xs ++ replicate {A = ℕ} (10 - length xs) 0) = omega arith in
-    let part : take 10 (filled 12 xs) ≡ front = ap (take 10) whole ∙ (ap (λ k. take k (front ++ 0 ∷ 0 ∷ [])) size ∙ take-append_seam front (0 ∷ 0 ∷ [])) in
+    let part : take 10 (filled_to 12 xs) ≡ front = ap (take 10) whole ∙ (ap (λ k. take k (front ++ 0 ∷ 0 ∷ [])) size ∙ take-append_seam front (0 ∷ 0 ∷ [])) in
     whole ∙ ap (λ t. t ++ 0 ∷ 0 ∷ []) (sym part)
 
 -- the row that is found has the id
@@ -169,12 +169,12 @@ record IsContent (row : Row) (content : List ℕ) : Type 0 where
 content_of : (s : Shape) (row : Row) (item : Item) (c : Command) → row.shape ≡ s → IsRow row → IsPacked row item (parameter_bytes s c) → IsRestOf s row item c → IsContent row c.content
 content_of Located row item c e sound p l =
     let flags = frame_flags item.frame + sign_flag l.negative in
-    let a = bytes_of 3 (unsigned 3 l.altitude) in
-    let b = bytes_of 4 (unsigned 4 item.x) in
-    let d = bytes_of 4 (unsigned 4 item.y) in
-    let la : length (bytes_of 3 (unsigned 3 l.altitude)) ≡ 3 = length-bytes_of 3 (unsigned 3 l.altitude) in
-    let lb : length (bytes_of 4 (unsigned 4 item.x)) ≡ 4 = length-bytes_of 4 (unsigned 4 item.x) in
-    let ld : length (bytes_of 4 (unsigned 4 item.y)) ≡ 4 = length-bytes_of 4 (unsigned 4 item.y) in
+    let a = bytes_of_number 3 (unsigned 3 l.altitude) in
+    let b = bytes_of_number 4 (unsigned 4 item.x) in
+    let d = bytes_of_number 4 (unsigned 4 item.y) in
+    let la : length (bytes_of_number 3 (unsigned 3 l.altitude)) ≡ 3 = length-bytes_of 3 (unsigned 3 l.altitude) in
+    let lb : length (bytes_of_number 4 (unsigned 4 item.x)) ≡ 4 = length-bytes_of 4 (unsigned 4 item.x) in
+    let ld : length (bytes_of_number 4 (unsigned 4 item.y)) ≡ 4 = length-bytes_of 4 (unsigned 4 item.y) in
     let e1 : length ((flags ∷ []) ++ a) ≡ 1 + length a = length-append (flags ∷ []) a in
     let e2 : length (((flags ∷ []) ++ a) ++ b) ≡ length ((flags ∷ []) ++ a) + length b = length-append ((flags ∷ []) ++ a) b in
     let e3 : length (((flags ∷ []) ++ a ++ b) ++ d) ≡ length ((flags ∷ []) ++ a ++ b) + length d = length-append ((flags ∷ []) ++ a ++ b) d in

@@ -8,10 +8,10 @@ use Rattle.mission_commands.specs.declared.table.Shape.{Shape}
 use Rattle.mission_commands.specs.declared.table.Shape.TheVariants.{Located, Plain, Unlisted}
 use Rattle.mission_commands.specs.declared.commands.Item.{Item}
 use Rattle.mission_commands.specs.declared.commands.Command.{Command}
-use Rattle.storage_lines.specs.Numbers.{bytes_of}
+use Rattle.storage_lines.specs.Numbers.{bytes_of_number}
 use Rattle.mission_commands.specs.Rows.{IsRow, stored_width}
 use Rattle.mission_commands.specs.Table.{row_of}
-use Rattle.mission_commands.specs.Commands.{Rule, Meets, MeetsAll, FailsWith, IfLocated, IsListed, has_location, is_frame, StoredAs, IsPacked, IsLocation, IsStored, IsRest, parameter_bytes, filled, param_rules, location_rules, item_rules}
+use Rattle.mission_commands.specs.Commands.{Rule, Meets, MeetsAll, FailsWith, IfLocated, IsListed, has_location, is_frame, StoredAs, IsPacked, IsLocation, IsStored, IsRest, parameter_bytes, filled_to, param_rules, location_rules, item_rules}
 use Rattle.storage_lines.proofs.NumberLemmas.{length-bytes_of, bytes_of-next}
 
 pub if_located : (s : Shape) (P : Type 0) → IsTrue (has_location s) → P → IfLocated s P
@@ -51,25 +51,25 @@ length-StoredAs (Signed high width) bits part h = ap length h.2 ∙ length-bytes
 length-StoredAs Pattern bits part h = ap length h ∙ length-bytes_of 4 bits
 
 -- two bytes, and the zeros that are thought to follow
-zeros : bytes_of 10 0 ≡ replicate 10 0
-unfolding bytes_of
+zeros : bytes_of_number 10 0 ≡ replicate 10 0
+unfolding bytes_of_number
 zeros = refl
 
-two_bytes : (a b : ℕ) → a < 256 → b < 256 → bytes_of 12 (a + 256 * b) ≡ a ∷ b ∷ replicate 10 0
+two_bytes : (a b : ℕ) → a < 256 → b < 256 → bytes_of_number 12 (a + 256 * b) ≡ a ∷ b ∷ replicate 10 0
 two_bytes a b p q =
     let low : (a + 256 * b) % 256 ≡ a = omega arith in
     let high : ((a + 256 * b) / 256) % 256 ≡ b = omega arith in
     let none : (a + 256 * b) / 256 / 256 ≡ 0 = omega arith in
     bytes_of-next 12 11 (a + 256 * b) refl ∙ (ap (λ t. ((a + 256 * b) % 256) ∷ t) (bytes_of-next 11 10 ((a + 256 * b) / 256) refl)) ∙ (rw (low, high, none, zeros) refl)
 
-small : (n : ℕ) → n < 65536 → (n % 256) ∷ (n / 256) ∷ replicate 10 0 ≡ bytes_of 12 n
+small : (n : ℕ) → n < 65536 → (n % 256) ∷ (n / 256) ∷ replicate 10 0 ≡ bytes_of_number 12 n
 small n h =
     let low : n % 256 < 256 = omega arith in
     let high : n / 256 < 256 = omega arith in
     let whole : (n % 256) + 256 * (n / 256) ≡ n = omega arith in
-    sym (two_bytes (n % 256) (n / 256) low high) ∙ ap (bytes_of 12) whole
+    sym (two_bytes (n % 256) (n / 256) low high) ∙ ap (bytes_of_number 12) whole
 
-pub head_bytes : (xs : List ℕ) (a b : ℕ) → length xs ≤ 2 → a ≡ get_or (filled 12 xs) 0 0 → b ≡ get_or (filled 12 xs) 1 0 → a < 256 → b < 256 → bytes_of 12 (a + 256 * b) ≡ filled 12 xs
+pub head_bytes : (xs : List ℕ) (a b : ℕ) → length xs ≤ 2 → a ≡ get_or (filled_to 12 xs) 0 0 → b ≡ get_or (filled_to 12 xs) 1 0 → a < 256 → b < 256 → bytes_of_number 12 (a + 256 * b) ≡ filled_to 12 xs
 head_bytes [] a b h e f p q = two_bytes a b p q ∙ (rw (e, f) refl)
 head_bytes (x ∷ []) a b h e f p q = two_bytes a b p q ∙ (rw (e, f) refl)
 head_bytes (x ∷ y ∷ []) a b h e f p q = two_bytes a b p q ∙ (rw (e, f) refl)
@@ -102,7 +102,7 @@ packed_small row item bytes sound shape p =
 
 -- p1 shows the bytes that stand before a location
 pub packed_head : (row : Row) (item : Item) (bytes : List ℕ) → IsRow row → row.shape ≡ Located → IsPacked row item bytes
-    → get_or bytes 0 0 < 256 → get_or bytes 1 0 < 256 → IsPacked row item (bytes_of 12 (get_or bytes 0 0 + 256 * get_or bytes 1 0))
+    → get_or bytes 0 0 < 256 → get_or bytes 1 0 < 256 → IsPacked row item (bytes_of_number 12 (get_or bytes 0 0 + 256 * get_or bytes 1 0))
 packed_head row item bytes sound shape p low high =
     let e = head_bytes (p.first ++ p.second ++ p.third ++ p.fourth) (get_or bytes 0 0) (get_or bytes 1 0) (packed_small row item bytes sound shape p) (ap (λ t. get_or t 0 0) p.together) (ap (λ t. get_or t 1 0) p.together) low high in
     record { first = p.first; second = p.second; third = p.third; fourth = p.fourth; stored1 = p.stored1; stored2 = p.stored2; stored3 = p.stored3; stored4 = p.stored4; together = e }
@@ -119,7 +119,7 @@ placed item row bytes content sound same known sited framed before p after l low
       record {
         id = refl;
         p1 = omega arith;
-        params = subst (λ s. IsPacked (row_of item.command) item (parameter_bytes s (record { id = item.command; p1 = get_or bytes 0 0 + 256 * get_or bytes 1 0; content = content }))) (sym shape') (subst (λ r. IsPacked r item (bytes_of 12 (get_or bytes 0 0 + 256 * get_or bytes 1 0))) same (packed_head row item bytes sound shape p low high));
+        params = subst (λ s. IsPacked (row_of item.command) item (parameter_bytes s (record { id = item.command; p1 = get_or bytes 0 0 + 256 * get_or bytes 1 0; content = content }))) (sym shape') (subst (λ r. IsPacked r item (bytes_of_number 12 (get_or bytes 0 0 + 256 * get_or bytes 1 0))) same (packed_head row item bytes sound shape p low high));
         rest = subst (λ s. IsRest s item (record { id = item.command; p1 = get_or bytes 0 0 + 256 * get_or bytes 1 0; content = content })) (sym shape') (subst (λ r. IsLocation r item content) same l);
       },
     )

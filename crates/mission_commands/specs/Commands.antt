@@ -1,7 +1,7 @@
 -- Which items are commands, and how these are stored.
 use Rattle.std.specs.Prelude.{ℕ, ℤ, pos, negsuc, neg_ℤ, unsigned_abs, ◌≤ℤ◌, ◌≡◌, ◌<◌, ◌+◌, ◌-◌, ◌/◌, ◌%◌, ◌^◌, ◌≢◌, ◌==◌, ◌||◌, ◌⊎◌, ◌↔◌, IsTrue, Bool, true, false, if◌then◌else◌, List, [], ◌∷◌, ◌++◌, length, replicate, take, drop, slice_index, Result, MatchResult}
 use Rattle.word_bits.specs.Pattern.{IsWhole, IsFinite, IsNearest, IsCentimetres, signed}
-use Rattle.storage_lines.specs.Numbers.{bytes_of, number_of, unsigned, signed_of}
+use Rattle.storage_lines.specs.Numbers.{bytes_of_number, number_of, unsigned, signed_of}
 use Rattle.mission_commands.specs.Table.{row_of}
 use Rattle.mission_commands.specs.Rows.{stored_width}
 use Rattle.mission_commands.specs.declared.table.Use.{Use}
@@ -30,20 +30,20 @@ Allows Pattern bits = IsFinite bits
 abbrev pub StoredAs : Use → ℕ → List ℕ → Type 0
 StoredAs Unused bits part = part ≡ []
 StoredAs (Whole low high width) bits part =
-    (n : ℤ) × (IsWhole bits n) × (part ≡ bytes_of width (unsigned width n))
+    (n : ℤ) × (IsWhole bits n) × (part ≡ bytes_of_number width (unsigned width n))
 StoredAs (Signed high width) bits part =
-    (n : ℤ) × (IsWhole bits n) × (part ≡ bytes_of width (unsigned_abs n))
-StoredAs Pattern bits part = part ≡ bytes_of 4 bits
+    (n : ℤ) × (IsWhole bits n) × (part ≡ bytes_of_number width (unsigned_abs n))
+StoredAs Pattern bits part = part ≡ bytes_of_number 4 bits
 
 -- the list, filled with zeros to n bytes
-abbrev pub filled : ℕ → List ℕ → List ℕ
-filled n xs = xs ++ replicate (n - length xs) 0
+abbrev pub filled_to : ℕ → List ℕ → List ℕ
+filled_to n xs = xs ++ replicate (n - length xs) 0
 
 -- where the parameters stand: in the content, or before it, where zeros are thought to follow
 abbrev pub parameter_bytes : Shape → Command → List ℕ
-parameter_bytes Located c = bytes_of 12 c.p1
+parameter_bytes Located c = bytes_of_number 12 c.p1
 parameter_bytes Plain c = c.content
-parameter_bytes Unlisted c = bytes_of 12 c.p1
+parameter_bytes Unlisted c = bytes_of_number 12 c.p1
 
 -- the bytes are those of the parameters that are stored, in order, and then zeros
 pub record IsPacked (row : Row) (item : Item) (bytes : List ℕ) : Type 0 where
@@ -55,7 +55,7 @@ pub record IsPacked (row : Row) (item : Item) (bytes : List ℕ) : Type 0 where
   pub stored2 : StoredAs row.param2 item.param2 second
   pub stored3 : StoredAs row.param3 item.param3 third
   pub stored4 : StoredAs row.param4 item.param4 fourth
-  pub together : bytes ≡ filled 12 (first ++ second ++ third ++ fourth)
+  pub together : bytes ≡ filled_to 12 (first ++ second ++ third ++ fourth)
 
 -- the frames of a location: over the sea, over home, over the ground
 abbrev pub is_location_frame : ℕ → Bool
@@ -103,8 +103,8 @@ IsAltitude z k = IsCentimetres k × IsNearest z k 100
 -- the bytes of a location: the flags, the altitude, the latitude and the longitude
 abbrev pub location_of : ℕ → ℤ → ℤ → ℤ → List ℕ
 location_of flags altitude x y =
-    (flags ∷ []) ++ bytes_of 3 (unsigned 3 altitude)
-    ++ bytes_of 4 (unsigned 4 x) ++ bytes_of 4 (unsigned 4 y)
+    (flags ∷ []) ++ bytes_of_number 3 (unsigned 3 altitude)
+    ++ bytes_of_number 4 (unsigned 4 x) ++ bytes_of_number 4 (unsigned 4 y)
 
 -- The content is that of a location: the flags of the frame and of a negative number, the altitude
 -- in centimetres, latitude and longitude.

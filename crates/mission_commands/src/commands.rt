@@ -6,7 +6,7 @@ ghost use Rattle.arrayvec.specs.ArrayVec.{array_vec_len};
 ghost use Rattle.word_bits.specs.Pattern.{IsWhole, IsCentimetres, signed};
 ghost use Rattle.mission_commands.specs.Rows.{IsUse, IsRow, stored_width};
 ghost use Rattle.mission_commands.specs.Table.{row_of};
-ghost use Rattle.mission_commands.specs.Commands.{Allows, IsWithin, StoredAs, IsBelowZero, filled, frame_flags, is_frame, is_location_frame, has_location, location_of, sign_flag, Meets, IsTested, IsPacked, IsLocation, IsStored, IsItemOf, IsPlaceOf, IsParam, part_at, parameter_bytes, frame_with, whole_in, param_rules, location_rules, item_rules};
+ghost use Rattle.mission_commands.specs.Commands.{Allows, IsWithin, StoredAs, IsBelowZero, filled_to, frame_flags, is_frame, is_location_frame, has_location, location_of, sign_flag, Meets, IsTested, IsPacked, IsLocation, IsStored, IsItemOf, IsPlaceOf, IsParam, part_at, parameter_bytes, frame_with, whole_in, param_rules, location_rules, item_rules};
 
 use crate::table::{Row, Shape, Use, row_of};
 use arrayvec::ArrayVec;
@@ -138,7 +138,7 @@ fn sign_flag(negative: bool) -> u8
 /// The bytes, filled with zeros.
 fn filled(bytes: &[u8]) -> [u8; 12]
     requires { length bytes.now ≤ 12 }
-    ensures { result ≡ filled 12 bytes.now }
+    ensures { result ≡ filled_to 12 bytes.now }
 {
     let mut content = [0; 12];
     content[..bytes.len()].copy_from_slice(bytes);

@@ -22,7 +22,7 @@ use Rattle.mission_commands.specs.declared.commands.Command.{Command}
 use Rattle.mission_commands.specs.Storable.{IsStorable}
 use Rattle.mission_records.specs.declared.reading.TheConstants.{CAPACITY, TOTAL_INDEX}
 use Rattle.mission_records.specs.Mission.{version, total_row, mission_area, count_of, total_of, place_of_command, bytes_at, command_of, command_bytes, commands_in, mission_of, total_writes, version_writes, command_writes, put_writes}
-use Rattle.mission_records.specs.Steps.{IsFormatted, HasVersion, StaysFormatted, IsOneOf, BeginsInSteps, Puts, PutsInSteps, OthersKeepMissions, FormatsInOneLine}
+use Rattle.mission_records.specs.Steps.{IsFormatted, HasVersion, StaysFormatted, IsOneOf, BeginsInSteps, PutsCommand, PutsInSteps, OthersKeepMissions, FormatsInOneLine}
 use Rattle.mission_records.proofs.Listed.{listed_same, listed_all, same_prefix}
 use Rattle.mission_records.proofs.Commands.{length-commands_in, commands_more, command_back, length-command, total_is, same_total, empty_mission, same_mission}
 use Rattle.mission_records.proofs.Totals.{all_writes, total_setting, total_number, sets, stays, same_area, same_place, mission_stays, zero_fits, clears}
@@ -90,7 +90,7 @@ begins bytes formatted =
     }
 
 -- A command is put at the index that is the total.
-puts_at : (bytes : List ℕ) (c : Command) → IsFormatted bytes → HasVersion bytes → IsStorable c → total_of bytes < CAPACITY → ¬ IsFull (records_in_storage bytes) total_row (total_of bytes + 1) → Puts c bytes (put_writes bytes (total_of bytes) c)
+puts_at : (bytes : List ℕ) (c : Command) → IsFormatted bytes → HasVersion bytes → IsStorable c → total_of bytes < CAPACITY → ¬ IsFull (records_in_storage bytes) total_row (total_of bytes + 1) → PutsCommand c bytes (put_writes bytes (total_of bytes) c)
 puts_at bytes c formatted v storable few room =
     let n = total_of bytes in
     let at = place_of_command n in
@@ -147,7 +147,7 @@ pub puts : PutsInSteps
 puts bytes c formatted v storable few room =
     let n = total_of bytes in
     let count : length (mission_of bytes) ≡ n = length-commands_in n (mission_area bytes) in
-    subst (λ (i : ℕ). Puts c bytes (put_writes bytes i c)) (sym count) (puts_at bytes c formatted v storable (omega arith) (λ f. room (subst (λ (i : ℕ). IsFull (records_in_storage bytes) total_row (i + 1)) (sym count) f)))
+    subst (λ (i : ℕ). PutsCommand c bytes (put_writes bytes i c)) (sym count) (puts_at bytes c formatted v storable (omega arith) (λ f. room (subst (λ (i : ℕ). IsFull (records_in_storage bytes) total_row (i + 1)) (sym count) f)))
 
 -- Writes that leave the parameters' area and the mission's area keep the mission.
 pub others_keep : OthersKeepMissions

@@ -21,12 +21,12 @@ use Rattle.mission_commands.specs.declared.commands.Command.{Command}
 use Rattle.mission_commands.specs.Storable.{IsStorable}
 use Rattle.param_records.specs.Records.{records_of, end_of, place_from}
 use Rattle.param_records.specs.Changes.{set_pieces, IsFull, SamePlaces}
-use Rattle.param_records.specs.Patterns.{IsInRange, number_of_whole}
+use Rattle.param_records.specs.Patterns.{IsInRangeOf, number_of_whole}
 use Rattle.param_records.specs.Steps.{records_in_storage}
 use Rattle.param_records.proofs.SetLemmas.{is_some, on_ok}
 use Rattle.mission_records.specs.declared.reading.TheConstants.{CAPACITY, TOTAL_INDEX}
 use Rattle.mission_records.specs.Mission.{version, total_row, mission_of, total_writes, version_writes, command_writes, begin_writes, put_writes}
-use Rattle.mission_records.specs.Steps.{IsFormatted, HasVersion, Puts}
+use Rattle.mission_records.specs.Steps.{IsFormatted, HasVersion, PutsCommand}
 use Rattle.mission_records.proofs.Totals.{all_writes, total_there}
 use Rattle.mission_records.proofs.Puts.{KeepsParams, in_mission, puts}
 
@@ -40,8 +40,8 @@ row_is_total rows row e there = let both : Some row ≡ Some total_row = sym the
 pub back : (z : ℤ) (n : ℕ) → z ≡ pos n → n ≤ CAPACITY → to_z w32 (of_z w32 z) ≡ pos n
 back z n e h = ap (λ (x : ℤ). to_z w32 (of_z w32 x)) e ∙ to_z-of_z {w = w32} {z = pos n} (omega (arith, ints))
 
-pub in_range : (rows : List Var) (n : ℕ) (z : ℤ) → z ≡ pos n → rows ≡ vehicle_rows → n ≤ CAPACITY → IfSome (slice_get rows TOTAL_INDEX) (λ row. IsInRange row.kind z)
-in_range rows n z is e h = subst (λ (x : ℤ). IfSome (slice_get rows TOTAL_INDEX) (λ row. IsInRange row.kind x)) (sym is) (subst (λ (o : _). IfSome o (λ row. IsInRange row.kind (pos n))) (sym (row_there rows e)) (omega (arith, ints), omega (arith, ints)))
+pub in_range : (rows : List Var) (n : ℕ) (z : ℤ) → z ≡ pos n → rows ≡ vehicle_rows → n ≤ CAPACITY → IfSome (slice_get rows TOTAL_INDEX) (λ row. IsInRangeOf row.kind z)
+in_range rows n z is e h = subst (λ (x : ℤ). IfSome (slice_get rows TOTAL_INDEX) (λ row. IsInRangeOf row.kind x)) (sym is) (subst (λ (o : _). IfSome o (λ row. IsInRangeOf row.kind (pos n))) (sym (row_there rows e)) (omega (arith, ints), omega (arith, ints)))
 
 pub set_ok : (r : Result (Unit {0}) SetError) (rows : List Var) (n : ℕ) (z : ℤ) → z ≡ pos n → (before : List ℕ) (old new : List LineWrite) → rows ≡ vehicle_rows
     → OnOk r (IfSome (slice_get rows TOTAL_INDEX) (λ row. new ≡ old ++ writes_of before (set_pieces rows (records_in_storage before) row (number_of_whole z)))) → OnOk r (new ≡ old ++ total_writes before n)
@@ -106,8 +106,8 @@ same_end r old now e h = subst (λ (l : List ℕ). IfErr r (λ x. x ≡ Full (en
 
 -- a command that is put at the end
 pub puts_here : (b : List ℕ) (i : ℕ) (c : Command) (ws : List LineWrite) → ws ≡ put_writes b i c → i < CAPACITY → ¬ IsFull (records_in_storage b) total_row (i + 1)
-    → IsFormatted b → HasVersion b → IsStorable c → i ≡ length (mission_of b) → Puts c b ws
+    → IsFormatted b → HasVersion b → IsStorable c → i ≡ length (mission_of b) → PutsCommand c b ws
 puts_here b i c ws is few room formatted v storable last =
     let n = length (mission_of b) in
-    subst (Puts c b) (sym (is ∙ ap (λ (k : ℕ). put_writes b k c) last))
+    subst (PutsCommand c b) (sym (is ∙ ap (λ (k : ℕ). put_writes b k c) last))
     (puts b c formatted v storable (omega arith) (λ f. room (subst (λ (k : ℕ). IsFull (records_in_storage b) total_row (k + 1)) (sym last) f)))

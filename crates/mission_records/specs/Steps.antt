@@ -57,17 +57,17 @@ ClearsInSteps = (bytes : List ℕ) → IsFormatted bytes → Clears bytes (total
 
 -- Some writes begin a mission: they clear the one that was there, and the version is right after
 -- all of them.
-pub record Begins (old : List ℕ) (writes : List LineWrite) : Type 0 where
+pub record BeginsMission (old : List ℕ) (writes : List LineWrite) : Type 0 where
   pub clears : Clears old writes
   pub versioned : HasVersion (after old writes)
 
 -- Those of `begin` begin a mission.
 abbrev pub BeginsInSteps : Type 0
-BeginsInSteps = (bytes : List ℕ) → IsFormatted bytes → Begins bytes (begin_writes bytes)
+BeginsInSteps = (bytes : List ℕ) → IsFormatted bytes → BeginsMission bytes (begin_writes bytes)
 
 -- Some writes put a command at the end of the mission: after all of them it is there, and after
 -- fewer the mission is the old one or has it.
-pub record Puts (c : Command) (old : List ℕ) (writes : List LineWrite) : Type 0 where
+pub record PutsCommand (c : Command) (old : List ℕ) (writes : List LineWrite) : Type 0 where
   pub stays : EachPrefix (StaysFormatted old) old writes
   pub each : IsTotalInOneLine old
       → EachPrefix (IsOneOf (mission_of old) (mission_of old ++ c ∷ [])) old writes
@@ -79,10 +79,10 @@ abbrev pub PutsInSteps : Type 0
 PutsInSteps = (bytes : List ℕ) (c : Command) → IsFormatted bytes → HasVersion bytes
     → IsStorable c → length (mission_of bytes) < CAPACITY
     → ¬ IsFull (records_in_storage bytes) total_row (length (mission_of bytes) + 1)
-    → Puts c bytes (put_writes bytes (length (mission_of bytes)) c)
+    → PutsCommand c bytes (put_writes bytes (length (mission_of bytes)) c)
 
 -- Some writes change no mission.
-pub record Keeps (old : List ℕ) (writes : List LineWrite) : Type 0 where
+pub record KeepsMission (old : List ℕ) (writes : List LineWrite) : Type 0 where
   pub stays : EachPrefix (StaysFormatted old) old writes
   pub same : EachPrefix (λ now. mission_of now ≡ mission_of old) old writes
   pub versioned : HasVersion old → HasVersion (after old writes)
@@ -92,7 +92,8 @@ abbrev pub SetsNoMission : Type 0
 SetsNoMission = (bytes : List ℕ) (var : ℕ) (row : Var) (number : ℕ) → IsFormatted bytes
     → var ≢ TOTAL_INDEX → slice_get vehicle_rows var ≡ Some row → IsKept row.kind number
     → ¬ IsFull (records_in_storage bytes) row number
-    → Keeps bytes (writes_of bytes (set_pieces vehicle_rows (records_in_storage bytes) row number))
+    → KeepsMission bytes (writes_of bytes
+    (set_pieces vehicle_rows (records_in_storage bytes) row number))
 
 -- the areas of the parameters and of the mission are as they were
 pub record IsBeside (old now : List ℕ) : Type 0 where
@@ -102,7 +103,7 @@ pub record IsBeside (old now : List ℕ) : Type 0 where
 -- Writes to other areas change no mission.
 abbrev pub OthersKeepMissions : Type 0
 OthersKeepMissions = (bytes : List ℕ) (writes : List LineWrite) → IsFormatted bytes
-    → EachPrefix (IsBeside bytes) bytes writes → Keeps bytes writes
+    → EachPrefix (IsBeside bytes) bytes writes → KeepsMission bytes writes
 
 -- In storage that was formatted, the total lies in one line.
 abbrev pub FormatsInOneLine : Type 0

@@ -5,7 +5,7 @@ ghost use Rattle.std.specs.Prelude.{IfErr, IsErr};
 ghost use Rattle.arrayvec.specs.ArrayVec.{array_vec_len};
 ghost use Rattle.storage_lines.specs.declared.areas.Area.TheVariants.{Mission, Param};
 ghost use Rattle.storage_lines.specs.Areas.{size_of_area, logical_of};
-ghost use Rattle.storage_lines.specs.Bytes.{AreBytes, AreInside};
+ghost use Rattle.storage_lines.specs.Bytes.{HaveBytes, AreInside};
 ghost use Rattle.storage_lines.specs.Lines.{after};
 ghost use Rattle.storage_lines.specs.Pieces.{writes_of_piece};
 ghost use Rattle.param_tree.specs.Rows.{vehicle_rows};
@@ -15,7 +15,7 @@ ghost use Rattle.param_records.specs.Steps.{records_in_storage};
 ghost use Rattle.mission_commands.specs.Storable.{IsStorable};
 ghost use Rattle.mission_records.specs.Mission.{total_row, command_bytes, mission_of, total_writes};
 ghost use Rattle.mission_records.specs.Mission.{begin_writes, put_writes};
-ghost use Rattle.mission_records.specs.Steps.{IsFormatted, HasVersion, Clears, Begins, Puts};
+ghost use Rattle.mission_records.specs.Steps.{IsFormatted, HasVersion, Clears, BeginsMission, PutsCommand};
 
 use crate::reading::{CAPACITY, COMMAND_BYTES, TOTAL_INDEX, VERSION, place_of_command};
 use mission_commands::Command;
@@ -65,7 +65,7 @@ fn put_bytes(at: u16, bytes: &[u8], current: &[u8], batch: &mut Batch)
         ++ writes_of_piece Mission at bytes.now (after current.now batch.old.items) }
     ensures few { array_vec_len batch.new ≤ array_vec_len batch.old + PIECE_LINES }
     ensures inside { AreInside batch.old.items → AreInside batch.new.items }
-    ensures bytes { AreBytes batch.old.items → AreBytes batch.new.items }
+    ensures bytes { HaveBytes batch.old.items → HaveBytes batch.new.items }
 {
     match split(Area::Mission, at, bytes, current, batch) {
         Ok(()) => {}
@@ -88,7 +88,7 @@ fn set_total(current: &[u8], number: u16, batch: &mut Batch) -> Result<(), SetEr
         e ≡ SetError.Full (end_of (logical_of Param (after current.now batch.old.items)))) }
     ensures few { array_vec_len batch.new ≤ array_vec_len batch.old + SET_LINES }
     ensures inside { AreInside batch.old.items → AreInside batch.new.items }
-    ensures bytes { AreBytes batch.old.items → AreBytes batch.new.items }
+    ensures bytes { HaveBytes batch.old.items → HaveBytes batch.new.items }
 {
     let whole = i32::from(number);
     set_whole(current, &vehicle_table(), TOTAL_INDEX, whole, batch)
@@ -103,10 +103,10 @@ pub fn begin(current: &[u8], batch: &mut Batch)
     ensures writes { batch.new.items ≡ batch.old.items
         ++ begin_writes (after current.now batch.old.items) }
     ensures steps { let before = after current.now batch.old.items in
-        IsFormatted before → Begins before (drop (array_vec_len batch.old) batch.new.items) }
+        IsFormatted before → BeginsMission before (drop (array_vec_len batch.old) batch.new.items) }
     ensures few { array_vec_len batch.new ≤ array_vec_len batch.old + MISSION_LINES }
     ensures inside { AreInside batch.old.items → AreInside batch.new.items }
-    ensures bytes { AreBytes batch.old.items → AreBytes batch.new.items }
+    ensures bytes { HaveBytes batch.old.items → HaveBytes batch.new.items }
 {
     clear(current, batch);
     put_bytes(0, &VERSION, current, batch);
@@ -123,7 +123,7 @@ pub fn clear(current: &[u8], batch: &mut Batch)
         IsFormatted before → Clears before (drop (array_vec_len batch.old) batch.new.items) }
     ensures few { array_vec_len batch.new ≤ array_vec_len batch.old + SET_LINES }
     ensures inside { AreInside batch.old.items → AreInside batch.new.items }
-    ensures bytes { AreBytes batch.old.items → AreBytes batch.new.items }
+    ensures bytes { HaveBytes batch.old.items → HaveBytes batch.new.items }
 {
     match set_total(current, 0, batch) {
         Ok(()) => {}
@@ -153,12 +153,12 @@ pub fn put(current: &[u8], index: u16, command: &Command, batch: &mut Batch) -> 
     ensures steps { let before = after current.now batch.old.items in
         OnOk result (IsFormatted before → HasVersion before → IsStorable command.now
         → index ≡ length (mission_of before)
-        → Puts command.now before (drop (array_vec_len batch.old) batch.new.items)) }
+        → PutsCommand command.now before (drop (array_vec_len batch.old) batch.new.items)) }
 
     // Whatever is answered.
     ensures few { array_vec_len batch.new ≤ array_vec_len batch.old + MISSION_LINES }
     ensures inside { AreInside batch.old.items → AreInside batch.new.items }
-    ensures bytes { AreBytes batch.old.items → AreBytes batch.new.items }
+    ensures bytes { HaveBytes batch.old.items → HaveBytes batch.new.items }
 {
     let old = batch.len();
     let bytes = command_bytes(command);

@@ -25,9 +25,9 @@ use Rattle.mission_records.specs.Steps.{IsFormatted}
 use Rattle.mission_records.proofs.Totals.{all_writes, stays, total_setting, clears}
 use Rattle.mission_records.proofs.Puts.{KeepsParams, in_mission, begins}
 use Rattle.fence_records.specs.declared.items.FenceItem.{FenceItem}
-use Rattle.fence_records.specs.Fence.{version}
+use Rattle.fence_records.specs.Fence.{fence_version}
 use Rattle.fence_records.specs.Write.{encoded, without_fence, with_records, with_fence, fence_writes}
-use Rattle.fence_records.specs.Lists.{clear_writes, replace_writes}
+use Rattle.fence_records.specs.Lists.{clear_fence_writes, replace_writes}
 use Rattle.fence_records.proofs.Steps.{length-cleared, length-behind}
 use Rattle.fence_records.proofs.Replaces.{replaced}
 use Rattle.mission_service.specs.Steps.Parts.{AreSafe}
@@ -97,8 +97,8 @@ fence_not_param e = cc
 in_fence : (at : ℕ) (new b : List ℕ) → length b ≡ STORAGE_BYTES → at + length new ≤ size_of_area Fence → StaysSo b (writes_of_piece Fence at new b)
 in_fence at new b size fits = stays_beside b (writes_of_piece Fence at new b) (λ j h. let steps = pieces_in_steps in steps.others Fence Param at new b j fence_not_param size fits h)
 
-fence_clear_stays : (b : List ℕ) → length b ≡ STORAGE_BYTES → StaysSo b (clear_writes b)
-fence_clear_stays b size = in_fence 0 (version ++ 99 ∷ []) b size (omega arith)
+fence_clear_stays : (b : List ℕ) → length b ≡ STORAGE_BYTES → StaysSo b (clear_fence_writes b)
+fence_clear_stays b size = in_fence 0 (fence_version ++ 99 ∷ []) b size (omega arith)
 
 fence_stays : (new b : List ℕ) → length b ≡ STORAGE_BYTES → length new ≤ 416 → StaysSo b (fence_writes new b)
 fence_stays new b size few =
@@ -127,12 +127,12 @@ replace_safe b items ws size low h =
 pub clear_mission_safe : (b : List ℕ) (ws : List LineWrite) → length b ≡ STORAGE_BYTES → IsBytes b → ws ≡ total_writes b 0 → AreSafe b ws
 clear_mission_safe b ws size low e = subst (AreSafe b) (sym e) (safe b (total_writes b 0) size low (total_inside b 0) (clear_stays b))
 
-pub clear_fence_safe : (b : List ℕ) (ws : List LineWrite) → length b ≡ STORAGE_BYTES → IsBytes b → ws ≡ clear_writes b → AreSafe b ws
-clear_fence_safe b ws size low e = subst (AreSafe b) (sym e) (safe b (clear_writes b) size low (changes_inside b (without_fence b)) (fence_clear_stays b size))
+pub clear_fence_safe : (b : List ℕ) (ws : List LineWrite) → length b ≡ STORAGE_BYTES → IsBytes b → ws ≡ clear_fence_writes b → AreSafe b ws
+clear_fence_safe b ws size low e = subst (AreSafe b) (sym e) (safe b (clear_fence_writes b) size low (changes_inside b (without_fence b)) (fence_clear_stays b size))
 
-pub clear_both_safe : (b : List ℕ) (ws : List LineWrite) → length b ≡ STORAGE_BYTES → IsBytes b → ws ≡ total_writes b 0 ++ clear_writes (after b (total_writes b 0)) → AreSafe b ws
+pub clear_both_safe : (b : List ℕ) (ws : List LineWrite) → length b ≡ STORAGE_BYTES → IsBytes b → ws ≡ total_writes b 0 ++ clear_fence_writes (after b (total_writes b 0)) → AreSafe b ws
 clear_both_safe b ws size low e =
     let xs = total_writes b 0 in
     let mid = after b xs in
-    subst (AreSafe b) (sym e) (safe b (xs ++ clear_writes mid) size low (both_inside xs (clear_writes mid) (total_inside b 0) (changes_inside mid (without_fence mid)))
-    (stays_append b xs (clear_writes mid) (clear_stays b) (fence_clear_stays mid (length-after b xs ∙ size))))
+    subst (AreSafe b) (sym e) (safe b (xs ++ clear_fence_writes mid) size low (both_inside xs (clear_fence_writes mid) (total_inside b 0) (changes_inside mid (without_fence mid)))
+    (stays_append b xs (clear_fence_writes mid) (clear_stays b) (fence_clear_stays mid (length-after b xs ∙ size))))

@@ -20,7 +20,7 @@ pub use Rattle.mission_service.specs.declared.replies.Content.TheVariants.{Answe
 pub use Rattle.mission_service.specs.declared.replies.Content.TheVariants.{MissionItem, FencePart}
 use Rattle.mission_service.specs.Uploads.{MissionType, Mission, Fence, kinds, Target, Upload}
 use Rattle.mission_service.specs.Uploads.{Uploads, Quiet, Open, Finished, Missions, uploads_of}
-use Rattle.mission_service.specs.Uploads.{with_uploads, number_of}
+use Rattle.mission_service.specs.Uploads.{with_uploads, mission_type_number}
 use Rattle.mission_service.specs.Requests.{Given, ForMission, ForFence, type_of_given, Request}
 use Rattle.mission_service.specs.Requests.{Begin, Give, Clear, Count, Show, Cancel, Unsupported}
 use Rattle.mission_service.specs.Requests.{Asking, operation_cancelled}
@@ -113,7 +113,7 @@ most_of Fence = fence_capacity
 -- the lines that clear a type
 abbrev pub type_writes : MissionType → List ℕ → List LineWrite
 type_writes Mission bytes = total_writes bytes 0
-type_writes Fence bytes = fence.clear_writes bytes
+type_writes Fence bytes = fence.clear_fence_writes bytes
 
 -- the lines that clear these types, one after another
 unfoldable pub clear_writes : List ℕ → List MissionType → List LineWrite
@@ -255,7 +255,7 @@ idle_turns = 8
 -- what an open upload's station is told of it at an idle turn
 abbrev pub reminds : MissionType → Upload → Content → List Told
 reminds t u content =
-    record { target = u.target; number = number_of t; content = content } ∷ []
+    record { target = u.target; number = mission_type_number t; content = content } ∷ []
 
 -- At an idle turn the station of an open upload is asked for its next item again. The eighth in a
 -- row closes it.

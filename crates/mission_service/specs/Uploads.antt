@@ -6,9 +6,9 @@ pub use Rattle.mission_service.specs.declared.requests.MissionType.TheVariants.{
 pub use Rattle.mission_service.specs.declared.uploads.Target.{Target}
 
 -- MAV_MISSION_TYPE
-abbrev pub number_of : MissionType → ℕ
-number_of Mission = 0
-number_of Fence = 1
+abbrev pub mission_type_number : MissionType → ℕ
+mission_type_number Mission = 0
+mission_type_number Fence = 1
 
 -- the types that are supported, in their order
 abbrev pub kinds : List MissionType
@@ -16,7 +16,7 @@ kinds = Mission ∷ Fence ∷ []
 
 -- the supported type with this number
 abbrev pub type_of : ℕ → Option MissionType
-type_of number = find (λ t. number_of t == number) kinds
+type_of number = find (λ t. mission_type_number t == number) kinds
 
 -- An upload that is open: its station, whom its COUNT came from, how many items it has, which one
 -- is next, the items of a fence that came so far, and how many idle turns have passed since its

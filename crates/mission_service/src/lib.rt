@@ -51,13 +51,13 @@ pub struct MissionState {
 
 impl Model for MissionState {
     ghost use Rattle.mission_service.specs.Uploads.{Missions};
-    ghost use Rattle.mission_service.specs.Steps.Inside.{IsState, missions_seen};
+    ghost use Rattle.mission_service.specs.Steps.Inside.{AreUploadsRight, missions_seen};
 
     ghost Value = { Missions };
 
     ghost view = { λ state. missions_seen state.mission state.fence state.kept.items };
 
-    ghost invariant = { λ state. IsState state.mission state.fence state.kept.items };
+    ghost invariant = { λ state. AreUploadsRight state.mission state.fence state.kept.items };
 }
 
 impl MissionState {

@@ -1,6 +1,6 @@
 //! What a message asks of the missions.
 ghost use Rattle.std.specs.Prelude.{◌≡◌, ◌==◌, None, if◌then◌else◌};
-ghost use Rattle.mission_service.specs.Uploads.{number_of, type_of};
+ghost use Rattle.mission_service.specs.Uploads.{mission_type_number, type_of};
 ghost use Rattle.mission_service.specs.Requests as asks;
 ghost use Rattle.mission_service.specs.Requests.{Asks, IsGiven, ask, of_type, if_for, if_supported};
 ghost use Rattle.mission_service.specs.Requests.{types_of, operation_cancelled};
@@ -51,7 +51,7 @@ pub struct Asking {
 
 /// The number of a type.
 pub fn number_of(kind: MissionType) -> u8
-    ensures { result ≡ number_of kind }
+    ensures { result ≡ mission_type_number kind }
 {
     match kind {
         MissionType::Mission => 0,

@@ -11,7 +11,7 @@ use Rattle.param_records.specs.declared.records.TheConstants.{PARAM_BYTES}
 use Rattle.param_records.specs.Records.{Record, size_of, spelling, value_in}
 use Rattle.param_records.specs.Changes.{appending}
 use Rattle.param_convert.specs.declared.rules.Rule.{Rule}
-use Rattle.param_convert.specs.Conversion.{default_value, new_record, Converts, is_due, convert_pieces}
+use Rattle.param_convert.specs.Conversion.{default_value, new_record, Converts, is_conversion_due, convert_pieces}
 
 none_is : (o : Option (List ℕ)) → is_none o ≡ true → o ≡ None
 none_is None h = refl
@@ -29,7 +29,7 @@ found_due rows rs rule value default size is old absent made differ fits = recor
 }
 
 -- the test says what `Converts` says
-pub converts_where_due : (rows : List Var) (rs : List Record) (rule : Rule) (value : List ℕ) → value_in rule.key rule.element rule.kind rs ≡ Some value → is_due rows rs rule value ≡ true → Converts rows rs rule value
+pub converts_where_due : (rows : List Var) (rs : List Record) (rule : Rule) (value : List ℕ) → value_in rule.key rule.element rule.kind rs ≡ Some value → is_conversion_due rows rs rule value ≡ true → Converts rows rs rule value
 converts_where_due rows rs rule value old h =
     let a = and_parts (is_none (value_in rule.new_key rule.new_element rule.kind rs)) (not (bytes_eq value (default_value rows rule)) && nat_le (4 + length (spelling rs) + 8 + size_of rule.kind) PARAM_BYTES) h in
     let b = and_parts (not (bytes_eq value (default_value rows rule))) (nat_le (4 + length (spelling rs) + 8 + size_of rule.kind) PARAM_BYTES) a.1 in
@@ -40,7 +40,7 @@ converts_where_due rows rs rule value old h =
       fits = leb-true (4 + length (spelling rs) + 8 + size_of rule.kind) PARAM_BYTES b.1;
     }
 
-due_where_converts : (rows : List Var) (rs : List Record) (rule : Rule) (value : List ℕ) → Converts rows rs rule value → is_due rows rs rule value ≡ true
+due_where_converts : (rows : List Var) (rs : List Record) (rule : Rule) (value : List ℕ) → Converts rows rs rule value → is_conversion_due rows rs rule value ≡ true
 due_where_converts rows rs rule value c =
     and_from (is_none (value_in rule.new_key rule.new_element rule.kind rs)) (not (bytes_eq value (default_value rows rule)) && nat_le (4 + length (spelling rs) + 8 + size_of rule.kind) PARAM_BYTES)
     (ap (λ (o : Option (List ℕ)). is_none o) c.absent)
@@ -54,16 +54,16 @@ added rs rule o = option_map_or (λ value. appending (4 + length (spelling rs)) 
 -- the pieces of a rule that makes a record, and of one that doesn't
 pub pieces_some : (rows : List Var) (rs : List Record) (rule : Rule) (value : List ℕ) → Converts rows rs rule value → convert_pieces rows rs rule ≡ appending (4 + length (spelling rs)) (new_record rule value)
 pieces_some rows rs rule value c =
-    ap (λ (o : Option (List ℕ)). added rs rule (option_and_then (λ v. cond (is_due rows rs rule v) (Some v) None) o)) c.old
+    ap (λ (o : Option (List ℕ)). added rs rule (option_and_then (λ v. cond (is_conversion_due rows rs rule v) (Some v) None) o)) c.old
     ∙ ap (λ (b : Bool). added rs rule (cond b (Some value) None)) (due_where_converts rows rs rule value c)
 
 pub pieces_none : (rows : List Var) (rs : List Record) (rule : Rule) → ((value : List ℕ) → Converts rows rs rule value → ⊥) → convert_pieces rows rs rule ≡ []
 pieces_none rows rs rule never = by_value (value_in rule.key rule.element rule.kind rs) refl
   where
     by_value : (o : Option (List ℕ)) → value_in rule.key rule.element rule.kind rs ≡ o → convert_pieces rows rs rule ≡ []
-    by_value None e = ap (λ (o : Option (List ℕ)). added rs rule (option_and_then (λ v. cond (is_due rows rs rule v) (Some v) None) o)) e
+    by_value None e = ap (λ (o : Option (List ℕ)). added rs rule (option_and_then (λ v. cond (is_conversion_due rows rs rule v) (Some v) None) o)) e
     by_value (Some value) e =
-        ap (λ (o : Option (List ℕ)). added rs rule (option_and_then (λ v. cond (is_due rows rs rule v) (Some v) None) o)) e
+        ap (λ (o : Option (List ℕ)). added rs rule (option_and_then (λ v. cond (is_conversion_due rows rs rule v) (Some v) None) o)) e
         ∙ ap (λ (b : Bool). added rs rule (cond b (Some value) None)) (false_from_ne_true _ (λ h. never value (converts_where_due rows rs rule value e h)))
 
 -- a rule makes a record, or none
@@ -72,12 +72,12 @@ convert_cases rows rs rule = by_value (value_in rule.key rule.element rule.kind 
   where
     by_value : (o : Option (List ℕ)) → value_in rule.key rule.element rule.kind rs ≡ o → ((value : List ℕ) × Converts rows rs rule value) ⊎ ((value : List ℕ) → Converts rows rs rule value → ⊥)
     by_value None e = inr (λ value c. let both : None ≡ Some value = sym e ∙ c.old in cc)
-    by_value (Some v) e = elim (cases_Bool (is_due rows rs rule v)) [
+    by_value (Some v) e = elim (cases_Bool (is_conversion_due rows rs rule v)) [
       | inl due ↦ inl (v, converts_where_due rows rs rule v e due)
       | inr idle ↦ inr (λ value c.
           let both : Some v ≡ Some value = sym e ∙ c.old in
           let same : v ≡ value = cc in
           let due = due_where_converts rows rs rule value c in
-          let idle' : is_due rows rs rule value ≡ false = subst (λ (x : List ℕ). is_due rows rs rule x ≡ false) same idle in
+          let idle' : is_conversion_due rows rs rule value ≡ false = subst (λ (x : List ℕ). is_conversion_due rows rs rule x ≡ false) same idle in
           cc)
     ]

@@ -51,15 +51,17 @@ pub record Converts (rows : List Var) (records : List Record) (rule : Rule) (val
   pub fits : 4 + length (spelling records) + 8 + size_of rule.kind ≤ PARAM_BYTES
 
 -- the same as a test, of a value that the old record has
-abbrev pub is_due : List Var → List Record → Rule → List ℕ → Bool
-is_due rows records rule value = is_none (value_in rule.new_key rule.new_element rule.kind records)
+abbrev pub is_conversion_due : List Var → List Record → Rule → List ℕ → Bool
+is_conversion_due rows records rule value =
+    is_none (value_in rule.new_key rule.new_element rule.kind records)
     && (not (bytes_eq value (default_value rows rule))
     && nat_le (4 + length (spelling records) + 8 + size_of rule.kind) PARAM_BYTES)
 
 -- the value of which the rule makes a record, if there is one
 abbrev pub converted : List Var → List Record → Rule → Option (List ℕ)
 converted rows records rule =
-    option_and_then (λ value. if is_due rows records rule value then Some value else None)
+    option_and_then (λ value. if is_conversion_due rows records rule value then Some value
+    else None)
     (value_in rule.key rule.element rule.kind records)
 
 -- the pieces that append the record

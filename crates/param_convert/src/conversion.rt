@@ -4,7 +4,7 @@ ghost use Rattle.std.specs.List.{find};
 ghost use Rattle.arrayvec.specs.ArrayVec.{array_vec_len};
 ghost use Rattle.storage_lines.specs.declared.areas.Area.TheVariants.{Param};
 ghost use Rattle.storage_lines.specs.Areas.{logical_of};
-ghost use Rattle.storage_lines.specs.Bytes.{AreBytes, AreInside};
+ghost use Rattle.storage_lines.specs.Bytes.{HaveBytes, AreInside};
 ghost use Rattle.storage_lines.specs.Lines.{after};
 ghost use Rattle.param_records.specs.Records.{size_of, end_of, value_in};
 ghost use Rattle.param_records.specs.Steps.{HasMagic, records_in_storage};
@@ -105,7 +105,7 @@ fn try_rule<const N: usize>(
         × Converts table.now (records_in_storage current.now) rule.now value) }
     ensures few { array_vec_len batch.new ≤ APPEND_LINES }
     ensures inside { AreInside batch.new.items }
-    ensures bytes { AreBytes batch.new.items }
+    ensures bytes { HaveBytes batch.new.items }
 {
     table.rules();
     let Some(value) = old_value(current, rule) else {
@@ -157,7 +157,7 @@ pub fn convert<const N: usize, const K: usize>(
         → (j : ℕ) → HasMagic (after current.now (take j batch.new.items)) }
     ensures few { array_vec_len batch.new ≤ APPEND_LINES }
     ensures inside { AreInside batch.new.items }
-    ensures bytes { AreBytes batch.new.items }
+    ensures bytes { HaveBytes batch.new.items }
 {
     table.rules();
     let rule = rules[step];

@@ -3,13 +3,13 @@ ghost use Rattle.std.specs.Prelude.{◌≡◌, ◌≢◌, ◌⊎◌, ◌<◌, �
 ghost use Rattle.arrayvec.specs.ArrayVec.{array_vec_len};
 ghost use Rattle.storage_lines.specs.declared.areas.Area.TheVariants.{Param};
 ghost use Rattle.storage_lines.specs.Areas.{logical_of};
-ghost use Rattle.storage_lines.specs.Bytes.{IsBytes, AreBytes, AreInside};
+ghost use Rattle.storage_lines.specs.Bytes.{IsBytes, HaveBytes, AreInside};
 ghost use Rattle.storage_lines.specs.Lines.{after};
 ghost use Rattle.storage_lines.specs.Pieces.{writes_of};
 ghost use Rattle.param_records.specs.Records.{magic, end_of};
 ghost use Rattle.param_records.specs.Values.{params_of};
 ghost use Rattle.param_records.specs.Changes.{set_pieces, IsFull, SamePlaces};
-ghost use Rattle.param_records.specs.Patterns.{IsNumberOf, IsValueOf, IsInRange, number_of_whole};
+ghost use Rattle.param_records.specs.Patterns.{IsNumberOf, IsValueOf, IsInRangeOf, number_of_whole};
 ghost use Rattle.param_records.specs.Steps.{HasMagic, IsKept, records_in_storage, SetsRow, SetsWell};
 ghost use Rattle.param_index.specs.Places.{IsIndexOf};
 
@@ -87,7 +87,7 @@ impl<const N: usize> Index<N> {
         ensures index { IsIndexOf table.now (after current.now batch.new.items) self.new }
         ensures few { array_vec_len batch.new ≤ array_vec_len batch.old + SET_LINES }
         ensures inside { AreInside batch.old.items → AreInside batch.new.items }
-        ensures bytes { AreBytes batch.old.items → AreBytes batch.new.items }
+        ensures bytes { HaveBytes batch.old.items → HaveBytes batch.new.items }
     {
         table.rules();
         let row = table.row(var);
@@ -157,7 +157,7 @@ impl<const N: usize> Index<N> {
         // Whatever is answered.
         ensures few { array_vec_len batch.new ≤ array_vec_len batch.old + SET_LINES }
         ensures inside { AreInside batch.old.items → AreInside batch.new.items }
-        ensures bytes { AreBytes batch.old.items → AreBytes batch.new.items }
+        ensures bytes { HaveBytes batch.old.items → HaveBytes batch.new.items }
     {
         let row = table.row(var);
         match number_of(row.kind, bits) {
@@ -178,7 +178,7 @@ impl<const N: usize> Index<N> {
     ) -> Result<(), SetError>
         requires size { length current.now ≡ STORAGE_BYTES }
         requires row { var < N }
-        requires range { IfSome (slice_get table.now var) (λ row. IsInRange row.kind number) }
+        requires range { IfSome (slice_get table.now var) (λ row. IsInRangeOf row.kind number) }
         requires index { IsIndexOf table.now current.now self.old }
         requires room { array_vec_len batch.old + SET_LINES ≤ BATCH_LINES }
         requires stand { SamePlaces table.now current.now (after current.now batch.old.items) }
@@ -212,7 +212,7 @@ impl<const N: usize> Index<N> {
         // Whatever is answered.
         ensures few { array_vec_len batch.new ≤ array_vec_len batch.old + SET_LINES }
         ensures inside { AreInside batch.old.items → AreInside batch.new.items }
-        ensures bytes { AreBytes batch.old.items → AreBytes batch.new.items }
+        ensures bytes { HaveBytes batch.old.items → HaveBytes batch.new.items }
     {
         self.store(current, table, var, number.cast_unsigned(), batch)
     }

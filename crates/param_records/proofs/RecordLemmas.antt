@@ -11,9 +11,9 @@ use Rattle.std.proofs.lemmas.Bool.Decides.{nat_tests}
 use Rattle.std.proofs.lemmas.Slice.Eq.{bytes_eq-Decides}
 use Rattle.param_tree.specs.declared.Kind.{Kind}
 use Rattle.param_tree.specs.declared.Kind.TheVariants.{I8, I16, I32, F32, Vec3}
-use Rattle.param_records.specs.Records.{Record, size_of, kind_of, four_bytes, header, encoding, spelling, IsRecord, IsEnd, magic, sentinel, HasRecords, read_as, read_whole, record_at, records_in, records_of, end_of, type_number}
+use Rattle.param_records.specs.Records.{Record, size_of, kind_with_number, four_bytes, header, encoding, spelling, IsRecord, IsEnd, magic, sentinel, HasRecords, read_as, read_whole, record_at, records_in, records_of, end_of, type_number}
 
-pub kind_of-number : (kind : Kind) → kind_of (type_number kind) ≡ Some kind
+pub kind_of-number : (kind : Kind) → kind_with_number (type_number kind) ≡ Some kind
 kind_of-number I8 = refl
 kind_of-number I16 = refl
 kind_of-number I32 = refl
@@ -52,23 +52,23 @@ decode r more h =
     ap (λ (k : ℕ). record (read_as r.kind bytes) { key = k }) key
     ∙ ap (λ (e : ℕ). record (read_as r.kind bytes) { key = r.key; element = e }) element
     ∙ ap (λ (v : List ℕ). record (read_as r.kind bytes) { key = r.key; element = r.element; value = v }) value in
-    ap (λ (n : ℕ). option_and_then (read_whole bytes) (kind_of n)) (header_kind r h)
+    ap (λ (n : ℕ). option_and_then (read_whole bytes) (kind_with_number n)) (header_kind r h)
     ∙ ap (λ (o : Option Kind). option_and_then (read_whole bytes) o) (kind_of-number r.kind)
     ∙ ap (λ (b : Bool). cond b (Some (read_as r.kind bytes)) None) (le-leb (4 + size_of r.kind) (length bytes) fits)
     ∙ ap (λ (x : Record). Some x) made
 
 -- a number is a kind's, or none's
-pub kind_cases : (n : ℕ) → (kind_of n ≡ None) ⊎ ((kind : Kind) × (kind_of n ≡ Some kind) × (n ≡ type_number kind))
+pub kind_cases : (n : ℕ) → (kind_with_number n ≡ None) ⊎ ((kind : Kind) × (kind_with_number n ≡ Some kind) × (n ≡ type_number kind))
 kind_cases n = elim (cases_eq n 1) [
-  | inl e ↦ inr (I8, ap kind_of e, e)
+  | inl e ↦ inr (I8, ap kind_with_number e, e)
   | inr a ↦ elim (cases_eq n 2) [
-    | inl e ↦ inr (I16, ap kind_of e, e)
+    | inl e ↦ inr (I16, ap kind_with_number e, e)
     | inr b ↦ elim (cases_eq n 3) [
-      | inl e ↦ inr (I32, ap kind_of e, e)
+      | inl e ↦ inr (I32, ap kind_with_number e, e)
       | inr d ↦ elim (cases_eq n 4) [
-        | inl e ↦ inr (F32, ap kind_of e, e)
+        | inl e ↦ inr (F32, ap kind_with_number e, e)
         | inr f ↦ elim (cases_eq n 5) [
-          | inl e ↦ inr (Vec3, ap kind_of e, e)
+          | inl e ↦ inr (Vec3, ap kind_with_number e, e)
           | inr g ↦ inl (grind (arith, nat_tests))
         ]
       ]

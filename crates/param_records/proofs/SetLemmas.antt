@@ -21,7 +21,7 @@ use Rattle.param_records.specs.declared.setting.SetError.{SetError}
 use Rattle.param_records.specs.Records.{records_of}
 use Rattle.param_records.specs.Values.{value_of_number, params_of}
 use Rattle.param_records.specs.Changes.{set_pieces, IsFull}
-use Rattle.param_records.specs.Patterns.{IsInRange, IsNumberOf, IsValueOf, number_of_whole}
+use Rattle.param_records.specs.Patterns.{IsInRangeOf, IsNumberOf, IsValueOf, number_of_whole}
 use Rattle.param_records.specs.Steps.{HasMagic, IsKept, SetsRow, SetsWell}
 use Rattle.storage_lines.specs.Bytes.{IsBytes}
 use Rattle.param_records.proofs.OtherLemmas.{four_number}
@@ -54,14 +54,14 @@ well_set r rows var number before old new size table ok full = on_ok r _ _ ok (�
     subst (λ (l : List LineWrite). SetsRow rows var row number before l) (sym behind) (set_steps before rows var row number size low table is kept (λ f. fine (both.1 f)))))
 
 -- a whole number of a kind is kept
-pub kept_whole : (kind : Kind) (z : ℤ) → IsInRange kind z → IsKept kind (number_of_whole z)
+pub kept_whole : (kind : Kind) (z : ℤ) → IsInRangeOf kind z → IsKept kind (number_of_whole z)
 kept_whole I8 z h = let a = h.0 in let b = h.1 in (unsigned_low z (omega (arith, ints)) (omega (arith, ints)), whole_back I8 z h ∙ ap (λ (x : ℤ). Whole x) (sym (signed_whole z (omega (arith, ints)) (omega (arith, ints)))))
 kept_whole I16 z h = let a = h.0 in let b = h.1 in (unsigned_low z (omega (arith, ints)) (omega (arith, ints)), whole_back I16 z h ∙ ap (λ (x : ℤ). Whole x) (sym (signed_whole z (omega (arith, ints)) (omega (arith, ints)))))
 kept_whole I32 z h = (unsigned_low z h.0 h.1, whole_back I32 z h ∙ ap (λ (x : ℤ). Whole x) (sym (signed_whole z h.0 h.1)))
 kept_whole F32 z h = absurd h
 kept_whole Vec3 z h = absurd h
 
-pub whole_value : (kind : Kind) (z : ℤ) → IsInRange kind z → value_of_number kind (number_of_whole z) ≡ Whole z
+pub whole_value : (kind : Kind) (z : ℤ) → IsInRangeOf kind z → value_of_number kind (number_of_whole z) ≡ Whole z
 whole_value kind z h = sym (kept_whole kind z h).1 ∙ whole_back kind z h
 
 float_kept : (bits n : ℕ) → IsFinite bits → n ≡ bits → n < 2 ^ 32
@@ -117,14 +117,14 @@ value_of_set r rows var bits number row current before old new is has start ok w
     value_is x.kind bits number (params_of (after current new) x) mine (value_after rows var number x current before old new start (is_some (slice_get rows var) _ x at w.0) (sets (kept_number x.kind bits number mine)) m)))
 
 -- `set_whole`
-pub steps_of_whole : (r : Result (Unit {0}) SetError) (rows : List Var) (var number : ℕ) (z : ℤ) (before : List ℕ) (old new : List LineWrite) → number ≡ number_of_whole z → IfSome (slice_get rows var) (λ row. IsInRange row.kind z) → OnOk r (SetsWell rows var number before old new) →
+pub steps_of_whole : (r : Result (Unit {0}) SetError) (rows : List Var) (var number : ℕ) (z : ℤ) (before : List ℕ) (old new : List LineWrite) → number ≡ number_of_whole z → IfSome (slice_get rows var) (λ row. IsInRangeOf row.kind z) → OnOk r (SetsWell rows var number before old new) →
     OnOk r (IsBytes (logical_of Param before) → IfSome (slice_get rows var) (λ row. SetsRow rows var row (number_of_whole z) before (drop (length old) new)))
 steps_of_whole r rows var number z before old new is range well = on_ok r _ _ well (λ fine w low.
     if_some (slice_get rows var) _ _ (w low) (λ row at sets.
     let kept : IsKept row.kind number = subst (IsKept row.kind) (sym is) (kept_whole row.kind z (is_some (slice_get rows var) _ row at range)) in
     subst (λ (n : ℕ). SetsRow rows var row n before (drop (length old) new)) is (sets kept)))
 
-pub value_of_whole : (r : Result (Unit {0}) SetError) (rows : List Var) (var number : ℕ) (z : ℤ) (current before : List ℕ) (old new : List LineWrite) → number ≡ number_of_whole z → IfSome (slice_get rows var) (λ row. IsInRange row.kind z) → before ≡ after current old →
+pub value_of_whole : (r : Result (Unit {0}) SetError) (rows : List Var) (var number : ℕ) (z : ℤ) (current before : List ℕ) (old new : List LineWrite) → number ≡ number_of_whole z → IfSome (slice_get rows var) (λ row. IsInRangeOf row.kind z) → before ≡ after current old →
     OnOk r (IfSome (slice_get rows var) (λ x. new ≡ old ++ writes_of before (set_pieces rows (records_of (logical_of Param before)) x number))) → OnOk r (SetsWell rows var number before old new) →
     OnOk r (IsBytes (logical_of Param before) → HasMagic before → IfSome (slice_get rows var) (λ row. params_of (after current new) row ≡ Whole z))
 value_of_whole r rows var number z current before old new is range start ok well = on_ok r _ _ (both_ok r _ _ ok well) (λ fine w low m.

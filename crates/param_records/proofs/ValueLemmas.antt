@@ -15,7 +15,7 @@ use Rattle.param_tree.specs.declared.Kind.{Kind}
 use Rattle.param_tree.specs.declared.Kind.TheVariants.{I8, I16, I32, F32, Vec3}
 use Rattle.param_records.specs.declared.values.Value.TheVariants.{Whole, Bits}
 use Rattle.param_records.specs.Records.{Record, size_of, encoding, spelling, IsRecord, magic, HasRecords, records_in, records_of, matches, value_in, place_from, type_number}
-use Rattle.param_records.specs.Values.{number_at, value_from}
+use Rattle.param_records.specs.Values.{number_of_four_bytes, value_from}
 use Rattle.param_records.proofs.RecordLemmas.{records_are, all_right}
 use Rattle.param_records.proofs.RewriteLemmas.{value_at, value_fits}
 use Rattle.storage_lines.specs.Bytes.{IsBytes}
@@ -123,7 +123,7 @@ found_byte L k e kind at f i h =
     let place : at + i ≡ 8 + length (spelling f.first.front) + i = omega (arith, f.first.place) in
     ap (λ (n : ℕ). get_or L n 0) place ∙ value_at L f.first.front f.first.back f.first.one f.end f.has i (omega (arith, f.size))
 
-pub same_number : (v w : List ℕ) (at : ℕ) → ((i : ℕ) → i < 4 → get_or v (at + i) 0 ≡ get_or w (at + i) 0) → number_at at v ≡ number_at at w
+pub same_number : (v w : List ℕ) (at : ℕ) → ((i : ℕ) → i < 4 → get_or v (at + i) 0 ≡ get_or w (at + i) 0) → number_of_four_bytes at v ≡ number_of_four_bytes at w
 same_number v w at h =
     let a0 : at + 0 ≡ at = omega arith in
     let e0 : get_or v at 0 ≡ get_or w at 0 = ap (λ (n : ℕ). get_or v n 0) (sym a0) ∙ h 0 (omega arith) ∙ ap (λ (n : ℕ). get_or w n 0) a0 in

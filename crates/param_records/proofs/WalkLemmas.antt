@@ -8,7 +8,7 @@ use Rattle.param_tree.specs.declared.Kind.{Kind}
 use Rattle.storage_lines.specs.declared.areas.Area.TheVariants.{Param}
 use Rattle.storage_lines.specs.Areas.{logical_of, place_of}
 use Rattle.param_records.specs.declared.records.TheConstants.{PARAM_BYTES}
-use Rattle.param_records.specs.Records.{Record, size_of, kind_of, kind_eq, four_bytes, header, encoding, spelling, IsRecord, IsEnd, magic, HasRecords, read_as, Begins, records_of, matches, place_from, type_number}
+use Rattle.param_records.specs.Records.{Record, size_of, kind_with_number, kind_eq, four_bytes, header, encoding, spelling, IsRecord, IsEnd, magic, HasRecords, read_as, Begins, records_of, matches, place_from, type_number}
 use Rattle.storage_lines.specs.Bytes.{IsBytes}
 use Rattle.param_records.proofs.RecordLemmas.{kind_cases, kind_of-number, number-low, records_are, length-encoding}
 use Rattle.param_records.proofs.PieceLemmas.{get_or-logical, length-logical}
@@ -76,12 +76,12 @@ none_clash : (kind : Kind) → None ≡ Some kind → ⊥
 none_clash kind e = cc
 
 pub same_kind : (a b : Kind) → type_number a ≡ type_number b → a ≡ b
-same_kind a b e = let f : Some a ≡ Some b = sym (kind_of-number a) ∙ ap kind_of e ∙ kind_of-number b in cc
+same_kind a b e = let f : Some a ≡ Some b = sym (kind_of-number a) ∙ ap kind_with_number e ∙ kind_of-number b in cc
 
 -- a record begins the bytes, or they are an end
 pub begins_or_ends : (bytes : List ℕ) → ((kind : Kind) × Begins (read_as kind bytes).key (read_as kind bytes).element kind bytes) ⊎ IsEnd bytes
 begins_or_ends bytes = elim (kind_cases (get_or bytes 1 0 % 32)) [
-  | inl none ↦ inr (λ kind e. absurd (none_clash kind (sym none ∙ ap kind_of e ∙ kind_of-number kind)))
+  | inl none ↦ inr (λ kind e. absurd (none_clash kind (sym none ∙ ap kind_with_number e ∙ kind_of-number kind)))
   | inr found ↦ elim (cases_lt (length bytes) (4 + size_of found.0)) [
     | inl short ↦ inr (λ kind e. let same : type_number kind ≡ type_number found.0 = sym e ∙ found.2 in let is : kind ≡ found.0 = same_kind kind found.0 same in subst (λ (k : Kind). length bytes < 4 + size_of k) (sym is) short)
     | inr fits ↦ inl (found.0, record { type = found.2; fits = fits; key = refl; element = refl })
@@ -126,7 +126,7 @@ place_push start k e kind rs r none is = place_skip start k e kind rs (r ∷ [])
 pub match_is : (hk he k e : ℕ) (hkind kind : Kind) (bytes : List ℕ) → Begins hk he hkind bytes → matches k e kind (read_as hkind bytes) ≡ ((hk == k) && ((he == e) && kind_eq hkind kind))
 match_is hk he k e hkind kind bytes b = ap (λ (x : ℕ). (x == k) && (((read_as hkind bytes).element == e) && kind_eq hkind kind)) (sym b.key) ∙ ap (λ (x : ℕ). (hk == k) && ((x == e) && kind_eq hkind kind)) (sym b.element)
 
-number_is : (n : ℕ) (k : Kind) → Some k ≡ kind_of n → n ≡ type_number k
+number_is : (n : ℕ) (k : Kind) → Some k ≡ kind_with_number n → n ≡ type_number k
 number_is n k e = elim (kind_cases n) [
   | inl none ↦ absurd (none_clash k (sym none ∙ sym e))
   | inr found ↦ let same : Some found.0 ≡ Some k = sym found.1 ∙ sym e in let is : found.0 ≡ k = cc in found.2 ∙ ap type_number is
@@ -135,12 +135,12 @@ number_is n k e = elim (kind_cases n) [
 four_has : (xs bytes : List ℕ) (i : ℕ) → xs ≡ take 4 bytes → i < 4 → get_or xs i 0 ≡ get_or bytes i 0
 four_has xs bytes i e h = ap (λ (l : List ℕ). get_or l i 0) e ∙ get_or-take 4 bytes i 0 h
 
-pub header_short : (bytes xs : List ℕ) (k : Kind) → xs ≡ take 4 bytes → Some k ≡ kind_of (get_or xs 1 0 % 32) → length bytes < 4 + size_of k → IsEnd bytes
+pub header_short : (bytes xs : List ℕ) (k : Kind) → xs ≡ take 4 bytes → Some k ≡ kind_with_number (get_or xs 1 0 % 32) → length bytes < 4 + size_of k → IsEnd bytes
 header_short bytes xs k e f short kind g =
     let same : type_number kind ≡ type_number k = sym g ∙ ap (λ (n : ℕ). n % 32) (sym (four_has xs bytes 1 e (omega arith))) ∙ number_is (get_or xs 1 0 % 32) k f in
     subst (λ (x : Kind). length bytes < 4 + size_of x) (sym (same_kind kind k same)) short
 
-pub header_begins : (bytes xs : List ℕ) (k : Kind) → xs ≡ take 4 bytes → Some k ≡ kind_of (get_or xs 1 0 % 32) → 4 + size_of k ≤ length bytes →
+pub header_begins : (bytes xs : List ℕ) (k : Kind) → xs ≡ take 4 bytes → Some k ≡ kind_with_number (get_or xs 1 0 % 32) → 4 + size_of k ≤ length bytes →
     Begins (get_or xs 0 0 + 256 * (get_or xs 1 0 / 32 % 2)) (get_or xs 1 0 / 64 + 4 * get_or xs 2 0 + 1024 * get_or xs 3 0) k bytes
 header_begins bytes xs k e f fits =
     let e0 = four_has xs bytes 0 e (omega arith) in

@@ -10,9 +10,9 @@ use Rattle.param_tree.specs.declared.Kind.TheVariants.{I8, I16, I32, F32, Vec3}
 use Rattle.param_tree.specs.Rules.{parts_of}
 use Rattle.param_records.specs.declared.values.Value.TheVariants.{Whole, Bits}
 use Rattle.param_records.specs.Records.{size_of}
-use Rattle.param_records.specs.Values.{number_at, value_from}
+use Rattle.param_records.specs.Values.{number_of_four_bytes, value_from}
 use Rattle.param_records.specs.Changes.{part_bytes, overwritten}
-use Rattle.param_records.specs.Patterns.{IsInRange, number_of_whole}
+use Rattle.param_records.specs.Patterns.{IsInRangeOf, number_of_whole}
 use Rattle.param_records.proofs.ValueLemmas.{same_value}
 use Rattle.param_records.proofs.OtherLemmas.{over_here, four_number}
 
@@ -33,7 +33,7 @@ unsigned_low (pos n) a b = grind (arith, nat_tests, ints)
 unsigned_low (negsuc n) a b = grind (arith, nat_tests, ints)
 
 -- a whole number of a kind is read back
-pub whole_back : (kind : Kind) (z : ℤ) → IsInRange kind z → value_from kind 0 (part_bytes kind (number_of_whole z)) ≡ Whole z
+pub whole_back : (kind : Kind) (z : ℤ) → IsInRangeOf kind z → value_from kind 0 (part_bytes kind (number_of_whole z)) ≡ Whole z
 whole_back I8 z h = ap (λ (x : ℤ). Whole x) (signed_eight z h.0 h.1)
 whole_back I16 z h = ap (λ (x : ℤ). Whole x) (signed_sixteen z h.0 h.1)
 whole_back I32 z h = ap (λ (n : ℕ). Whole (cast_signed w32 n)) (four_number (number_of_whole z) (unsigned_low z h.0 h.1)) ∙ ap (λ (x : ℤ). Whole x) (signed_whole z h.0 h.1)
@@ -41,7 +41,7 @@ whole_back F32 z h = absurd h
 whole_back Vec3 z h = absurd h
 
 -- the bytes of a part that is overwritten whole
-number_over : (at : ℕ) (xs v : List ℕ) → length xs ≡ 4 → at ≤ length v → number_at at (overwritten at xs v) ≡ number_at 0 xs
+number_over : (at : ℕ) (xs v : List ℕ) → length xs ≡ 4 → at ≤ length v → number_of_four_bytes at (overwritten at xs v) ≡ number_of_four_bytes 0 xs
 number_over at xs v four fits =
     let a0 : at + 0 ≡ at = omega arith in
     let e0 : get_or (overwritten at xs v) at 0 ≡ get_or xs 0 0 = ap (λ (n : ℕ). get_or (overwritten at xs v) n 0) (sym a0) ∙ over_here at xs v 0 fits (omega arith) in

@@ -8,12 +8,12 @@ use Rattle.param_records.specs.declared.values.Value.{Value}
 use Rattle.param_records.specs.declared.values.Value.TheVariants.{Whole, Bits}
 
 -- the whole numbers that an integer kind holds
-abbrev pub IsInRange : Kind → ℤ → Type 0
-IsInRange I8 z = (negsuc 127 ≤ℤ z) × (z ≤ℤ pos 127)
-IsInRange I16 z = (negsuc 32767 ≤ℤ z) × (z ≤ℤ pos 32767)
-IsInRange I32 z = (negsuc 2147483647 ≤ℤ z) × (z ≤ℤ pos 2147483647)
-IsInRange F32 z = ⊥
-IsInRange Vec3 z = ⊥
+abbrev pub IsInRangeOf : Kind → ℤ → Type 0
+IsInRangeOf I8 z = (negsuc 127 ≤ℤ z) × (z ≤ℤ pos 127)
+IsInRangeOf I16 z = (negsuc 32767 ≤ℤ z) × (z ≤ℤ pos 32767)
+IsInRangeOf I32 z = (negsuc 2147483647 ≤ℤ z) × (z ≤ℤ pos 2147483647)
+IsInRangeOf F32 z = ⊥
+IsInRangeOf Vec3 z = ⊥
 
 -- two's complement in 32 bits
 abbrev pub number_of_whole : ℤ → ℕ
@@ -21,7 +21,7 @@ number_of_whole z = cast_unsigned w32 z
 
 -- the pattern is that of a whole number of the kind
 abbrev pub IsWholeOf : Kind → ℕ → ℕ → Type 0
-IsWholeOf kind bits n = (z : ℤ) × IsInRange kind z × IsWhole bits z × (n ≡ number_of_whole z)
+IsWholeOf kind bits n = (z : ℤ) × IsInRangeOf kind z × IsWhole bits z × (n ≡ number_of_whole z)
 
 -- the pattern is a value of the kind, kept as this number
 abbrev pub IsNumberOf : Kind → ℕ → ℕ → Type 0

@@ -31,8 +31,9 @@ size_of F32 = 4
 size_of Vec3 = 12
 
 -- the kind with this type number
-abbrev pub kind_of : ℕ → Option Kind
-kind_of n = if n == 1 then Some I8 else (if n == 2 then Some I16 else (if n == 3 then Some I32
+abbrev pub kind_with_number : ℕ → Option Kind
+kind_with_number n = if n == 1 then Some I8
+    else (if n == 2 then Some I16 else (if n == 3 then Some I32
     else (if n == 4 then Some F32 else (if n == 5 then Some Vec3 else None))))
 
 -- four bytes, little endian
@@ -108,7 +109,7 @@ pub record Begins (of_key of_element : ℕ) (of_kind : Kind) (bytes : List ℕ) 
 
 -- the record that begins the bytes, if one does
 abbrev pub record_at : List ℕ → Option Record
-record_at bytes = option_and_then (read_whole bytes) (kind_of (slice_index bytes 1 % 32))
+record_at bytes = option_and_then (read_whole bytes) (kind_with_number (slice_index bytes 1 % 32))
 
 -- the records up to the first end, at most n of them
 unfoldable pub records_in : ℕ → List ℕ → List Record

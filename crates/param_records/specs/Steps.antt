@@ -15,7 +15,7 @@ use Rattle.storage_lines.specs.Laws.{EndsWithLine}
 use Rattle.param_records.specs.declared.values.Value.{Value}
 use Rattle.param_records.specs.Records.{Record, magic, HasRecords, records_of, end_of, value_in, place_from}
 use Rattle.param_records.specs.Values.{value_from, value_of_number, params_of}
-use Rattle.param_records.specs.Patterns.{IsNumberOf, IsInRange, number_of_whole}
+use Rattle.param_records.specs.Patterns.{IsNumberOf, IsInRangeOf, number_of_whole}
 use Rattle.param_records.specs.Changes.{part_size, part_bytes, overwritten, fresh, set_pieces, IsFull, formatting, total_zero}
 
 -- the records of the storage
@@ -134,7 +134,7 @@ FormatsInSteps = (bytes : List ℕ) → length bytes ≡ STORAGE_BYTES
 -- A row's bytes keep what a pattern is for its kind, and a whole number in its range.
 pub record NumbersKept : Type 0 where
   pub pattern : (kind : Kind) (bits number : ℕ) → IsNumberOf kind bits number → IsKept kind number
-  pub whole : (kind : Kind) (number : ℤ) → IsInRange kind number
+  pub whole : (kind : Kind) (number : ℤ) → IsInRangeOf kind number
       → IsKept kind (number_of_whole number)
 
 -- The records of bytes: where they begin with the magic, the one list that they spell up to the

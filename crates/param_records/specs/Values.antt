@@ -12,8 +12,8 @@ use Rattle.param_records.specs.declared.values.Value.TheVariants.{Whole, Bits}
 use Rattle.param_records.specs.Records.{Record, records_of, value_in}
 
 -- the number of four bytes from a place on, little endian
-abbrev pub number_at : ℕ → List ℕ → ℕ
-number_at at v = slice_index v at + 0x100 * slice_index v (at + 1)
+abbrev pub number_of_four_bytes : ℕ → List ℕ → ℕ
+number_of_four_bytes at v = slice_index v at + 0x100 * slice_index v (at + 1)
     + 0x1_0000 * slice_index v (at + 2) + 0x100_0000 * slice_index v (at + 3)
 
 -- the value that bytes of this kind have at a part: integers in two's complement, floats as
@@ -21,9 +21,9 @@ number_at at v = slice_index v at + 0x100 * slice_index v (at + 1)
 abbrev pub value_from : Kind → ℕ → List ℕ → Value
 value_from I8 part v = Whole (cast_signed w8 (slice_index v 0))
 value_from I16 part v = Whole (cast_signed w16 (slice_index v 0 + 0x100 * slice_index v 1))
-value_from I32 part v = Whole (cast_signed w32 (number_at 0 v))
-value_from F32 part v = Bits (number_at 0 v)
-value_from Vec3 part v = Bits (number_at (4 * part) v)
+value_from I32 part v = Whole (cast_signed w32 (number_of_four_bytes 0 v))
+value_from F32 part v = Bits (number_of_four_bytes 0 v)
+value_from Vec3 part v = Bits (number_of_four_bytes (4 * part) v)
 
 -- the value of a number of 32 bits, as the table's defaults are: a whole number in two's
 -- complement, or a float's pattern

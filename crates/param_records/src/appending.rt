@@ -3,7 +3,7 @@
 ghost use Rattle.std.specs.Prelude.{◌≡◌, ◌<◌, ◌≤◌, ◌+◌, ◌*◌, ◌%◌, ◌++◌, length};
 ghost use Rattle.arrayvec.specs.ArrayVec.{array_vec_len};
 ghost use Rattle.storage_lines.specs.declared.areas.Area.TheVariants.{Param};
-ghost use Rattle.storage_lines.specs.Bytes.{AreBytes, AreInside};
+ghost use Rattle.storage_lines.specs.Bytes.{HaveBytes, AreInside};
 ghost use Rattle.storage_lines.specs.Lines.{after};
 ghost use Rattle.storage_lines.specs.Pieces.{writes_of, writes_of_piece};
 ghost use Rattle.param_records.specs.Records.{size_of, four_bytes, header_of};
@@ -40,7 +40,7 @@ pub fn put(at: usize, bytes: &[u8], current: &[u8], batch: &mut Batch)
     ensures few { 8 * array_vec_len batch.new
         ≤ 8 * array_vec_len batch.old + at % 8 + length bytes.now + 7 }
     ensures inside { AreInside batch.old.items → AreInside batch.new.items }
-    ensures bytes { AreBytes batch.old.items → AreBytes batch.new.items }
+    ensures bytes { HaveBytes batch.old.items → HaveBytes batch.new.items }
 {
     match split(Area::Param, at as u16, bytes, current, batch) {
         Ok(()) => {}
@@ -73,7 +73,7 @@ fn put_header(at: usize, header: &[u8; 4], current: &[u8], batch: &mut Batch)
         ++ writes_of (after current.now batch.old.items) (header_pieces at header.now) }
     ensures few { array_vec_len batch.new ≤ array_vec_len batch.old + 2 }
     ensures inside { AreInside batch.old.items → AreInside batch.new.items }
-    ensures bytes { AreBytes batch.old.items → AreBytes batch.new.items }
+    ensures bytes { HaveBytes batch.old.items → HaveBytes batch.new.items }
 {
     let column = at % 8;
     if column < 5 {
@@ -109,7 +109,7 @@ pub fn append(
         (appending end (record { key = key; element = element; kind = kind; value = value.now })) }
     ensures few { array_vec_len batch.new ≤ array_vec_len batch.old + APPEND_LINES }
     ensures inside { AreInside batch.old.items → AreInside batch.new.items }
-    ensures bytes { AreBytes batch.old.items → AreBytes batch.new.items }
+    ensures bytes { HaveBytes batch.old.items → HaveBytes batch.new.items }
 {
     let header = header_bytes(key, element, kind);
     put(end + 4 + value.len(), &SENTINEL, current, batch);

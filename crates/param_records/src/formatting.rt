@@ -4,7 +4,7 @@ ghost use Rattle.std.specs.Prelude.{◌≡◌, ◌≢◌, ◌≤◌, ◌+◌, �
 ghost use Rattle.arrayvec.specs.ArrayVec.{array_vec_len};
 ghost use Rattle.storage_lines.specs.declared.areas.Area.TheVariants.{Param};
 ghost use Rattle.storage_lines.specs.Areas.{logical_of};
-ghost use Rattle.storage_lines.specs.Bytes.{AreBytes, AreInside};
+ghost use Rattle.storage_lines.specs.Bytes.{HaveBytes, AreInside};
 ghost use Rattle.storage_lines.specs.Lines.{after};
 ghost use Rattle.storage_lines.specs.Pieces.{writes_of};
 ghost use Rattle.param_records.specs.Records.{magic};
@@ -36,7 +36,7 @@ pub fn format_batch(current: &[u8], batch: &mut Batch) -> bool
         (drop (array_vec_len batch.old) batch.new.items) }
     ensures few { array_vec_len batch.new ≤ array_vec_len batch.old + FORMAT_LINES }
     ensures inside { AreInside batch.old.items → AreInside batch.new.items }
-    ensures bytes { AreBytes batch.old.items → AreBytes batch.new.items }
+    ensures bytes { HaveBytes batch.old.items → HaveBytes batch.new.items }
 {
     if has_magic(current) {
         return false;

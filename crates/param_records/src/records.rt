@@ -4,7 +4,7 @@ ghost use Rattle.std.specs.Prelude.{◌≡◌, ◌≤◌, ◌+◌, ◌==◌, ◌
 ghost use Rattle.storage_lines.specs.Areas.{logical_of};
 ghost use Rattle.storage_lines.specs.declared.areas.Area.TheVariants.{Param};
 ghost use Rattle.param_records.specs.Lookups.{IsLookup};
-ghost use Rattle.param_records.specs.Records.{size_of, kind_of, IsEnd, magic, Begins, records_of, end_of, place_from, kind_eq, type_number};
+ghost use Rattle.param_records.specs.Records.{size_of, kind_with_number, IsEnd, magic, Begins, records_of, end_of, place_from, kind_eq, type_number};
 
 use param_tree::Kind;
 use storage_lines::{Area, STORAGE_BYTES, read};
@@ -65,7 +65,7 @@ pub fn size_of(kind: Kind) -> usize
 
 /// The kind with a type number.
 fn kind_of(number: u8) -> Option<Kind>
-    ensures { result ≡ kind_of number }
+    ensures { result ≡ kind_with_number number }
 {
     match number {
         1 => Some(Kind::I8),

@@ -4,7 +4,7 @@ ghost use Rattle.std.specs.Prelude.{◌≡◌, ◌≢◌, ◌⊎◌, ◌<◌, �
 ghost use Rattle.arrayvec.specs.ArrayVec.{array_vec_len};
 ghost use Rattle.storage_lines.specs.declared.areas.Area.TheVariants.{Param};
 ghost use Rattle.storage_lines.specs.Areas.{logical_of};
-ghost use Rattle.storage_lines.specs.Bytes.{IsBytes, AreBytes, AreInside};
+ghost use Rattle.storage_lines.specs.Bytes.{IsBytes, HaveBytes, AreInside};
 ghost use Rattle.storage_lines.specs.Lines.{after};
 ghost use Rattle.storage_lines.specs.Pieces.{writes_of};
 ghost use Rattle.param_tree.specs.Rules.{is_part};
@@ -12,7 +12,7 @@ ghost use Rattle.param_records.specs.Records.{four_bytes, size_of, end_of};
 ghost use Rattle.param_records.specs.Lookups.{IsLookupOf};
 ghost use Rattle.param_records.specs.Values.{params_of};
 ghost use Rattle.param_records.specs.Changes.{part_size, default_at, part_number, fresh_bytes, set_pieces, IsFull, SamePlaces};
-ghost use Rattle.param_records.specs.Patterns.{IsNumberOf, IsValueOf, IsInRange, number_of_whole};
+ghost use Rattle.param_records.specs.Patterns.{IsNumberOf, IsValueOf, IsInRangeOf, number_of_whole};
 ghost use Rattle.param_records.specs.Steps.{HasMagic, records_in_storage, SetsRow, SetsWell};
 
 use crate::appending::{APPEND_LINES, append, four_bytes, put};
@@ -131,7 +131,7 @@ fn write<const N: usize>(
         e ≡ SetError.Full (end_of (logical_of Param (after current.now batch.old.items)))) }
     ensures few { array_vec_len batch.new ≤ array_vec_len batch.old + SET_LINES }
     ensures inside { AreInside batch.old.items → AreInside batch.new.items }
-    ensures bytes { AreBytes batch.old.items → AreBytes batch.new.items }
+    ensures bytes { HaveBytes batch.old.items → HaveBytes batch.new.items }
 {
     let row = table.row(var);
     match lookup {
@@ -196,7 +196,7 @@ pub fn store<const N: usize>(
         batch.old.items batch.new.items) }
     ensures few { array_vec_len batch.new ≤ array_vec_len batch.old + SET_LINES }
     ensures inside { AreInside batch.old.items → AreInside batch.new.items }
-    ensures bytes { AreBytes batch.old.items → AreBytes batch.new.items }
+    ensures bytes { HaveBytes batch.old.items → HaveBytes batch.new.items }
 {
     table.rules();
     write(current, table, lookup, var, number, batch)
@@ -275,7 +275,7 @@ pub fn set<const N: usize>(
     // Whatever is answered.
     ensures few { array_vec_len batch.new ≤ array_vec_len batch.old + SET_LINES }
     ensures inside { AreInside batch.old.items → AreInside batch.new.items }
-    ensures bytes { AreBytes batch.old.items → AreBytes batch.new.items }
+    ensures bytes { HaveBytes batch.old.items → HaveBytes batch.new.items }
 {
     let row = table.row(var);
     match number_of(row.kind, bits) {
@@ -297,7 +297,7 @@ pub fn set_whole<const N: usize>(
 ) -> Result<(), SetError>
     requires size { length current.now ≡ STORAGE_BYTES }
     requires row { var < N }
-    requires range { IfSome (slice_get table.now var) (λ row. IsInRange row.kind number) }
+    requires range { IfSome (slice_get table.now var) (λ row. IsInRangeOf row.kind number) }
     requires room { array_vec_len batch.old + SET_LINES ≤ BATCH_LINES }
     requires stand { SamePlaces table.now current.now (after current.now batch.old.items) }
     ensures ok { let before = after current.now batch.old.items in
@@ -324,7 +324,7 @@ pub fn set_whole<const N: usize>(
     // Whatever is answered.
     ensures few { array_vec_len batch.new ≤ array_vec_len batch.old + SET_LINES }
     ensures inside { AreInside batch.old.items → AreInside batch.new.items }
-    ensures bytes { AreBytes batch.old.items → AreBytes batch.new.items }
+    ensures bytes { HaveBytes batch.old.items → HaveBytes batch.new.items }
 {
     let lookup = look_up_row(current, table, var);
     store(current, table, lookup, var, number.cast_unsigned(), batch)

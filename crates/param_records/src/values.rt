@@ -1,6 +1,6 @@
 //! Values of parameters: what the bytes of a record, and the numbers of the table, mean for a kind.
 ghost use Rattle.std.specs.Prelude.{◌≡◌, ◌<◌, ◌≤◌};
-ghost use Rattle.param_records.specs.Values.{value_from, value_of_number, number_at};
+ghost use Rattle.param_records.specs.Values.{value_from, value_of_number, number_of_four_bytes};
 
 use byteorder::{ByteOrder, LittleEndian};
 use param_tree::Kind;
@@ -17,7 +17,7 @@ pub enum Value {
 /// The number in the four bytes from a place on, little endian.
 fn number_at(bytes: &[u8; 12], at: usize) -> u32
     requires { at ≤ 8 }
-    ensures { result ≡ number_at at bytes.now }
+    ensures { result ≡ number_of_four_bytes at bytes.now }
 {
     LittleEndian::read_u32(&bytes[at..])
 }

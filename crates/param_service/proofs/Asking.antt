@@ -3,12 +3,12 @@ use Rattle.std.proofs.Common.{◌≡◌, ℕ, List, [], refl, sym, ap, subst, Bo
 use Rattle.std.specs.Prelude.{ℤ}
 use Rattle.mav_messages.specs.declared.messages.Message.{Message}
 use Rattle.mav_messages.specs.declared.messages.Message.TheVariants.{ParamRequestRead, ParamRequestList, ParamSet}
-use Rattle.param_service.specs.Requests.{Request, Show, ShowAll, Asks, IsSetting, is_for, row_of, row_named}
+use Rattle.param_service.specs.Requests.{Request, Show, ShowAll, Asks, IsSetting, is_for, row_asked_for, row_named}
 use Rattle.param_service.specs.Service.{did}
 
-pub asks_read : (m : Message) (index : ℤ) (system component : ℕ) (name : List ℕ) → m ≡ ParamRequestRead index system component name → is_for system component ≡ true → Asks m (option_map Show (row_of index name))
+pub asks_read : (m : Message) (index : ℤ) (system component : ℕ) (name : List ℕ) → m ≡ ParamRequestRead index system component name → is_for system component ≡ true → Asks m (option_map Show (row_asked_for index name))
 asks_read m index system component name is fine =
-    subst (λ (x : Message). Asks x (option_map Show (row_of index name))) (sym is) (sym (ap (λ (b : Bool). cond b (option_map Show (row_of index name)) None) fine))
+    subst (λ (x : Message). Asks x (option_map Show (row_asked_for index name))) (sym is) (sym (ap (λ (b : Bool). cond b (option_map Show (row_asked_for index name)) None) fine))
 
 pub asks_list : (m : Message) (system component : ℕ) → m ≡ ParamRequestList system component → is_for system component ≡ true → Asks m (Some ShowAll)
 asks_list m system component is fine = subst (λ (x : Message). Asks x (Some ShowAll)) (sym is) (sym (ap (λ (b : Bool). cond b (Some ShowAll) None) fine))

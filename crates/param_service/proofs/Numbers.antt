@@ -9,7 +9,7 @@ use Rattle.word_bits.proofs.Signs.{product_turned}
 use Rattle.param_tree.specs.declared.Kind.{Kind}
 use Rattle.param_tree.specs.declared.Kind.TheVariants.{I8, I16, I32, F32, Vec3}
 use Rattle.param_tree.specs.declared.Var.{Var}
-use Rattle.param_records.specs.Patterns.{IsInRange, IsWholeOf, IsNumberOf, number_of_whole}
+use Rattle.param_records.specs.Patterns.{IsInRangeOf, IsWholeOf, IsNumberOf, number_of_whole}
 use Rattle.param_service.specs.Requests.{IsNumberFor}
 
 no_multiple : (s : Bool) (m : ℕ) (z : ℤ) → 0 < m % 2 ^ 149 → signed s m ≡ z *ℤ pos (2 ^ 149) → ⊥
@@ -42,14 +42,14 @@ between_or_not low high z =
     by_lt_z z low (λ below. inr (λ h. let a = h.0 in omega (arith, ints)))
     (λ a. by_lt_z high z (λ above. inr (λ h. let b = h.1 in omega (arith, ints))) (λ b. inl (a, b)))
 
-range_or_not : (kind : Kind) (z : ℤ) → IsInRange kind z ⊎ (IsInRange kind z → ⊥)
+range_or_not : (kind : Kind) (z : ℤ) → IsInRangeOf kind z ⊎ (IsInRangeOf kind z → ⊥)
 range_or_not I8 z = between_or_not (negsuc 127) (pos 127) z
 range_or_not I16 z = between_or_not (negsuc 32767) (pos 32767) z
 range_or_not I32 z = between_or_not (negsuc 2147483647) (pos 2147483647) z
 range_or_not F32 z = inr (λ h. h)
 range_or_not Vec3 z = inr (λ h. h)
 
-fits_in_range : (kind : Kind) (z : ℤ) → IsInRange kind z → FitsSigned w32 z
+fits_in_range : (kind : Kind) (z : ℤ) → IsInRangeOf kind z → FitsSigned w32 z
 fits_in_range I8 z h = let a = h.0 in let b = h.1 in omega (arith, ints)
 fits_in_range I16 z h = let a = h.0 in let b = h.1 in omega (arith, ints)
 fits_in_range I32 z h = let a = h.0 in let b = h.1 in omega (arith, ints)
@@ -65,7 +65,7 @@ whole_or_none kind bits =
     elim (multiple_or_not (is_negative bits) (magnitude (bits % 2 ^ 31))) [
       | inr none ↦ inr (λ n h. none h.0 h.2.equal)
       | inl some ↦ elim (range_or_not kind some.0) [
-        | inr out ↦ inr (λ n h. out (subst (IsInRange kind) (one_multiple h.0 some.0 (sym h.2.equal ∙ some.1)) h.1))
+        | inr out ↦ inr (λ n h. out (subst (IsInRangeOf kind) (one_multiple h.0 some.0 (sym h.2.equal ∙ some.1)) h.1))
         | inl inside ↦ elim (finite_or_not bits) [
           | inr infinite ↦ inr (λ n h. infinite h.2.finite)
           | inl finite ↦ inl (number_of_whole some.0, (some.0, inside, record { finite = finite; fits = fits_in_range kind some.0 inside; equal = some.1 }, refl))

@@ -31,10 +31,10 @@ abbrev pub row_named : List ℕ → Option ℕ
 row_named bytes = position (has_name (before_first (λ b. b == 0) bytes)) vehicle_rows
 
 -- the row with this index, or with this name where the index is -1
-abbrev pub row_of : ℤ → List ℕ → Option ℕ
-row_of (pos index) name = if nat_lt index parameters then Some index else None
-row_of (negsuc zero) name = row_named name
-row_of (negsuc (suc n)) name = None
+abbrev pub row_asked_for : ℤ → List ℕ → Option ℕ
+row_asked_for (pos index) name = if nat_lt index parameters then Some index else None
+row_asked_for (negsuc zero) name = row_named name
+row_asked_for (negsuc (suc n)) name = None
 
 -- the number that the pattern is for the row's kind, or none where it is no value of the kind
 abbrev pub IsNumberFor : Var → ℕ → Option ℕ → Type 0
@@ -59,7 +59,7 @@ sets_parameter _ = false
 -- and any other message ask for nothing.
 abbrev pub Asks : Message → Option Request → Type 0
 Asks (ParamRequestRead index system component name) asked =
-    asked ≡ (if is_for system component then option_map Show (row_of index name) else None)
+    asked ≡ (if is_for system component then option_map Show (row_asked_for index name) else None)
 Asks (ParamRequestList system component) asked =
     asked ≡ (if is_for system component then Some ShowAll else None)
 Asks (ParamSet bits system component name kind) asked =

@@ -8,7 +8,7 @@ ghost use Rattle.storage_lines.specs.declared.lines.TheConstants.{STORAGE_BYTES,
 ghost use Rattle.storage_lines.specs.Lines.{after};
 ghost use Rattle.param_tree.specs.Rows.{vehicle_rows};
 ghost use Rattle.param_records.specs.Steps.{HasMagic};
-ghost use Rattle.param_service.specs.Requests.{Request, Show, Asks, IsSetting, parameters, row_of};
+ghost use Rattle.param_service.specs.Requests.{Request, Show, Asks, IsSetting, parameters, row_asked_for};
 ghost use Rattle.param_service.specs.Requests.{row_named};
 ghost use Rattle.param_service.specs.Service.{no_lists, did, streamed};
 ghost use Rattle.param_service.specs.State.{State, IsIndexed};
@@ -111,7 +111,8 @@ fn answer_read(
     requires index { IsIndexOf vehicle_rows current.now places.now }
     requires replies { replies.old.items ≡ [] }
     ensures { (allowed : Option ℕ) (next_rows : List ℕ) → AreRepliesOf
-        (did current.now allowed next_rows station (option_map Show (row_of index name.now))).shown
+        (did current.now allowed next_rows station
+        (option_map Show (row_asked_for index name.now))).shown
         replies.new.items }
 {
     if let Some(row) = row_of(table, index, name) {

@@ -2,7 +2,7 @@
 //! lack its zeros.
 ghost use Rattle.std.specs.Prelude.{◌≡◌, ◌<◌, IfSome};
 ghost use Rattle.param_tree.specs.Rows.{vehicle_rows};
-ghost use Rattle.param_service.specs.Requests.{is_for, parameters, row_named, row_of};
+ghost use Rattle.param_service.specs.Requests.{is_for, parameters, row_named, row_asked_for};
 ghost use Rattle.param_service.specs.Requests.{sets_parameter};
 
 use mav_messages::Message;
@@ -44,7 +44,7 @@ pub fn row_named(table: &Table<240>, name: &[u8; 16]) -> Option<u16>
 /// The row with an index, or with a name where the index is -1.
 pub fn row_of(table: &Table<240>, index: i16, name: &[u8; 16]) -> Option<u16>
     requires { table.now ≡ vehicle_rows }
-    ensures row { result ≡ row_of index name.now }
+    ensures row { result ≡ row_asked_for index name.now }
     ensures inside { IfSome result (λ row. row < parameters) }
 {
     if index == BY_NAME {

@@ -1,6 +1,6 @@
 -- What holds by why a replay stopped.
 use Rattle.std.proofs.Common.{◌≡◌, ℕ, subst}
-use Rattle.sector_image.specs.FirstBad.{Place, place_of}
+use Rattle.sector_image.specs.FirstBad.{Place, foreign_place}
 use Rattle.replay.specs.Breaks.{OnStopped, OnForeign, OnWorn, OnRefused, BetweenEvents}
 use Rattle.replay.specs.declared.Stop.{Stop}
 use Rattle.replay.specs.declared.Stop.TheVariants as stop
@@ -11,7 +11,7 @@ pub stopped_by : (P : Stop → Type 0) (how : Break) (why : Stop) → how ≡ St
 stopped_by P how why is on = subst (OnStopped P) is on
 
 pub foreign_map : {P Q : Place → Type 0} (why : Stop) → ((place : Place) → P place → Q place) → OnForeign P why → OnForeign Q why
-foreign_map (stop.Foreign region offset word) f is = f (place_of region offset word) is
+foreign_map (stop.Foreign region offset word) f is = f (foreign_place region offset word) is
 foreign_map stop.Memory f is = tt
 foreign_map (stop.Worn count) f is = tt
 foreign_map (stop.Refused line) f is = tt

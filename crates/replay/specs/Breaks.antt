@@ -1,6 +1,6 @@
 -- What holds by how a run broke off.
 use Rattle.std.specs.Prelude.{ℕ}
-use Rattle.sector_image.specs.FirstBad.{Place, place_of}
+use Rattle.sector_image.specs.FirstBad.{Place, foreign_place}
 use Rattle.replay.specs.declared.Stop.{Stop}
 use Rattle.replay.specs.declared.Stop.TheVariants as stop
 use Rattle.replay.specs.declared.Break.{Break}
@@ -18,7 +18,7 @@ OnStopped P (Stopped why) = P why
 
 -- what holds where the words of an opening are no image, of the first foreign word
 abbrev pub OnForeign : (Place → Type 0) → Stop → Type 0
-OnForeign P (stop.Foreign region offset word) = P (place_of region offset word)
+OnForeign P (stop.Foreign region offset word) = P (foreign_place region offset word)
 OnForeign P stop.Memory = Unit {0}
 OnForeign P (stop.Worn count) = Unit {0}
 OnForeign P (stop.Refused line) = Unit {0}

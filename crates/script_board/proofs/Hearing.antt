@@ -8,7 +8,7 @@ use Rattle.flash_traits.specs.declared.board.Event.TheVariants as event
 use Rattle.flash_traits.specs.declared.board.Failed.{Failed}
 use Rattle.script_lines.specs.Script.{ScriptLine, Datagram, Idle, LossNow, LossLater, End, HasNoEnd}
 use Rattle.script_board.specs.Taking.{events_in, events_of}
-use Rattle.script_board.specs.Hearing.{loses_in, HasNoLossNow, EndsWithEnd, AreLosses, IsHeard, IsUnheard}
+use Rattle.script_board.specs.Hearing.{loses_in, HasNoLossNow, EndsWithEnd, AreLosses, IsEventHeard, IsUnheard}
 use Rattle.script_board.specs.declared.board.ScriptMark.{ScriptMark}
 
 no_loss : (n : ℕ) → n ≡ 0 → n ≡ 1 → ⊥
@@ -62,22 +62,22 @@ no_end_then (m ∷ a) l x other = (loss_no_end m x.0, no_end_then a l x.1 other)
 
 -- a reception that heard an event
 module _ (event : Event) (buffer : List ℕ) (lines : List ScriptLine) where
-  pub events-heard : IsHeard event buffer lines → events_of lines ≡ received event buffer ∷ []
+  pub events-heard : IsEventHeard event buffer lines → events_of lines ≡ received event buffer ∷ []
   events-heard h = ap events_of h.2 ∙ event_last h.0 h.1 h.3 ∙ h.4
 
-  pub no_loss_now-heard : IsHeard event buffer lines → HasNoLossNow lines
+  pub no_loss_now-heard : IsEventHeard event buffer lines → HasNoLossNow lines
   no_loss_now-heard h = subst HasNoLossNow (sym h.2) (no_loss_then h.0 h.1 h.3 (λ now. absurd (silent (sym h.4 ∙ ap events_in now))))
     where
       silent : received event buffer ∷ [] ≡ [] → ⊥
       silent is = cc
 
-  pub no_end-heard : IsHeard event buffer lines → received event buffer ≢ link.End → HasNoEnd lines
+  pub no_end-heard : IsEventHeard event buffer lines → received event buffer ≢ link.End → HasNoEnd lines
   no_end-heard h other = subst HasNoEnd (sym h.2) (no_end_then h.0 h.1 h.3 (λ end. other (same (sym h.4 ∙ ap events_in end))))
     where
       same : received event buffer ∷ [] ≡ link.End ∷ [] → received event buffer ≡ link.End
       same is = cc
 
-  pub length-heard : IsHeard event buffer lines → 1 ≤ length lines
+  pub length-heard : IsEventHeard event buffer lines → 1 ≤ length lines
   length-heard h = let long = ap length h.2 ∙ length-append h.0 (h.1 ∷ []) in omega (arith, long)
 
 ends_in : (l : ScriptLine) → events_in l ≡ link.End ∷ [] → l ≡ End
@@ -88,7 +88,7 @@ ends_in (LossLater call how) is = absurd (cc)
 ends_in End is = refl
 
 -- the end was heard
-pub ends-heard : (buffer : List ℕ) (lines : List ScriptLine) → IsHeard event.End buffer lines → EndsWithEnd lines
+pub ends-heard : (buffer : List ℕ) (lines : List ScriptLine) → IsEventHeard event.End buffer lines → EndsWithEnd lines
 ends-heard buffer lines h = (h.0, h.2 ∙ ap (λ (l : ScriptLine). h.0 ++ l ∷ []) (ends_in h.1 h.4), no_end-losses h.0 h.3)
 
 -- a line `x` after such losses
@@ -119,7 +119,7 @@ module _ (mark_before mark_now : Option ScriptMark) (failures : ℕ) (lines : Li
 
   -- the events of a reception's lines
   pub events-result : (r : Result Event Failed) (buffer : List ℕ)
-      → MatchResult r (λ event. IsHeard event buffer lines) (λ failed. IsUnheard mark_before mark_now failures lines faulted line refused)
+      → MatchResult r (λ event. IsEventHeard event buffer lines) (λ failed. IsUnheard mark_before mark_now failures lines faulted line refused)
       → MatchResult r (λ event. events_of lines ≡ received event buffer ∷ []) (λ failed. events_of lines ≡ [])
   events-result (Ok event) buffer heard = events-heard event buffer lines heard
   events-result (Err failed) buffer unheard = no_events-unheard unheard

@@ -3,7 +3,7 @@ use Rattle.std.proofs.Common.{◌≡◌, ◌⊎◌, inl, inr, ℕ, ◌+◌, List
 use Rattle.std.specs.Prelude.{Option, Some, None, IfSome, IfNone}
 use Rattle.flash_traits.specs.declared.stream.Source.{Ghosts}
 use Rattle.script_lines.specs.Script.{ScriptLine, Datagram, Idle, LossNow, LossLater, End, Spells, AreLines, line_feed}
-use Rattle.script_lines.specs.Reading.{Reads}
+use Rattle.script_lines.specs.Reading.{ReadsBytes}
 use Rattle.script_board.specs.Taking.{IsAhead, AreTaken, Took}
 
 pub at_some : {A : Type 0} (o : Option A) (x : A) (P : A → Type 0) → o ≡ Some x → IfSome o P → P x
@@ -118,7 +118,7 @@ module _ {S : Type 0} (g : Ghosts S) where
     whole = λ told. inl refl;
   }
 
-  pub took_none : (old new : S) (before now fresh : List ℕ) → Reads g old new before now fresh → Took g old new before now [] 0
+  pub took_none : (old new : S) (before now fresh : List ℕ) → ReadsBytes g old new before now fresh → Took g old new before now [] 0
   took_none old new before now fresh reads = record {
     fresh = fresh;
     bytes = [];
@@ -131,7 +131,7 @@ module _ {S : Type 0} (g : Ghosts S) where
     whole = λ told. inl refl;
   }
 
-  pub took_refused : (old mid new : S) (before between now fresh : List ℕ) → Reads g old mid before between fresh → new ≡ mid → now ≡ between → Took g old new before now [] 0
+  pub took_refused : (old mid new : S) (before between now fresh : List ℕ) → ReadsBytes g old mid before between fresh → new ≡ mid → now ≡ between → Took g old new before now [] 0
   took_refused old mid new before between now fresh reads same is =
       subst (λ (s : S). Took g old s before now [] 0) (sym same) (subst (λ (l : List ℕ). Took g old mid before l [] 0) (sym is) (took_none old mid before between fresh reads))
 
@@ -139,7 +139,7 @@ module _ {S : Type 0} (g : Ghosts S) where
   took_same old new before now same is =
       subst (λ (s : S). Took g old s before now [] 0) (sym same) (subst (λ (l : List ℕ). Took g old old before l [] 0) (sym is) (took_nothing old before))
 
-  pub took_line : (old new : S) (before mid now fresh : List ℕ) (line : ScriptLine) (bytes : ℕ) → Reads g old new before mid fresh
+  pub took_line : (old new : S) (before mid now fresh : List ℕ) (line : ScriptLine) (bytes : ℕ) → ReadsBytes g old new before mid fresh
       → IsAhead line bytes mid (g.tells_rest new) (g.rest new) → now ≡ drop bytes mid → Took g old new before now (line ∷ []) bytes
   took_line old new before mid now fresh line bytes reads ahead is =
       let later : now ≡ ahead.later = is ∙ ap (λ (n : ℕ). drop n mid) (sym ahead.long) ∙ ap (drop (length ahead.takes)) ahead.unread_are ∙ drop_first ahead.takes ahead.later in

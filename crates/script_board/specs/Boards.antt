@@ -46,9 +46,9 @@ unread_in b = unread_of b.buffer.items b.ahead
 
 -- How often a reception has failed, up to the end of the count: the lines `x`, the refused lines
 -- and the faults of the source.
-abbrev pub hears : {S K : Type 0} {h : sink.Ghosts K} (g : source.Ghosts S)
+abbrev pub reception_faults : {S K : Type 0} {h : sink.Ghosts K} (g : source.Ghosts S)
     → ScriptBoard S K g h → ℕ
-hears g b = min (slice_index b.faults 3 + g.faults b.input.now) (2 ^ 64 - 1)
+reception_faults g b = min (slice_index b.faults 3 + g.faults b.input.now) (2 ^ 64 - 1)
 
 -- the call was one of the script: neither the words were changed nor the sink asked
 pub record OnlyScript {S K : Type 0} {g : source.Ghosts S} {h : sink.Ghosts K}

@@ -6,7 +6,7 @@ use Rattle.flash_traits.specs.declared.board.Event.{Event}
 use Rattle.flash_traits.specs.declared.board.Event.TheVariants as event
 use Rattle.flash_traits.specs.declared.board.Failed.{Failed}
 use Rattle.script_lines.specs.Script.{ScriptLine, Datagram, Idle, LossNow, LossLater, End, HasNoEnd}
-use Rattle.script_lines.specs.Seen.{line_of}
+use Rattle.script_lines.specs.Seen.{script_line_of}
 use Rattle.script_lines.specs.declared.line.ScriptLine as lines
 use Rattle.script_lines.specs.declared.line.Waiting.{Waiting}
 use Rattle.script_lines.specs.declared.numbers.TheConstants.{SCRIPT_LINES}
@@ -17,9 +17,9 @@ use Rattle.script_board.specs.declared.board.ScriptMark.TheVariants.{Lost, Refus
 use Rattle.script_board.specs.declared.waiting.TheConstants.{WAITING_LOSSES}
 
 -- the line that was taken, or none
-abbrev pub lines_of : {E : Type 0} → Result lines.ScriptLine E → List ScriptLine
-lines_of (Ok line) = line_of line ∷ []
-lines_of (Err e) = []
+abbrev pub taken_lines : {E : Type 0} → Result lines.ScriptLine E → List ScriptLine
+taken_lines (Ok line) = script_line_of line ∷ []
+taken_lines (Err e) = []
 
 -- the losses that wait after a line
 abbrev pub waiting_after : List Waiting → ScriptLine → List Waiting
@@ -71,8 +71,8 @@ AreLosses [] = Unit {0}
 AreLosses (line ∷ lines) = (loses_in line ≡ 1) × AreLosses lines
 
 -- an event was heard: that of the last line, behind losses at later calls
-abbrev pub IsHeard : Event → List ℕ → List ScriptLine → Type 0
-IsHeard event buffer lines = (front : List ScriptLine) × (last : ScriptLine)
+abbrev pub IsEventHeard : Event → List ℕ → List ScriptLine → Type 0
+IsEventHeard event buffer lines = (front : List ScriptLine) × (last : ScriptLine)
     × (lines ≡ front ++ last ∷ []) × AreLosses front
     × (events_in last ≡ received event buffer ∷ [])
 

@@ -8,7 +8,7 @@ use Rattle.flash_traits.specs.Losses.{Received, SentFrame, Moment}
 use Rattle.script_lines.specs.Script.{ScriptLine}
 use Rattle.script_board.specs.Taking.{AreTaken, events_of}
 use Rattle.script_board.specs.Printing.{frame_lines}
-use Rattle.script_board.specs.Boards.{unread_in, hears}
+use Rattle.script_board.specs.Boards.{unread_in, reception_faults}
 use Rattle.script_board.specs.declared.board.ScriptMark.TheVariants.{Output}
 use Rattle.script_board.specs.declared.board.ScriptBoard.{ScriptBoard}
 
@@ -55,5 +55,5 @@ abbrev pub failures : {S K : Type 0} (g : source.Ghosts S) (h : sink.Ghosts K)
 failures g h b Attach = slice_index b.faults 0
 failures g h b Read = slice_index b.faults 1
 failures g h b Flash = slice_index b.faults 2
-failures g h b Recv = hears g b
+failures g h b Recv = reception_faults g b
 failures g h b Send = h.faults b.out.now

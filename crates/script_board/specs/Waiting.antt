@@ -8,9 +8,9 @@ falls_now [] since = false
 falls_now (first ∷ waiting) since = since + 1 == first.call
 
 -- the calls since the last loss, one more where a loss waits; the count stands still at its end
-abbrev pub counted : List Waiting → ℕ → ℕ
-counted [] since = since
-counted (first ∷ waiting) since = min (since + 1) (2 ^ 32 - 1)
+abbrev pub calls_counted : List Waiting → ℕ → ℕ
+calls_counted [] since = since
+calls_counted (first ∷ waiting) since = min (since + 1) (2 ^ 32 - 1)
 
 -- what the first waiting loss leaves
 abbrev pub first_leaves : List Waiting → ℕ

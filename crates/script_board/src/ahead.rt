@@ -3,8 +3,8 @@ ghost use Rattle.std.specs.Prelude.{◌≡◌, ◌≤◌, List, ℕ, length, tak
 ghost use Rattle.flash_traits.specs.Causes.{HasOneCause};
 ghost use Rattle.script_lines.specs.Script as script;
 ghost use Rattle.script_lines.specs.Script.{Spells};
-ghost use Rattle.script_lines.specs.Reading.{Reads, unread_of};
-ghost use Rattle.script_lines.specs.Seen.{line_of};
+ghost use Rattle.script_lines.specs.Reading.{ReadsBytes, unread_of};
+ghost use Rattle.script_lines.specs.Seen.{script_line_of};
 ghost use Rattle.script_board.specs.Taking.{IsAhead, HasNoLine};
 
 use arrayvec::ArrayVec;
@@ -23,7 +23,7 @@ fn line_at(buffer: &[u8], ahead: u32, len: u32) -> Option<ScriptLine>
     requires within { ahead ≤ length buffer.now }
     requires inside { len ≤ ahead }
     ensures some { IfSome result
-        (λ line. Spells (line_of line) (take len (unread_of buffer.now ahead))) }
+        (λ line. Spells (script_line_of line) (take len (unread_of buffer.now ahead))) }
     ensures none { IfNone result
         ((line : script.ScriptLine) → Spells line (take len (unread_of buffer.now ahead)) → ⊥) }
 {
@@ -39,9 +39,9 @@ pub(crate) fn line_ahead<S: Source>(
 ) -> Result<Option<Ahead>, Failed>
     requires { ahead.old ≤ length buffer.old.items }
     ensures within { ahead.new ≤ length buffer.new.items }
-    ensures reads { (fresh : List ℕ) × Reads S.Source input.old input.new
+    ensures reads { (fresh : List ℕ) × ReadsBytes S.Source input.old input.new
         (unread_of buffer.old.items ahead.old) (unread_of buffer.new.items ahead.new) fresh }
-    ensures line { IfOk result (λ found. IfSome found (λ next. IsAhead (line_of next.line)
+    ensures line { IfOk result (λ found. IfSome found (λ next. IsAhead (script_line_of next.line)
         next.bytes (unread_of buffer.new.items ahead.new) (S.tells_rest input.new)
         (S.rest input.new))) }
     ensures inside { IfOk result (λ found. IfSome found (λ next. next.bytes ≤ ahead.new)) }

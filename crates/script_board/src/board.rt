@@ -78,7 +78,7 @@ impl<'a, S: Source, K: Sink> ScriptBoard<'a, S, K> {
     ghost use Rattle.flash_traits.specs.Words.{region_length, halfwords_in, programmed, erased};
     ghost use Rattle.flash_traits.specs.Words.{IsSectorRegion};
     ghost use Rattle.script_board.specs.Image.{words_of, half_erased};
-    ghost use Rattle.script_board.specs.Waiting.{falls_now, counted, first_leaves};
+    ghost use Rattle.script_board.specs.Waiting.{falls_now, calls_counted, first_leaves};
     ghost use Rattle.script_board.specs.Boards.{words_in, OnlyDevice, after_loss, erased_by};
     ghost use Rattle.script_board.specs.declared.board.ScriptMark.TheVariants.{Lost};
 
@@ -110,7 +110,7 @@ impl<'a, S: Source, K: Sink> ScriptBoard<'a, S, K> {
             (programmed (words_in self.old) region at word)) }
         ensures waits { OnOk result (self.new.waiting.items ≡ self.old.waiting.items) }
         ensures counted { OnOk result
-            (self.new.since ≡ counted self.old.waiting.items self.old.since) }
+            (self.new.since ≡ calls_counted self.old.waiting.items self.old.since) }
         ensures fallen { OnErr result (self.new.waiting.items ≡ drop 1 self.old.waiting.items) }
         ensures anew { OnErr result (self.new.since ≡ 0) }
         ensures unmarked { OnOk result (self.new.mark ≡ self.old.mark) }
@@ -144,7 +144,7 @@ impl<'a, S: Source, K: Sink> ScriptBoard<'a, S, K> {
             ≡ erased_by (first_leaves self.old.waiting.items) (words_in self.old) region) }
         ensures waits { OnOk result (self.new.waiting.items ≡ self.old.waiting.items) }
         ensures counted { OnOk result
-            (self.new.since ≡ counted self.old.waiting.items self.old.since) }
+            (self.new.since ≡ calls_counted self.old.waiting.items self.old.since) }
         ensures fallen { OnErr result (self.new.waiting.items ≡ drop 1 self.old.waiting.items) }
         ensures anew { OnErr result (self.new.since ≡ 0) }
         ensures unmarked { OnOk result (self.new.mark ≡ self.old.mark) }

@@ -30,12 +30,12 @@ impl<'a, S: Source, K: Sink> ScriptBoard<'a, S, K> {
     ghost use Rattle.flash_traits.specs.declared.numbers.TheConstants.{DATAGRAM_BYTES};
     ghost use Rattle.flash_traits.specs.Losses.{received, IsEventInRange};
     ghost use Rattle.script_lines.specs.Script as script;
-    ghost use Rattle.script_lines.specs.Seen.{line_of};
+    ghost use Rattle.script_lines.specs.Seen.{script_line_of};
     ghost use Rattle.script_board.specs.Marks.{marked};
     ghost use Rattle.script_board.specs.Taking.{Took};
-    ghost use Rattle.script_board.specs.Hearing.{lines_of, waiting_after, waiting_behind, FewWait};
-    ghost use Rattle.script_board.specs.Hearing.{IsRefused, IsHeard, IsUnheard};
-    ghost use Rattle.script_board.specs.Boards.{unread_in, hears, OnlyScript};
+    ghost use Rattle.script_board.specs.Hearing.{taken_lines, waiting_after, waiting_behind, FewWait};
+    ghost use Rattle.script_board.specs.Hearing.{IsRefused, IsEventHeard, IsUnheard};
+    ghost use Rattle.script_board.specs.Boards.{unread_in, reception_faults, OnlyScript};
     ghost use Rattle.script_board.specs.declared.board.ScriptMark.TheVariants.{Lost, Refused};
     ghost use Rattle.script_board.specs.declared.board.ScriptMark.TheVariants.{Input, Output};
 
@@ -61,16 +61,17 @@ impl<'a, S: Source, K: Sink> ScriptBoard<'a, S, K> {
     /// Takes the next line. A loss at a later call begins to wait.
     fn next_line(&mut self) -> Result<ScriptLine, Failed>
         ensures took { (count : ℕ) × Took S.Source self.old.input.now self.new.input.now
-            (unread_in self.old) (unread_in self.new) (lines_of result) count
+            (unread_in self.old) (unread_in self.new) (taken_lines result) count
             × (self.new.taken ≡ raised_by count self.old.taken) }
-        ensures spells { IfOk result (λ line. (text : List ℕ) × script.Spells (line_of line) text) }
+        ensures spells { IfOk result
+            (λ line. (text : List ℕ) × script.Spells (script_line_of line) text) }
         ensures unfailed { OnOk result
             (slice_index self.new.faults 3 ≡ slice_index self.old.faults 3) }
         ensures below { OnOk result (self.old.line < SCRIPT_LINES) }
         ensures counted { OnOk result (self.new.line ≡ self.old.line + 1) }
         ensures same_line { OnErr result (self.new.line ≡ self.old.line) }
         ensures waits { IfOk result (λ line.
-            self.new.waiting.items ≡ waiting_after self.old.waiting.items (line_of line)) }
+            self.new.waiting.items ≡ waiting_after self.old.waiting.items (script_line_of line)) }
         ensures no_more { OnErr result (self.new.waiting.items ≡ self.old.waiting.items) }
         ensures few { OnOk result (length self.old.waiting.items ≤ WAITING_LOSSES
             → length self.new.waiting.items ≤ WAITING_LOSSES) }
@@ -84,7 +85,8 @@ impl<'a, S: Source, K: Sink> ScriptBoard<'a, S, K> {
         ensures unmarked { OnOk result (self.new.mark ≡ self.old.mark) }
         ensures marked { OnErr result (slice_index self.old.faults 3 ≡ 0 → IsSome self.new.mark) }
         ensures output { self.old.mark ≡ Some Output → self.new.mark ≡ Some Output }
-        ensures cause { HasOneCause (hears S.Source self.old) (hears S.Source self.new) result }
+        ensures cause { HasOneCause (reception_faults S.Source self.old)
+            (reception_faults S.Source self.new) result }
         ensures same_input { self.new.input.ghost_name ≡ self.old.input.ghost_name }
         ensures others { OnlyScript self.old self.new }
     {
@@ -117,7 +119,8 @@ impl<'a, S: Source, K: Sink> ScriptBoard<'a, S, K> {
         ensures faults { self.new.faults ≡ slice_set self.old.faults 3
             (min (slice_index self.old.faults 3 + 1) (2 ^ 64 - 1)) }
         ensures since { self.new.since ≡ 0 }
-        ensures cause { Rose (hears S.Source self.old) (hears S.Source self.new) }
+        ensures cause { Rose (reception_faults S.Source self.old)
+            (reception_faults S.Source self.new) }
         ensures line { self.new.line ≡ self.old.line }
         ensures input { self.new.input ≡ self.old.input }
         ensures unread { unread_in self.new ≡ unread_in self.old }
@@ -143,7 +146,7 @@ impl<'a, S: Source, K: Sink> ScriptBoard<'a, S, K> {
             × (self.new.line ≡ self.old.line + length lines)
             × (length self.new.waiting.items
             ≡ waiting_behind result (length self.old.waiting.items) lines)
-            × MatchResult result (λ event. IsHeard event into.new lines)
+            × MatchResult result (λ event. IsEventHeard event into.new lines)
             (λ _. IsUnheard self.old.mark self.new.mark (slice_index self.old.faults 3) lines
             (Rose (S.faults self.old.input.now) (S.faults self.new.input.now)) (self.new.line + 1)
             (IsRefused self.new.line self.new.waiting.items (unread_in self.new)
@@ -156,7 +159,8 @@ impl<'a, S: Source, K: Sink> ScriptBoard<'a, S, K> {
         ensures unmarked { OnOk result (self.new.mark ≡ self.old.mark) }
         ensures marked { OnErr result (slice_index self.old.faults 3 ≡ 0 → IsSome self.new.mark) }
         ensures output { self.old.mark ≡ Some Output → self.new.mark ≡ Some Output }
-        ensures cause { HasOneCause (hears S.Source self.old) (hears S.Source self.new) result }
+        ensures cause { HasOneCause (reception_faults S.Source self.old)
+            (reception_faults S.Source self.new) result }
         ensures same_input { self.new.input.ghost_name ≡ self.old.input.ghost_name }
         ensures others { OnlyScript self.old self.new }
     {

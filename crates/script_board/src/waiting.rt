@@ -1,7 +1,7 @@
 //! The losses of power that wait for their call.
 ghost use Rattle.std.specs.Prelude.{◌≡◌, ◌≢◌, ◌<◌, ◌++◌, [], ◌∷◌, true, false, length, drop};
 ghost use Rattle.std.specs.Prelude.{IfSome, IfNone};
-ghost use Rattle.script_board.specs.Waiting.{falls_now, counted, first_leaves};
+ghost use Rattle.script_board.specs.Waiting.{falls_now, calls_counted, first_leaves};
 
 use arrayvec::ArrayVec;
 use script_lines::Waiting;
@@ -21,7 +21,7 @@ pub(crate) fn next_call(
     ensures anew { IfSome result (λ how. since.new ≡ 0) }
     ensures none { IfNone result (falls_now waiting.old.items since.old ≡ false) }
     ensures waits { IfNone result (waiting.new.items ≡ waiting.old.items) }
-    ensures counted { IfNone result (since.new ≡ counted waiting.old.items since.old) }
+    ensures counted { IfNone result (since.new ≡ calls_counted waiting.old.items since.old) }
 {
     let Some(first) = waiting.as_slice().first().copied() else {
         return None;

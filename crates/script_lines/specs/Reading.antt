@@ -17,7 +17,7 @@ HasNoLineFeed (byte ∷ bytes) = (byte ≢ line_feed) × HasNoLineFeed bytes
 
 -- The source gave these bytes, and all of them were read: the unread bytes are those of before,
 -- followed by these. What the source tells, it told before.
-pub record Reads {S : Type 0} (g : Ghosts S) (old new : S)
+pub record ReadsBytes {S : Type 0} (g : Ghosts S) (old new : S)
     (unread_before unread_now fresh : List ℕ) : Type 0 where
   pub unread : unread_now ≡ unread_before ++ fresh
   pub given : g.tells_given new → g.given new ≡ g.given old ++ fresh

@@ -5,7 +5,7 @@ ghost use Rattle.hex.specs.Hex.{decode_of};
 ghost use Rattle.script_lines.specs.declared.numbers.TheConstants.{LAST_CALL};
 ghost use Rattle.script_lines.specs.Script as script;
 ghost use Rattle.script_lines.specs.Script.{Spells, IsNumeral, SpellsDatagram, SpellsLossLater, datagram_text, loss_text};
-ghost use Rattle.script_lines.specs.Seen.{line_of};
+ghost use Rattle.script_lines.specs.Seen.{script_line_of};
 
 use crate::{LAST_CALL, LOSS_WAYS, ScriptLine, Waiting};
 use arrayvec::ArrayVec;
@@ -17,7 +17,7 @@ const MOST_DIGITS: usize = 10;
 
 /// The line of one byte.
 fn one_byte(byte: u8) -> Option<ScriptLine>
-    ensures some { IfSome result (λ line. Spells (line_of line) (byte ∷ [])) }
+    ensures some { IfSome result (λ line. Spells (script_line_of line) (byte ∷ [])) }
     ensures none { IfNone result ((line : script.ScriptLine) → Spells line (byte ∷ []) → ⊥) }
 {
     match byte {
@@ -50,7 +50,7 @@ fn bytes_of(digits: &[u8]) -> Option<ArrayVec<u8, DATAGRAM_BYTES>>
 /// The line `d S HEX`, of its station's digit and the digits of its bytes.
 fn datagram(station: u8, digits: &[u8]) -> Option<ScriptLine>
     ensures some { IfSome result
-        (λ line. Spells (line_of line) (datagram_text station digits.now)) }
+        (λ line. Spells (script_line_of line) (datagram_text station digits.now)) }
     ensures none { IfNone result ((number : ℕ) (bytes : List ℕ)
         → SpellsDatagram number bytes (datagram_text station digits.now) → ⊥) }
 {
@@ -98,7 +98,7 @@ fn call_of(digits: &[u8]) -> Option<u32>
 
 /// The line `l K M`, of the digits of its call and the digit of its way.
 fn loss_later(digits: &[u8], how: u8) -> Option<ScriptLine>
-    ensures some { IfSome result (λ line. Spells (line_of line) (loss_text digits.now how)) }
+    ensures some { IfSome result (λ line. Spells (script_line_of line) (loss_text digits.now how)) }
     ensures none { IfNone result ((call number : ℕ)
         → SpellsLossLater call number (loss_text digits.now how) → ⊥) }
 {
@@ -122,7 +122,7 @@ fn loss_later(digits: &[u8], how: u8) -> Option<ScriptLine>
 /// Parts of a line have one space between them. A datagram has at most 2,048 bytes, two digits of
 /// either case each, and may have none: the space before them stays.
 pub fn parse(text: &[u8]) -> Option<ScriptLine>
-    ensures some { IfSome result (λ line. Spells (line_of line) text.now) }
+    ensures some { IfSome result (λ line. Spells (script_line_of line) text.now) }
     ensures none { IfNone result ((line : script.ScriptLine) → Spells line text.now → ⊥) }
 {
     let len = text.len();

@@ -2,7 +2,7 @@
 ghost use Rattle.std.specs.Prelude.{◌≡◌, ◌≤◌, ◌<◌, ◌+◌, ◌++◌, [], ◌∷◌, List, ℕ, true, false, length, take, IfSome, IfNone, IfOk, MatchResult};
 ghost use Rattle.flash_traits.specs.Causes.{HasOneCause};
 ghost use Rattle.script_lines.specs.Script.{line_feed};
-ghost use Rattle.script_lines.specs.Reading.{unread_of, HasNoLineFeed, Reads, Finds};
+ghost use Rattle.script_lines.specs.Reading.{unread_of, HasNoLineFeed, ReadsBytes, Finds};
 ghost use Rattle.script_lines.specs.declared.numbers.TheConstants.{SCRIPT_LINE_BYTES};
 
 use crate::{READ_BYTES, SCRIPT_LINE_BYTES};
@@ -60,7 +60,7 @@ fn fill<S: Source>(
     requires within { ahead.old ≤ length buffer.old.items }
     requires room { ahead.old ≤ SCRIPT_LINE_BYTES }
     ensures within { ahead.new ≤ length buffer.new.items }
-    ensures reads { (fresh : List ℕ) × Reads S.Source input.old input.new
+    ensures reads { (fresh : List ℕ) × ReadsBytes S.Source input.old input.new
         (unread_of buffer.old.items ahead.old) (unread_of buffer.new.items ahead.new) fresh
         × (ahead.new ≡ ahead.old + length fresh)
         × MatchResult result (λ more. (more ≡ true → 1 ≤ length fresh)
@@ -91,7 +91,7 @@ pub fn next_text<S: Source>(
 ) -> Result<Next, Failed>
     requires { ahead.old ≤ length buffer.old.items }
     ensures within { ahead.new ≤ length buffer.new.items }
-    ensures reads { (fresh : List ℕ) × Reads S.Source input.old input.new
+    ensures reads { (fresh : List ℕ) × ReadsBytes S.Source input.old input.new
         (unread_of buffer.old.items ahead.old) (unread_of buffer.new.items ahead.new) fresh }
     ensures finds { IfOk result (λ next. Finds next (unread_of buffer.new.items ahead.new)
         (S.tells_rest input.new) (S.rest input.new)) }

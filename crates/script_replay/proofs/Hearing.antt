@@ -10,7 +10,7 @@ use Rattle.script_lines.specs.Script.{ScriptLine}
 use Rattle.script_board.specs.Marks.{marked}
 use Rattle.script_board.specs.Taking.{AreTaken, Took}
 use Rattle.script_board.specs.Boards.{unread_in}
-use Rattle.script_board.specs.Hearing.{IsHeard, IsUnheard, IsRefused, FewWait, waiting_behind, loses}
+use Rattle.script_board.specs.Hearing.{IsEventHeard, IsUnheard, IsRefused, FewWait, waiting_behind, loses}
 use Rattle.script_board.specs.declared.board.ScriptMark.{ScriptMark}
 use Rattle.script_board.specs.declared.board.ScriptMark.TheVariants.{Lost, Refused, Input, Output}
 use Rattle.script_board.specs.declared.board.ScriptBoard.{ScriptBoard}
@@ -68,7 +68,7 @@ nothing_yet room buffer mark before now next faulted refused lines on (inr (room
 
 module _ {S K N : Type 0} {g : source.Ghosts S} {h : sink.Ghosts K} (n : start.Ghosts N) (a b : ScriptBoard S K g h) (on : a.mark ≡ None) (out : b.out ≡ a.out) (lines : List ScriptLine) (count : ℕ)
     (took : Took g a.input.now b.input.now (unread_in a) (unread_in b) lines count) (line : b.line ≡ a.line + length lines) (heard : Option Event) (buffer : List ℕ) (e : List Received) (f : List SentFrame) where
-  pub lists_heard : (event : Event) (into later : List ℕ) → heard ≡ None → later ≡ into → length b.waiting.items ≡ waiting_behind (Ok event) (length a.waiting.items) lines → IsHeard event into lines → b.mark ≡ a.mark → FewWait (length a.waiting.items) lines
+  pub lists_heard : (event : Event) (into later : List ℕ) → heard ≡ None → later ≡ into → length b.waiting.items ≡ waiting_behind (Ok event) (length a.waiting.items) lines → IsEventHeard event into lines → b.mark ≡ a.mark → FewWait (length a.waiting.items) lines
       → HasLists n a heard buffer e f → HasLists n b (Some event) later (e ++ received event into ∷ []) f
   lists_heard event into later none copied waits hears mark few_wait stood = more (subst (λ (x : Option Event). HasLists n a x buffer e f) none stood)
     where
@@ -83,7 +83,7 @@ module _ {S K N : Type 0} {g : source.Ghosts S} {h : sink.Ghosts K} (n : start.G
             lines = lines;
             line = line ∙ omega (arith, had.line, ap length yet.0);
             hears = (
-              subst (λ (l : List ℕ). IsHeard event l lines) (sym copied) hears,
+              subst (λ (l : List ℕ). IsEventHeard event l lines) (sym copied) hears,
               subst (λ (m : Option ScriptMark). WaitsBy m (waiting_behind (Ok event) n.waiting lines) (length b.waiting.items)) (sym (mark ∙ on))
                   (waits ∙ ap (λ (k : ℕ). waiting_behind (Ok event) k lines) yet.1),
             );

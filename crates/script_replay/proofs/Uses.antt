@@ -9,7 +9,7 @@ use Rattle.vehicle_node.specs.declared.NodeError.TheVariants.{Memory, Fault as F
 use Rattle.vehicle_node.specs.declared.Turn.{Turn}
 use Rattle.vehicle_node.specs.declared.Turn.TheVariants as turn
 use Rattle.script_lines.specs.Script.{ScriptLine, LossNow}
-use Rattle.script_board.specs.Hearing.{loses, AreLosses, IsHeard, IsUnheard, waiting_behind}
+use Rattle.script_board.specs.Hearing.{loses, AreLosses, IsEventHeard, IsUnheard, waiting_behind}
 use Rattle.script_board.specs.declared.board.ScriptMark.{ScriptMark}
 use Rattle.script_board.specs.declared.board.ScriptMark.TheVariants.{Lost, Refused, Input, Output}
 use Rattle.script_board.proofs.Hearing.{no_events-losses, no_loss_now-losses, no_end-losses, no_events-lost, no_end-lost, no_loss_now-heard, no_end-heard, ends-heard}
@@ -84,7 +84,7 @@ module _ (buffer : List ℕ) (lines : List ScriptLine) (before now : ℕ) where
   unheard m e faulted refused next (inr (inr (losses, refusal, mark))) waits = refuses m e next mark losses waits
 
   -- an event that isn't the end was heard, or the end
-  module _ (heard : Event) (is : IsHeard heard buffer lines) where
+  module _ (heard : Event) (is : IsEventHeard heard buffer lines) where
     more : (a : Result Turn NodeError) → received heard buffer ≢ link.End → (m : Option ScriptMark) → WaitsBy m (before + loses lines) now → CameBy a (received heard buffer ∷ [])
         → TurnUses (ended m a) lines (finished_by a) before now
     more a other (Some Lost) waits came = (no_end-heard heard buffer lines is other, inr (no_loss_now-heard heard buffer lines is, waits))
@@ -98,7 +98,7 @@ module _ (buffer : List ℕ) (lines : List ScriptLine) (before now : ℕ) where
     more (Err (Foreign region offset word)) other None waits came = (no_loss_now-heard heard buffer lines is, tt, tt)
     more (Err (Worn count)) other None waits came = (no_loss_now-heard heard buffer lines is, tt, tt)
 
-  ended_so : IsHeard event.End buffer lines → (a : Result Turn NodeError) (m : Option ScriptMark) → WaitsBy m 0 now → CameBy a (link.End ∷ []) → TurnUses (ended m a) lines (finished_by a) before now
+  ended_so : IsEventHeard event.End buffer lines → (a : Result Turn NodeError) (m : Option ScriptMark) → WaitsBy m 0 now → CameBy a (link.End ∷ []) → TurnUses (ended m a) lines (finished_by a) before now
   ended_so is a (Some Lost) waits came = absurd (omega (arith, waits))
   ended_so is a (Some (Refused line)) waits came = absurd waits
   ended_so is a (Some Input) waits came = absurd waits
@@ -110,7 +110,7 @@ module _ (buffer : List ℕ) (lines : List ScriptLine) (before now : ℕ) where
   ended_so is (Err (Foreign region offset word)) None waits came = (no_loss_now-heard event.End buffer lines is, tt, tt)
   ended_so is (Err (Worn count)) None waits came = (no_loss_now-heard event.End buffer lines is, tt, tt)
 
-  by_event : (heard : Event) (a : Result Turn NodeError) (m : Option ScriptMark) → IsHeard heard buffer lines → WaitsBy m (waiting_behind (Ok heard) before lines) now → CameBy a (received heard buffer ∷ [])
+  by_event : (heard : Event) (a : Result Turn NodeError) (m : Option ScriptMark) → IsEventHeard heard buffer lines → WaitsBy m (waiting_behind (Ok heard) before lines) now → CameBy a (received heard buffer ∷ [])
       → TurnUses (ended m a) lines (finished_by a) before now
   by_event (event.Datagram peer len) a m is waits came = more (event.Datagram peer len) is a (datagram_end _ _) m waits came
   by_event event.Idle a m is waits came = more event.Idle is a idle_end m waits came

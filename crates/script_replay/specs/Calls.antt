@@ -6,7 +6,7 @@ use Rattle.flash_traits.specs.declared.board.Event.{Event}
 use Rattle.script_lines.specs.Script.{ScriptLine}
 use Rattle.script_board.specs.Taking.{AreTaken}
 use Rattle.script_board.specs.Printing.{frame_lines}
-use Rattle.script_board.specs.Hearing.{IsHeard, IsUnheard, waiting_behind, loses}
+use Rattle.script_board.specs.Hearing.{IsEventHeard, IsUnheard, waiting_behind, loses}
 use Rattle.script_board.specs.declared.board.ScriptMark.{ScriptMark}
 use Rattle.script_board.specs.declared.board.ScriptMark.TheVariants.{Lost, Refused, Input, Output}
 
@@ -55,7 +55,7 @@ HasHeard room None buffer mark before now faulted next refused lines =
     ⊎ ((room ≡ true) × IsUnheard None mark 0 lines faulted next refused
     × (now ≡ before + loses lines))
 HasHeard room (Some event) buffer mark before now faulted next refused lines =
-    IsHeard event buffer lines × WaitsBy mark (waiting_behind (Ok event) before lines) now
+    IsEventHeard event buffer lines × WaitsBy mark (waiting_behind (Ok event) before lines) now
 
 -- more receptions than a call of a node makes: one, or none
 abbrev pub too_many : Bool → ℕ

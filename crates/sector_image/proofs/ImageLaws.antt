@@ -17,9 +17,9 @@ use Rattle.sector_log.specs.Bytes.{applied, IsValue}
 use Rattle.sector_log.specs.Storage.{storage_bytes}
 use Rattle.sector_log.proofs.ValueLemmas.{value_applied}
 use Rattle.sector_log.proofs.ValueLemmas as values
-use Rattle.sector_image.specs.Stands.{home_mark, beside, only_in_use, room_kept, Reading, Both, One, IsBoth, IsOne, Reads, entries_in, Stands}
+use Rattle.sector_image.specs.Stands.{home_mark, beside, only_in_use, room_kept, Reading, Both, One, IsBoth, IsOne, IsReadAs, entries_in, Stands}
 use Rattle.guard_row.specs.Home.{first_of, second_of}
-use Rattle.sector_image.specs.FirstBad.{Place, place_of, At, AreHeads, FirstBad, GuardRow, HomeHead, OtherHead, HomeLog, OtherLog, NoRoom, OnlyHead, OnlyLog}
+use Rattle.sector_image.specs.FirstBad.{Place, foreign_place, At, AreHeads, FirstBad, GuardRow, HomeHead, OtherHead, HomeLog, OtherLog, NoRoom, OnlyHead, OnlyLog}
 use Rattle.sector_image.proofs.Checks.{BadOtherLog, BadHomeLog, BadOtherHead, BadBoth, BadOne, BadSectors, BadInside, inside_of}
 use Rattle.sector_image.proofs.Values.{zeros_of}
 use Rattle.sector_image.proofs.LawsBelow.{sector_parts, sector_reading, guard_law}
@@ -159,7 +159,7 @@ good_one w count es p good bad =
       | inr a ↦ sector_parts.no_bad_log only InUse es p.at p.word good.first a.1.1
     ]
 
-never_inside : (w : Words) (reading : Reading) (p : Place) → Reads w reading → BadInside w p → ⊥
+never_inside : (w : Words) (reading : Reading) (p : Place) → IsReadAs w reading → BadInside w p → ⊥
 never_inside w (Both count m n es fs) p good bad = elim bad [
   | inl a ↦ guard_law.never_both w.guard count p.at p.word good.guard a.1
   | inr a ↦ elim (subst (λ (c : ℕ). BadSectors w c p) (guard_law.one_count w.guard a.0 count a.1 good.guard) a.2) [
@@ -175,14 +175,14 @@ never_inside w (One count es) p good bad = elim bad [
   ]
 ]
 
-pub never_both : (w : Words) (reading : Reading) (p : Place) → Reads w reading → FirstBad w p → ⊥
+pub never_both : (w : Words) (reading : Reading) (p : Place) → IsReadAs w reading → FirstBad w p → ⊥
 never_both w reading p good bad = never_inside w reading p good (inside_of w p bad)
 
 same_both : (c d : ℕ) (m n k l : Mark) (es fs gs hs : List Entry) → c ≡ d → m ≡ k → n ≡ l → es ≡ gs → fs ≡ hs → Both c m n es fs ≡ Both d k l gs hs
 same_both c d m n k l es fs gs hs a b e f g = cc
 
 -- the reading is determined
-pub one_reading : (w : Words) (a b : Reading) → Reads w a → Reads w b → a ≡ b
+pub one_reading : (w : Words) (a b : Reading) → IsReadAs w a → IsReadAs w b → a ≡ b
 one_reading w (Both c m n es fs) (Both d k l gs hs) p q =
     let count : c ≡ d = guard_law.one_count w.guard c d p.guard q.guard in
     let first = sector_reading.sector (halfwords_in w (first_of c)) m k es gs p.first (subst (λ (i : ℕ). IsSector (halfwords_in w (first_of i)) k gs) (sym count) q.first) in
@@ -203,17 +203,17 @@ true_or_false : (b : Bool) → (b ≡ true) ⊎ (b ≡ false)
 true_or_false true = inl refl
 true_or_false false = inr refl
 
-each_in : (w : Words) (reading : Reading) → Reads w reading → All IsEntry (entries_in reading)
+each_in : (w : Words) (reading : Reading) → IsReadAs w reading → All IsEntry (entries_in reading)
 each_in w (Both count m n es fs) p = All-append IsEntry es fs p.first.each p.second.each
 each_in w (One count es) p = p.first.each
 
-stands_of : (w : Words) (reading : Reading) → Reads w reading → (bytes : List ℕ) × Stands w bytes
+stands_of : (w : Words) (reading : Reading) → IsReadAs w reading → (bytes : List ℕ) × Stands w bytes
 stands_of w reading p =
     let zeros = zeros_of storage_bytes in
     (applied zeros.0 (entries_in reading), (reading, p, value_applied (entries_in reading) zeros.0 (each_in w reading p) zeros.1 zeros.2))
 
 abbrev Decided : Words → Type 0
-Decided w = ((reading : Reading) × Reads w reading) ⊎ ((p : Place) × FirstBad w p)
+Decided w = ((reading : Reading) × IsReadAs w reading) ⊎ ((p : Place) × FirstBad w p)
 
 decide_both : (w : Words) (count : ℕ) → IsGuardRow w.guard count → count % 2 ≡ 0 → 2 ≤ length (halfwords_in w (first_of count)) → 2 ≤ length (halfwords_in w (second_of count)) → Decided w
 decide_both w count guard_row even some some' =
@@ -224,15 +224,15 @@ decide_both w count guard_row even some some' =
     let heads : (m n : Mark) → IsTrue (home_mark m) → IsTrue (beside m n) → HasHead home m → HasHead other n → AreHeads w count m n =
     λ m n may beside_may first second. record { guard = guard_row; even = even; home_may = may; other_may = beside_may; first = first; second = second } in
     elim (sector_parts.head home_mark home some) [
-      | inr bad ↦ inr (place_of r bad.0 bad.1, HomeHead count guard_row even (refl, bad.2))
+      | inr bad ↦ inr (foreign_place r bad.0 bad.1, HomeHead count guard_row even (refl, bad.2))
       | inl h ↦ elim (sector_parts.head (beside h.0) other some') [
-        | inr bad ↦ inr (place_of s bad.0 bad.1, OtherHead count h.0 guard_row even h.1 h.2 (refl, bad.2))
+        | inr bad ↦ inr (foreign_place s bad.0 bad.1, OtherHead count h.0 guard_row even h.1 h.2 (refl, bad.2))
         | inl o ↦ elim (sector_parts.log home h.0 h.2) [
-          | inr bad ↦ inr (place_of r bad.0 bad.1, HomeLog count h.0 o.0 (heads h.0 o.0 h.1 o.1 h.2 o.2) (refl, bad.2))
+          | inr bad ↦ inr (foreign_place r bad.0 bad.1, HomeLog count h.0 o.0 (heads h.0 o.0 h.1 o.1 h.2 o.2) (refl, bad.2))
           | inl es ↦ elim (sector_parts.log other o.0 o.2) [
-            | inr bad ↦ inr (place_of s bad.0 bad.1, OtherLog count h.0 o.0 es.0 (heads h.0 o.0 h.1 o.1 h.2 o.2) es.1 (refl, bad.2))
+            | inr bad ↦ inr (foreign_place s bad.0 bad.1, OtherLog count h.0 o.0 es.0 (heads h.0 o.0 h.1 o.1 h.2 o.2) es.1 (refl, bad.2))
             | inl fs ↦ elim (true_or_false (room_kept o.0 (length other) es.0 fs.0)) [
-              | inr none ↦ inr (place_of s 0 (mark_word o.0), NoRoom count h.0 o.0 es.0 fs.0 (heads h.0 o.0 h.1 o.1 h.2 o.2) es.1 fs.1 none (refl, (refl, refl)))
+              | inr none ↦ inr (foreign_place s 0 (mark_word o.0), NoRoom count h.0 o.0 es.0 fs.0 (heads h.0 o.0 h.1 o.1 h.2 o.2) es.1 fs.1 none (refl, (refl, refl)))
               | inl room ↦ inl (
                 Both count h.0 o.0 es.0 fs.0,
                 record { guard = guard_row; even = even; home_may = h.1; other_may = o.1; first = es.1; second = fs.1; room = room },
@@ -253,11 +253,11 @@ decide_one w count guard_row odd some =
     let r = first_of count in
     let only = halfwords_in w r in
     elim (sector_parts.head only_in_use only some) [
-      | inr bad ↦ inr (place_of r bad.0 bad.1, OnlyHead count guard_row odd (refl, bad.2))
+      | inr bad ↦ inr (foreign_place r bad.0 bad.1, OnlyHead count guard_row odd (refl, bad.2))
       | inl h ↦
           let head : HasHead only InUse = subst (λ (m : Mark). HasHead only m) (only_mark h.0 h.1) h.2 in
           elim (sector_parts.log only InUse head) [
-            | inr bad ↦ inr (place_of r bad.0 bad.1, OnlyLog count guard_row odd head (refl, bad.2))
+            | inr bad ↦ inr (foreign_place r bad.0 bad.1, OnlyLog count guard_row odd head (refl, bad.2))
             | inl es ↦ inl (One count es.0, record { guard = guard_row; odd = odd; first = es.1 })
           ]
     ]
@@ -269,7 +269,7 @@ sector_least w n size shape Guard is = absurd is
 
 decide : (w : Words) (n : ℕ) → IsSectorSize n → HasShape n w → Decided w
 decide w n size shape = elim (guard_law.either w.guard) [
-  | inr bad ↦ inr (place_of Guard bad.0 bad.1, GuardRow (refl, bad.2))
+  | inr bad ↦ inr (foreign_place Guard bad.0 bad.1, GuardRow (refl, bad.2))
   | inl found ↦
       let some = sector_least w n size shape (first_of found.0) (first_sector found.0) in
       let some' = sector_least w n size shape (second_of found.0) (second_sector found.0) in

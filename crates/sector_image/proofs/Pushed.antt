@@ -12,7 +12,7 @@ use Rattle.sector_log.specs.Entries.{Entry, IsEntry, entry_words}
 use Rattle.sector_log.specs.Bytes.{apply, IsValue, value_of, programmable}
 use Rattle.flash_traits.specs.Values.{put}
 use Rattle.flash_traits.specs.Words.{bytes_of, halfwords_of}
-use Rattle.sector_log.specs.Log.{end_of, last_of, torn_at, torn_of, IsLogOf}
+use Rattle.sector_log.specs.Log.{end_of_entries, last_of, torn_at, torn_of, IsLogOf}
 use Rattle.sector_log.specs.Appends.{entry_of, appended, finished}
 use Rattle.sector_log.proofs.ValueLemmas.{one_value}
 use Rattle.sector_image.specs.Room.{chunk_at, finishing, chunk_to_finish, is_completable}
@@ -125,11 +125,11 @@ finishing_is whole es log completable torn known = cases (last_of es) refl
         inner (Some c) here =
             let some : finishing whole es ≡ Some c = ap (λ (o : Option Entry). option_and_then (chunk_to_finish whole) o) last ∙ here in
             let facts = to_finish whole e c here in
-            let at : log.torn ≡ torn_at (end_of es) e = torn ∙ ap (λ (o : Option Entry). option_and_then (torn_at (end_of es)) o) last in
+            let at : log.torn ≡ torn_at (end_of_entries es) e = torn ∙ ap (λ (o : Option Entry). option_and_then (torn_at (end_of_entries es)) o) last in
             let line : e.header.line / 8 ≡ c = omega (arith, facts.2) in
             some ∙ sym (ap (λ (b : Bool). torn_chunk b log) (known ∙ ap is_some some)
             ∙ ap (λ (o : Option Torn). option_map (λ (t : Torn). t.line / 8) o) at
-            ∙ ap (λ (s : ℕ). option_map (λ (t : Torn). t.line / 8) (if s == 1 then Some (record { at = end_of es - length (entry_words e); line = e.header.line; lines = e.header.lines }) else None)) facts.0
+            ∙ ap (λ (s : ℕ). option_map (λ (t : Torn). t.line / 8) (if s == 1 then Some (record { at = end_of_entries es - length (entry_words e); line = e.header.line; lines = e.header.lines }) else None)) facts.0
             ∙ ap (λ (n : ℕ). Some n) line)
 
 -- the log of one more valid entry
@@ -141,7 +141,7 @@ appended_log log r m es line lines content is size =
       region = is.region;
       mark = is.mark;
       end = omega (arith, is.end, end_push es e);
-      torn = sym (ap (λ (o : Option Entry). option_and_then (torn_at (end_of (es ++ e ∷ []))) o) (last_push es e));
+      torn = sym (ap (λ (o : Option Entry). option_and_then (torn_at (end_of_entries (es ++ e ∷ []))) o) (last_push es e));
       valid = ap (λ (n : ℕ). n + 1) is.valid ∙ sym (count_push (λ e. e.header.state == 0) es e);
       gaps = is.gaps ∙ sym (count_push (λ e. e.header.state == 1) es e ∙ omega arith);
     }
@@ -156,7 +156,7 @@ finished_log log r m es line lines old content is size =
       region = is.region;
       mark = is.mark;
       end = omega (arith, is.end, end_push es e, end_push es t);
-      torn = sym (ap (λ (o : Option Entry). option_and_then (torn_at (end_of (es ++ e ∷ []))) o) (last_push es e));
+      torn = sym (ap (λ (o : Option Entry). option_and_then (torn_at (end_of_entries (es ++ e ∷ []))) o) (last_push es e));
       valid = omega (arith, is.valid, count_push (λ e. e.header.state == 0) es e, count_push (λ e. e.header.state == 0) es t);
       gaps = omega (arith, is.gaps, count_push (λ e. e.header.state == 1) es e, count_push (λ e. e.header.state == 1) es t);
     }

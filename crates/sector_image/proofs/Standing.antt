@@ -12,7 +12,7 @@ use Rattle.sector_log.specs.Entries.{Entry}
 use Rattle.sector_log.specs.Sector.{IsSector}
 use Rattle.sector_log.specs.Bytes.{IsValue, value_of}
 use Rattle.flash_traits.specs.Values.{put}
-use Rattle.sector_log.specs.Log.{end_of}
+use Rattle.sector_log.specs.Log.{end_of_entries}
 use Rattle.sector_image.specs.declared.kept.Kept.{Kept}
 use Rattle.sector_image.specs.declared.kept.Shape.TheVariants as shape
 use Rattle.sector_image.specs.Images.{Bytes}
@@ -52,20 +52,20 @@ keeps_more m n u v le is = record { bytes = is.bytes; guard = λ c halfwords_in.
 
 -- the room rule by the bytes of both lists
 pub copied_is : (home other : List Entry) (whole upper : List ℕ) → IsValue (home ++ other) whole → IsValue other upper
-    → copied_end home other ≡ 66 * left_to_copy whole upper (finishing whole other) + 2 * end_of other
+    → copied_end home other ≡ 66 * left_to_copy whole upper (finishing whole other) + 2 * end_of_entries other
 unfolding copied_end
 copied_is home other whole upper value above =
-    let end : List ℕ → List ℕ → ℕ = λ a b. 66 * left_to_copy a b (finishing a other) + 2 * end_of other in
+    let end : List ℕ → List ℕ → ℕ = λ a b. 66 * left_to_copy a b (finishing a other) + 2 * end_of_entries other in
     ap (λ (a : List ℕ). end a (value_of other)) (value_is (home ++ other) whole value) ∙ ap (λ (b : List ℕ). end whole b) (value_is other upper above)
 
 pub room_is : (halfwords : ℕ) (home other : List Entry) (whole upper : List ℕ) → IsValue (home ++ other) whole → IsValue other upper
-    → has_room halfwords home other ≡ nat_le (66 * left_to_copy whole upper (finishing whole other) + 2 * end_of other) (2 * halfwords)
+    → has_room halfwords home other ≡ nat_le (66 * left_to_copy whole upper (finishing whole other) + 2 * end_of_entries other) (2 * halfwords)
 room_is halfwords home other whole upper value above = ap (λ (n : ℕ). nat_le n (2 * halfwords)) (copied_is home other whole upper value above)
 
 -- what makes words a spilled image
 pub reads_spilled : (w : Words) (count : ℕ) (home other : List Entry) (whole upper : List ℕ) → IsGuardRow w.guard count → count % 2 ≡ 0
     → IsSector (halfwords_in w (first_of count)) Full home → IsSector (halfwords_in w (second_of count)) InUse other → IsValue (home ++ other) whole → IsValue other upper
-    → 66 * left_to_copy whole upper (finishing whole other) + 2 * end_of other ≤ 2 * length (halfwords_in w (second_of count)) → IsBoth w count Full InUse home other
+    → 66 * left_to_copy whole upper (finishing whole other) + 2 * end_of_entries other ≤ 2 * length (halfwords_in w (second_of count)) → IsBoth w count Full InUse home other
 reads_spilled w count home other whole upper guard even first second value above room = record {
   guard = guard;
   even = even;

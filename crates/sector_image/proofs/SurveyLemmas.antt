@@ -25,7 +25,7 @@ use Rattle.sector_log.specs.Storage.{storage_bytes}
 use Rattle.sector_log.specs.Entries.{Entry, IsEntry, entry_words}
 use Rattle.sector_log.specs.Sector.{IsSector, HasHead, BadHead, BadLog}
 use Rattle.sector_log.specs.Bytes.{apply, applied, IsValue, programmable}
-use Rattle.sector_log.specs.Log.{end_of, last_of, torn_at, torn_of, IsLogOf}
+use Rattle.sector_log.specs.Log.{end_of_entries, last_of, torn_at, torn_of, IsLogOf}
 use Rattle.sector_log.specs.Appends.{entry_of, IsTornLast, IsLogIn}
 use Rattle.sector_log.proofs.ValueLemmas.{value_applied, one_value}
 use Rattle.guard_row.specs.declared.row.GuardError.{GuardError}
@@ -42,8 +42,8 @@ use Rattle.sector_image.specs.Images.{Bytes, both_bytes}
 use Rattle.sector_image.specs.Room.{chunk_at, left_to_copy, finishing, chunk_to_finish, is_completable, has_room}
 use Rattle.sector_image.specs.Stands.{home_mark, beside, only_in_use, IsBoth, Stands}
 use Rattle.guard_row.specs.Home.{first_of, second_of}
-use Rattle.sector_image.specs.FirstBad.{Place, place_of, At, AreHeads, FirstBad, HomeHead, OtherHead, HomeLog, OtherLog, NoRoom, OnlyHead, OnlyLog}
-use Rattle.sector_image.specs.Fits.{IsKept, OneLogWords, TwoLogWords, mark_of, parity_of, torn_chunk}
+use Rattle.sector_image.specs.FirstBad.{Place, foreign_place, At, AreHeads, FirstBad, HomeHead, OtherHead, HomeLog, OtherLog, NoRoom, OnlyHead, OnlyLog}
+use Rattle.sector_image.specs.Fits.{IsKeptState, OneLogWords, TwoLogWords, mark_of, parity_of, torn_chunk}
 use Rattle.sector_image.specs.Refusals.{OnForeign, OnSurveyFault}
 use Rattle.sector_image.specs.Steps.Calls.{ReadsOrRefuses, FindsImage}
 use Rattle.sector_image.specs.Steps.Errors.{error_of_guard}
@@ -84,8 +84,8 @@ not_torn whole es none = cases (last_of es) refl
     cases (Some e) last = elim (cases_Bool (e.header.state == 1)) [
       | inr valid ↦ finishing_last whole es e last ∙ completable_by whole e false (e.header.lines == 8) (e.header.line % 8 == 0) valid refl refl
       | inl torn ↦
-          let t : Torn = record { at = end_of es - length (entry_words e); line = e.header.line; lines = e.header.lines } in
-          let there : torn_of es ≡ Some t = ap (λ (o : Option Entry). option_and_then (torn_at (end_of es)) o) last ∙ ap (λ (b : Bool). if b then Some t else None) torn in
+          let t : Torn = record { at = end_of_entries es - length (entry_words e); line = e.header.line; lines = e.header.lines } in
+          let there : torn_of es ≡ Some t = ap (λ (o : Option Entry). option_and_then (torn_at (end_of_entries es)) o) last ∙ ap (λ (b : Bool). if b then Some t else None) torn in
           let clash : None ≡ Some t = sym none ∙ there in
           absurd (cc)
     ]
@@ -102,10 +102,10 @@ torn_entry : (es : List Entry) (t : Torn) → torn_of es ≡ Some t → TornEntr
 torn_entry es t is = cases (last_of es) refl
   where
     cases : (o : Option Entry) → last_of es ≡ o → TornEntry es t
-    cases None last = let clash : None ≡ Some t = sym (ap (λ (o : Option Entry). option_and_then (torn_at (end_of es)) o) last) ∙ is in absurd (cc)
+    cases None last = let clash : None ≡ Some t = sym (ap (λ (o : Option Entry). option_and_then (torn_at (end_of_entries es)) o) last) ∙ is in absurd (cc)
     cases (Some e) last =
-        let u : Torn = record { at = end_of es - length (entry_words e); line = e.header.line; lines = e.header.lines } in
-        let here : torn_of es ≡ (if e.header.state == 1 then Some u else None) = ap (λ (o : Option Entry). option_and_then (torn_at (end_of es)) o) last in
+        let u : Torn = record { at = end_of_entries es - length (entry_words e); line = e.header.line; lines = e.header.lines } in
+        let here : torn_of es ≡ (if e.header.state == 1 then Some u else None) = ap (λ (o : Option Entry). option_and_then (torn_at (end_of_entries es)) o) last in
         elim (cases_Bool (e.header.state == 1)) [
           | inr valid ↦ let clash : None ≡ Some t = sym (here ∙ ap (λ (b : Bool). if b then Some u else None) valid) ∙ is in absurd (cc)
           | inl torn ↦
@@ -155,7 +155,7 @@ lines_slice line bytes starts =
 -- a refusal that says more
 on_foreign : (e : SurveyError) (P Q : Place → Type 0) → ((place : Place) → P place → Q place) → OnForeign e P → OnForeign e Q
 on_foreign (errors.Fault kind) P Q more is = tt
-on_foreign (errors.Foreign region offset word) P Q more is = more (place_of region offset word) is
+on_foreign (errors.Foreign region offset word) P Q more is = more (foreign_place region offset word) is
 
 on_fault : (e : SurveyError) (P Q : Fault → Type 0) → ((kind : Fault) → P kind → Q kind) → OnSurveyFault e P → OnSurveyFault e Q
 on_fault (errors.Fault kind) P Q more is = more kind is
@@ -170,7 +170,7 @@ fault_through (Ok x) P Q more is = tt
 fault_through (Err e) P Q more is = on_fault e P Q more is
 
 -- a refusal of the guard row
-pub on_row : (e : GuardError) (P : ℕ → ℕ → Type 0) (Q : Place → Type 0) → ((place word : ℕ) → P place word → Q (place_of Guard place word)) → OnWord e P → OnForeign (error_of_guard e) Q
+pub on_row : (e : GuardError) (P : ℕ → ℕ → Type 0) (Q : Place → Type 0) → ((place word : ℕ) → P place word → Q (foreign_place Guard place word)) → OnWord e P → OnForeign (error_of_guard e) Q
 on_row (guard_errors.Fault kind) P Q more is = tt
 on_row (guard_errors.Word offset word) P Q more is = more offset word is
 
@@ -276,7 +276,7 @@ spilled_words w kept other before upper whole logs value known room =
       home = logs.home_entries;
       other = logs.other_entries;
       reads = reads_spilled w kept.guard logs.home_entries logs.other_entries whole upper logs.heads.guard logs.heads.even logs.first logs.second value logs.other_value
-          (subst (λ (f : Option ℕ). 66 * left_to_copy whole upper f + 2 * end_of logs.other_entries ≤ 2 * length (halfwords_in w (second_of kept.guard))) (sym chunk) (omega (arith, room, logs.other_log.end)));
+          (subst (λ (f : Option ℕ). 66 * left_to_copy whole upper f + 2 * end_of_entries logs.other_entries ≤ 2 * length (halfwords_in w (second_of kept.guard))) (sym chunk) (omega (arith, room, logs.other_log.end)));
       home_log = logs.home_log;
       other_log = logs.other_log;
       whole = value;
@@ -287,19 +287,19 @@ spilled_words w kept other before upper whole logs value known room =
 -- the room rule fails
 pub no_room : (w : Words) (count : ℕ) (home other : Log) (completable : Bool) (before upper whole : List ℕ) (logs : AreLogs w count Full InUse home other before upper) → IsValue (logs.home_entries ++ logs.other_entries) whole
     → completable ≡ is_some (finishing whole logs.other_entries) → 2 * length (halfwords_in w (second_of count)) < 66 * left_to_copy whole upper (torn_chunk completable other) + 2 * other.end
-    → FirstBad w (place_of (second_of count) 0 23550)
+    → FirstBad w (foreign_place (second_of count) 0 23550)
 no_room w count home other completable before upper whole logs value known room =
     let heads = logs.heads in
     let chunk : finishing whole logs.other_entries ≡ torn_chunk completable other = finishing_is whole logs.other_entries other completable logs.other_log.torn known in
-    let over : 2 * length (halfwords_in w (second_of count)) < 66 * left_to_copy whole upper (finishing whole logs.other_entries) + 2 * end_of logs.other_entries =
-    subst (λ (f : Option ℕ). 2 * length (halfwords_in w (second_of count)) < 66 * left_to_copy whole upper f + 2 * end_of logs.other_entries) (sym chunk) (omega (arith, room, logs.other_log.end)) in
+    let over : 2 * length (halfwords_in w (second_of count)) < 66 * left_to_copy whole upper (finishing whole logs.other_entries) + 2 * end_of_entries logs.other_entries =
+    subst (λ (f : Option ℕ). 2 * length (halfwords_in w (second_of count)) < 66 * left_to_copy whole upper f + 2 * end_of_entries logs.other_entries) (sym chunk) (omega (arith, room, logs.other_log.end)) in
     let fails : has_room (length (halfwords_in w (second_of count))) logs.home_entries logs.other_entries ≡ false =
     room_is (length (halfwords_in w (second_of count))) logs.home_entries logs.other_entries whole upper value logs.other_value ∙ lt-leb _ _ over in
     NoRoom count Full InUse logs.home_entries logs.other_entries heads logs.first logs.second fails (refl, (refl, refl))
 
 -- what holds of a state that is found, whether the words are told or not
 pub found_rules : (name : Shape) (old_size size : ℕ) (kept : Kept) (images : Bytes) → IsSectorSize old_size → size ≡ old_size → kept.sector_bytes ≡ size → kept.guard ≤ 8192 → kept.guard % 2 ≡ parity_of name
-    → IsLogIn (old_size / 2) kept.home × (kept.home.region ≡ first_of kept.guard) × (kept.home.mark ≡ mark_of name) → length images.whole ≡ storage_bytes → length images.upper ≡ storage_bytes → IsKept name size kept images
+    → IsLogIn (old_size / 2) kept.home × (kept.home.region ≡ first_of kept.guard) × (kept.home.mark ≡ mark_of name) → length images.whole ≡ storage_bytes → length images.upper ≡ storage_bytes → IsKeptState name size kept images
 found_rules name old_size size kept images attached same bytes most parity home whole upper = record {
   attached = subst IsSectorSize (sym same) attached;
   size = bytes;

@@ -19,8 +19,8 @@ pub record Place : Type 0 where
   pub at : ℕ
   pub word : ℕ
 
-abbrev pub place_of : Region → ℕ → ℕ → Place
-place_of region at word = record { region = region; at = at; word = word }
+abbrev pub foreign_place : Region → ℕ → ℕ → Place
+foreign_place region at word = record { region = region; at = at; word = word }
 
 -- a check fails at a place of this region
 abbrev pub At : Region → (ℕ → ℕ → Type 0) → Place → Type 0

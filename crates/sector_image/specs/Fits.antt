@@ -17,7 +17,7 @@ use Rattle.sector_image.specs.declared.kept.Shape.{Shape}
 use Rattle.sector_image.specs.declared.kept.Shape.TheVariants as shape
 use Rattle.sector_image.specs.Images.{Bytes}
 use Rattle.sector_image.specs.Room.{left_to_copy, finishing}
-use Rattle.sector_image.specs.Stands.{Reading, Both, One, Reads, IsBoth}
+use Rattle.sector_image.specs.Stands.{Reading, Both, One, IsReadAs, IsBoth}
 use Rattle.guard_row.specs.Home.{first_of, second_of}
 
 -- home in use where the image stands alone or a sector is void, and else full
@@ -52,7 +52,8 @@ reading_of shape.Voided count home other = One count home
 -- What holds of every state whether the words are told or not: the sector size is the board's, the
 -- guard count is of the row and of the state's parity, and home's log is of the sector that this
 -- count names and ends inside it.
-pub record IsKept (name : Shape) (sector_bytes : ℕ) (kept : Kept) (images : Bytes) : Type 0 where
+pub record IsKeptState (name : Shape) (sector_bytes : ℕ) (kept : Kept)
+    (images : Bytes) : Type 0 where
   pub attached : IsSectorSize sector_bytes
   pub size : kept.sector_bytes ≡ sector_bytes
   pub count : kept.guard ≤ GUARD_HALFWORDS
@@ -66,7 +67,7 @@ pub record IsKept (name : Shape) (sector_bytes : ℕ) (kept : Kept) (images : By
 -- alone, marked and voided: there is one log
 pub record OneLogRules (name : Shape) (sector_bytes : ℕ) (kept : Kept)
     (images : Bytes) : Type 0 where
-  pub home : IsKept name sector_bytes kept images
+  pub home : IsKeptState name sector_bytes kept images
   pub none : kept.other ≡ None
   pub plain : kept.completable ≡ false
 
@@ -74,7 +75,7 @@ pub record OneLogRules (name : Shape) (sector_bytes : ℕ) (kept : Kept)
 -- and this log, and where home is in use `upper` is its bytes.
 pub record OneLogWords (name : Shape) (kept : Kept) (images : Bytes) (w : Words) : Type 0 where
   pub entries : List Entry
-  pub reads : Reads w (reading_of name kept.guard entries [])
+  pub reads : IsReadAs w (reading_of name kept.guard entries [])
   pub log : IsLogOf kept.home (first_of kept.guard) (mark_of name) entries
   pub whole : IsValue entries images.whole
   pub upper : mark_of name ≡ InUse → IsValue entries images.upper
@@ -101,7 +102,7 @@ torn_chunk true log = option_map (λ torn. torn.line / 8) log.torn
 -- torn last entry is completable it has eight lines from a chunk's start on, and the room rule
 -- holds of the logs and the bytes.
 pub record TwoLogRules (sector_bytes : ℕ) (kept : Kept) (log : Log) (images : Bytes) : Type 0 where
-  pub home : IsKept shape.Spilled sector_bytes kept images
+  pub home : IsKeptState shape.Spilled sector_bytes kept images
   pub other : kept.other ≡ Some log
   pub region : log.region ≡ second_of kept.guard
   pub mark : log.mark ≡ InUse

@@ -6,7 +6,7 @@ use Rattle.flash_traits.specs.Budget.{chunks, copy_bytes}
 use Rattle.sector_log.specs.Entries.{Entry}
 use Rattle.sector_log.specs.Bytes.{value_of, programmable}
 use Rattle.flash_traits.specs.Words.{halfwords_of}
-use Rattle.sector_log.specs.Log.{end_of, last_of}
+use Rattle.sector_log.specs.Log.{end_of_entries, last_of}
 
 -- the bytes of a chunk
 abbrev pub chunk_at : List ℕ → ℕ → List ℕ
@@ -56,7 +56,8 @@ finishing whole entries = option_and_then (chunk_to_finish whole) (last_of entri
 unfoldable pub copied_end : List Entry → List Entry → ℕ
 copied_end home other =
     let whole = value_of (home ++ other) in
-    copy_bytes * left_to_copy whole (value_of other) (finishing whole other) + 2 * end_of other
+    copy_bytes * left_to_copy whole (value_of other)
+    (finishing whole other) + 2 * end_of_entries other
 
 -- The room rule: the other sector has room for a whole copy.
 abbrev pub has_room : ℕ → List Entry → List Entry → Bool

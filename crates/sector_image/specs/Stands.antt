@@ -70,9 +70,9 @@ pub record IsOne (w : Words) (count : ℕ) (entries : List Entry) : Type 0 where
   pub first : IsSector (halfwords_in w (first_of count)) InUse entries
 
 -- the words are an image, and tell this
-abbrev pub Reads : Words → Reading → Type 0
-Reads w (Both count m n home other) = IsBoth w count m n home other
-Reads w (One count entries) = IsOne w count entries
+abbrev pub IsReadAs : Words → Reading → Type 0
+IsReadAs w (Both count m n home other) = IsBoth w count m n home other
+IsReadAs w (One count entries) = IsOne w count entries
 
 -- the entries that count: home's, and then the other's
 abbrev pub entries_in : Reading → List Entry
@@ -81,14 +81,14 @@ entries_in (One count entries) = entries
 
 -- the words are an image, and these are its bytes
 abbrev pub Stands : Words → List ℕ → Type 0
-Stands w bytes = (reading : Reading) × Reads w reading × IsValue (entries_in reading) bytes
+Stands w bytes = (reading : Reading) × IsReadAs w reading × IsValue (entries_in reading) bytes
 
 -- the state
-abbrev pub shape_of : Reading → Shape
-shape_of (Both count InUse n home other) = shape.Alone
-shape_of (Both count Full InUse home other) = shape.Spilled
-shape_of (Both count m n home other) = shape.Marked
-shape_of (One count entries) = shape.Voided
+abbrev pub shape_of_reading : Reading → Shape
+shape_of_reading (Both count InUse n home other) = shape.Alone
+shape_of_reading (Both count Full InUse home other) = shape.Spilled
+shape_of_reading (Both count m n home other) = shape.Marked
+shape_of_reading (One count entries) = shape.Voided
 
 -- the guard count
 abbrev pub count_in : Reading → ℕ
@@ -116,6 +116,6 @@ is_due (One count entries) = false
 -- a sector of the image is to be voided, and the guard row is used up
 pub record IsUsedUp (w : Words) : Type 0 where
   pub reading : Reading
-  pub reads : Reads w reading
+  pub reads : IsReadAs w reading
   pub due : IsTrue (is_due reading)
   pub count : count_in reading ≡ GUARD_HALFWORDS

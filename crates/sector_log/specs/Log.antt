@@ -6,13 +6,13 @@ use Rattle.flash_traits.specs.declared.board.Region.{Region}
 use Rattle.flash_traits.specs.declared.board.Mark.{Mark}
 use Rattle.sector_log.specs.declared.log.Torn.{Torn}
 use Rattle.sector_log.specs.declared.log.Log.{Log}
-use Rattle.sector_log.specs.Entries.{Entry, IsEntry, entry_words, spelling}
+use Rattle.sector_log.specs.Entries.{Entry, IsEntry, entry_words, words_of_entries}
 use Rattle.sector_log.specs.Sector.{Splits}
 use Rattle.sector_log.specs.Bytes.{applied}
 
 -- the offset behind the last entry
-abbrev pub end_of : List Entry → ℕ
-end_of entries = 2 + length (spelling entries)
+abbrev pub end_of_entries : List Entry → ℕ
+end_of_entries entries = 2 + length (words_of_entries entries)
 
 abbrev pub last_of : List Entry → Option Entry
 last_of [] = None
@@ -31,13 +31,13 @@ torn_at end e =
 
 -- the last entry, where it is torn
 abbrev pub torn_of : List Entry → Option Torn
-torn_of entries = option_and_then (torn_at (end_of entries)) (last_of entries)
+torn_of entries = option_and_then (torn_at (end_of_entries entries)) (last_of entries)
 
 -- the log of a sector with this mark and these entries
 pub record IsLogOf (log : Log) (of : Region) (first : Mark) (entries : List Entry) : Type 0 where
   pub region : log.region ≡ of
   pub mark : log.mark ≡ first
-  pub end : log.end ≡ end_of entries
+  pub end : log.end ≡ end_of_entries entries
   pub torn : log.torn ≡ torn_of entries
   pub valid : log.valid ≡ count_by (λ e. e.header.state == 0) entries
   pub gaps : log.gaps ≡ count_by (λ e. e.header.state == 1) entries
@@ -57,7 +57,7 @@ end_in log = log.end
 pub record IsReadSoFar (words before after : List ℕ) : Type 0 where
   pub entries : List Entry
   pub rest : List ℕ
-  pub whole : drop 2 words ≡ spelling entries ++ rest
+  pub whole : drop 2 words ≡ words_of_entries entries ++ rest
   pub each : All IsEntry entries
   pub bytes : after ≡ applied before entries
 

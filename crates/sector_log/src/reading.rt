@@ -14,7 +14,7 @@ ghost use Rattle.sector_log.specs.Bytes.{applied};
 ghost use Rattle.flash_traits.specs.Values.{put};
 ghost use Rattle.sector_log.specs.Log.{IsLogOf, IsReadSoFar, IsReadUpTo};
 ghost use Rattle.sector_log.specs.Appends.{IsLogIn};
-ghost use Rattle.sector_log.specs.Walks.{Adds, BadHere, Walked, WalkedTo, IsFirstOther};
+ghost use Rattle.sector_log.specs.Walks.{AddsEntry, BadHere, Walked, WalkedTo, IsFirstOther};
 ghost use Rattle.sector_log.specs.Steps.Calls.{ReadsOrFails, ReadsOrRefuses};
 
 use crate::{Header, Log, Marks, Torn, header_of, read_head};
@@ -145,7 +145,7 @@ fn next_entry<B: Board>(
         × (B.tells board.new
         → NoEntry (drop log.end (halfwords_in (B.words board.old) log.region))))
         (λ new. B.tells board.new → (e : Entry)
-        × Adds (halfwords_in (B.words board.old) log.region) log new into.old into.new e)) }
+        × AddsEntry (halfwords_in (B.words board.old) log.region) log new into.old into.new e)) }
     ensures size { length into.new ≡ storage_bytes }
     ensures err { OnErr result (into.new ≡ into.old) }
     ensures calls { ReadsOrRefuses B.Board

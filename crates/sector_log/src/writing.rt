@@ -6,7 +6,7 @@ ghost use Rattle.flash_traits.specs.Words.{region_length, IsSectorSize, Programs
 ghost use Rattle.flash_traits.specs.Losses.{ByResult};
 ghost use Rattle.flash_traits.specs.Calls.{Changes, ErasesNothing};
 ghost use Rattle.flash_traits.specs.Causes.{HasCause};
-ghost use Rattle.sector_log.specs.Appends.{AppendMayLeave, Appends, appended, FinishMayLeave, Finishes, finished, AreLines, IsLogIn};
+ghost use Rattle.sector_log.specs.Appends.{AppendMayLeave, Appends, appended, FinishMayLeave, Finishes, finished, AreWholeLines, IsLogIn};
 ghost use Rattle.flash_traits.specs.Counts.{raised_by};
 ghost use Rattle.sector_log.specs.Steps.Calls.{OnlyPrograms};
 ghost use Rattle.sector_log.specs.Fills.{FillMayLeave, Fills, CompleteMayLeave, Completes};
@@ -40,7 +40,7 @@ fn complete<B: Board>(
     bytes: &[u8],
 ) -> Result<(), Fault>
     requires attached { IsSectorSize (B.sector_bytes board.old) }
-    requires lines { AreLines first bytes.now }
+    requires lines { AreWholeLines first bytes.now }
     requires inside { at + 1 + length bytes.now / 2 ≤ region_length
         (B.sector_bytes board.old) region }
     ensures changes { Changes B.Board board.old board.new
@@ -67,7 +67,7 @@ pub fn append<B: Board>(board: &mut B, log: Log, first: u16, bytes: &[u8]) -> Re
     requires attached { IsSectorSize (B.sector_bytes board.old) }
     requires log { IsLogIn (region_length (B.sector_bytes board.old) log.region) log }
     requires in_use { log.mark ≡ InUse }
-    requires lines { AreLines first bytes.now }
+    requires lines { AreWholeLines first bytes.now }
     requires room { log.end + 1 + length bytes.now / 2 ≤ region_length
         (B.sector_bytes board.old) log.region }
     ensures log { IfOk result (λ new. new ≡ appended log (length bytes.now / 8)) }

@@ -11,7 +11,7 @@ ghost use Rattle.sector_image.specs.declared.kept.Kept.{Kept};
 ghost use Rattle.sector_image.specs.Images.{IsFirstLeft, with_chunk};
 ghost use Rattle.sector_log.specs.Storage.{storage_bytes};
 ghost use Rattle.flash_traits.specs.Values.{put};
-ghost use Rattle.sector_log.specs.Appends.{AreLines, appended};
+ghost use Rattle.sector_log.specs.Appends.{AreWholeLines, appended};
 ghost use Rattle.flash_traits.specs.Counts.{raised_by};
 ghost use Rattle.sector_image.specs.Images.{Bytes};
 ghost use Rattle.sector_image.specs.Room.{is_left, left_to_copy};
@@ -71,7 +71,7 @@ impl Spilled {
         bytes: &[u8],
     ) -> Result<Spilled, Fault>
         requires fits { FitsSpilled B.Board board.old self images.old }
-        requires lines { AreLines first bytes.now }
+        requires lines { AreWholeLines first bytes.now }
         requires room { 2 + length bytes.now ≤ room_of self images.old }
         ensures fits { IfOk result (λ spilled. FitsSpilled B.Board board.new spilled images.new) }
         ensures kept { IfOk result (λ spilled. spilled ≡ with_appended self
@@ -242,7 +242,7 @@ fn put_spilled<B: Board>(
     images: &mut Images,
 ) -> Result<Kept, Fault>
     requires fits { FitsSpilled B.Board board.old kept images.old }
-    requires lines { AreLines first bytes.now }
+    requires lines { AreWholeLines first bytes.now }
     requires room { 2 + length bytes.now ≤ room_of kept images.old }
     ensures fits { IfOk result (λ new. FitsSpilled B.Board board.new new images.new) }
     ensures kept { IfOk result (λ new. new ≡ with_appended kept (length bytes.now / 8)) }

@@ -17,7 +17,7 @@ use Rattle.mav_messages.specs.declared.messages.Message.{Message}
 use Rattle.mav_messages.specs.declared.messages.Message.TheVariants.{ParamSet, MissionItemInt}
 use Rattle.mav_frames.specs.Frames.{IsSent, framed, head_bytes}
 use Rattle.session_boards.specs.Laws.{OneSession}
-use Rattle.session_boards.specs.Session.{Sending, Sets, Counts, Gives, Flushes, Turn, Sends, Waits, IsBitsOf, Says, IsDatagramOf, IsEventOf, IsEventAt, session, sent_in}
+use Rattle.session_boards.specs.Session.{Sending, Sets, Counts, Gives, Flushes, Turn, Sends, Waits, IsBitsOf, SaysSending, IsDatagramOf, IsEventOf, IsEventAt, session, sent_in}
 use Rattle.session_boards.specs.declared.messages.TheConstants.{STATION_COMPONENT, STATION_SYSTEM}
 
 same_some : {X : Type 0} → (x y : X) → (let left : Option X = Some x in left ≡ Some y) → x ≡ y
@@ -109,7 +109,7 @@ one_frame sequence system component m x y a b =
     ∙ sym b.bytes_are
 
 -- what the station sends is one message
-one_message : (s : Sending) (m n : Message) → Says s m → Says s n → m ≡ n
+one_message : (s : Sending) (m n : Message) → SaysSending s m → SaysSending s n → m ≡ n
 one_message (Sets row number) m n a b =
     let var : a.var ≡ b.var = same_some a.var b.var (sym a.row_is ∙ b.row_is) in
     let pattern = one_pattern number a.pattern b.pattern a.bits b.bits in

@@ -5,7 +5,7 @@ use Rattle.flash_traits.specs.Marks.{mark_word}
 use Rattle.flash_traits.specs.declared.board.Mark.TheVariants.{Available, InUse}
 use Rattle.flash_traits.specs.declared.numbers.TheConstants.{ERASED, GUARD_HALFWORDS}
 use Rattle.flash_traits.proofs.Sizes.{size_not_zero}
-use Rattle.session_boards.specs.Sizes.{begun}
+use Rattle.session_boards.specs.Sizes.{fresh_sector}
 use Rattle.session_boards.specs.declared.device.Device.{Device}
 
 -- the three lists of halfwords
@@ -17,10 +17,10 @@ words_of device = record {
 }
 
 -- the words of a fresh image: sector 0 in use, sector 1 available, the guard row FFFF
-abbrev pub fresh : Words
-fresh = record {
-  s0 = begun (mark_word InUse);
-  s1 = begun (mark_word Available);
+abbrev pub fresh_words : Words
+fresh_words = record {
+  s0 = fresh_sector (mark_word InUse);
+  s1 = fresh_sector (mark_word Available);
   guard = replicate GUARD_HALFWORDS ERASED;
 }
 
@@ -29,7 +29,7 @@ abbrev pub told_size : Bool → ℕ → ℕ
 told_size attached size = if attached then size else 0
 
 -- an attached board has the shape of its sector size
-pub shape_of : (attached : Bool) (size : ℕ) (w : Words) → HasShape size w
+pub shape_attached : (attached : Bool) (size : ℕ) (w : Words) → HasShape size w
     → IsSectorSize (told_size attached size) → HasShape (told_size attached size) w
-shape_of true size w shape known = shape
-shape_of false size w shape known = absurd (size_not_zero 0 known (λ i. 0))
+shape_attached true size w shape known = shape
+shape_attached false size w shape known = absurd (size_not_zero 0 known (λ i. 0))

@@ -79,17 +79,17 @@ pub record SaysItem (round seq : ℕ) (message : Message) : Type 0 where
       pattern seq 16 1 1 3 0 1 0
 
 -- the message says what the station sends; each is for system 1 and component 1
-abbrev pub Says : Sending → Message → Type 0
-Says (Sets row number) message = SaysSet row number message
-Says Counts message = message ≡ MissionCount 5 1 1 0
-Says (Gives round seq) message = SaysItem round seq message
-Says Flushes message = message ≡ CommandLong 0x3F80_0000 0 0 0 0 0 0 245 1 1 0
+abbrev pub SaysSending : Sending → Message → Type 0
+SaysSending (Sets row number) message = SaysSet row number message
+SaysSending Counts message = message ≡ MissionCount 5 1 1 0
+SaysSending (Gives round seq) message = SaysItem round seq message
+SaysSending Flushes message = message ≡ CommandLong 0x3F80_0000 0 0 0 0 0 0 245 1 1 0
 
 -- One frame of version 2 with the message, from station 0, is the whole datagram.
 pub record IsDatagramOf (sequence : ℕ) (sending : Sending) (event : Received) : Type 0 where
   pub message : Message
   pub bytes : List ℕ
-  pub says : Says sending message
+  pub says : SaysSending sending message
   pub sent : IsSent true sequence STATION_SYSTEM STATION_COMPONENT message bytes
   pub event_is : event ≡ Datagram 0 bytes
 

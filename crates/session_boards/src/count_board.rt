@@ -49,7 +49,7 @@ impl<N: Session> CountBoard<N> {
     ghost use Rattle.flash_traits.specs.Counts.{counts};
     ghost use Rattle.flash_traits.specs.declared.board.Fault.{Fault};
     ghost use Rattle.flash_traits.specs.Losses.{Received, SentFrame};
-    ghost use Rattle.session_boards.specs.Device.{fresh};
+    ghost use Rattle.session_boards.specs.Device.{fresh_words};
     ghost use Rattle.session_boards.specs.Session.{AreFirst};
 
     /// A board with a fresh image of 131,072-byte sectors, before its first attach, for a session
@@ -57,7 +57,8 @@ impl<N: Session> CountBoard<N> {
     pub fn new(alloc: Global, rounds: u16) -> Result<CountBoard<N>, AllocError>
         requires range { (1 ≤ rounds) × (rounds ≤ 1000) }
         requires session { rounds ≡ N.rounds }
-        ensures words { IfOk result (λ board. ⟦<CountBoard<N> as Board>⟧.words board ≡ fresh) }
+        ensures words { IfOk result
+            (λ board. ⟦<CountBoard<N> as Board>⟧.words board ≡ fresh_words) }
         ensures unattached { IfOk result (λ board.
             ⟦<CountBoard<N> as Board>⟧.sector_bytes board ≡ 0) }
         ensures moment { IfOk result (λ board. ⟦<CountBoard<N> as Board>⟧.moment board
@@ -99,7 +100,7 @@ impl<N: Session> CountBoard<N> {
 impl<N: Session> Board for CountBoard<N> {
     ghost use Rattle.flash_traits.specs.Losses.{Moment};
     ghost use Rattle.session_boards.specs.Counting.{HasLists};
-    ghost use Rattle.session_boards.specs.Device.{told_size, shape_of};
+    ghost use Rattle.session_boards.specs.Device.{told_size, shape_attached};
 
     ghost sector_bytes = { λ b. told_size b.attached b.size };
 
@@ -128,7 +129,7 @@ impl<N: Session> Board for CountBoard<N> {
 
     ghost only_now = { λ b o left. left };
 
-    ghost shape = { λ b told. shape_of b.attached b.size (words_of b.device) b.shape };
+    ghost shape = { λ b told. shape_attached b.attached b.size (words_of b.device) b.shape };
 
     fn attach(&mut self, _name: &str, _port: u16, make: Option<u32>) -> Result<Geometry, Failed> {
         if let Some(sector_bytes) = make {

@@ -2,7 +2,7 @@
 ghost use Rattle.std.specs.Prelude.{◌≡◌, ◌<◌, ◌≤◌, length, slice_index, slice_set, replicate, bit_and, vec_capacity, IfOk};
 ghost use Rattle.flash_traits.specs.Words.{halfwords_in, programmed, erased, blank, IsSectorSize};
 ghost use Rattle.flash_traits.specs.declared.numbers.TheConstants.{ERASED};
-ghost use Rattle.session_boards.specs.Sizes.{HasRoom, sector_halfwords, begun};
+ghost use Rattle.session_boards.specs.Sizes.{HasRoomFor, sector_halfwords, fresh_sector};
 
 use flash_traits::{ERASED, GUARD_HALFWORDS, Mark, Region, SIGNATURE};
 use std::alloc::{AllocError, Global};
@@ -16,7 +16,7 @@ pub struct Device {
     s0: Vec<u16>,
     s1: Vec<u16>,
     guard: Vec<u16>,
-    ghost room: { HasRoom s0 65536 × (HasRoom s1 65536 × HasRoom guard 8192) },
+    ghost room: { HasRoomFor s0 65536 × (HasRoomFor s1 65536 × HasRoomFor guard 8192) },
 }
 
 /// Clears the bits of a halfword that the word lacks.
@@ -51,7 +51,7 @@ fn refill(halfwords: &mut Vec<u16>, count: usize)
 /// So many halfwords FFFF.
 fn blank_list(alloc: Global, count: usize) -> Result<Vec<u16>, AllocError>
     ensures items { IfOk result (λ halfwords. halfwords.items ≡ replicate count ERASED) }
-    ensures room { IfOk result (λ halfwords. HasRoom halfwords count) }
+    ensures room { IfOk result (λ halfwords. HasRoomFor halfwords count) }
 {
     let mut halfwords = Vec::with_capacity(alloc, count)?;
     halfwords.resize(count, ERASED)?;
@@ -60,8 +60,8 @@ fn blank_list(alloc: Global, count: usize) -> Result<Vec<u16>, AllocError>
 
 /// A sector that has a header with this mark's halfword, and nothing else.
 fn sector(alloc: Global, mark: u16) -> Result<Vec<u16>, AllocError>
-    ensures items { IfOk result (λ halfwords. halfwords.items ≡ begun mark) }
-    ensures room { IfOk result (λ halfwords. HasRoom halfwords sector_halfwords) }
+    ensures items { IfOk result (λ halfwords. halfwords.items ≡ fresh_sector mark) }
+    ensures room { IfOk result (λ halfwords. HasRoomFor halfwords sector_halfwords) }
 {
     let mut halfwords = blank_list(alloc, SECTOR_BYTES as usize / 2)?;
     halfwords[0] = mark;
@@ -70,11 +70,11 @@ fn sector(alloc: Global, mark: u16) -> Result<Vec<u16>, AllocError>
 }
 
 impl Device {
-    ghost use Rattle.session_boards.specs.Device.{words_of, fresh};
+    ghost use Rattle.session_boards.specs.Device.{words_of, fresh_words};
 
     /// A fresh image: sector 0 is in use, sector 1 available, both without entries.
     pub fn fresh(alloc: Global) -> Result<Device, AllocError>
-        ensures { IfOk result (λ device. words_of device ≡ fresh) }
+        ensures { IfOk result (λ device. words_of device ≡ fresh_words) }
     {
         Ok(Device {
             s0: sector(alloc, Mark::InUse.word())?,

@@ -1,6 +1,6 @@
 //! What the station sends in a round of the generated session.
 ghost use Rattle.std.specs.Prelude.{◌≡◌, ◌<◌, ◌≤◌, ◌^◌, length, pos, slice_get, Some, MatchOption};
-ghost use Rattle.session_boards.specs.Session.{Sending, Sends, Waits, IsBitsOf, Says, messages_of, upload, flush_of, set_of, waits_after};
+ghost use Rattle.session_boards.specs.Session.{Sending, Sends, Waits, IsBitsOf, SaysSending, messages_of, upload, flush_of, set_of, waits_after};
 
 use mav_messages::Message;
 use param_tree::{mav_type_of, vehicle_table};
@@ -36,7 +36,7 @@ fn pattern_of(number: u8) -> u32
 
 /// The PARAM_SET of a round.
 fn set_message(round: u16) -> Message
-    ensures { Says (set_of round) result }
+    ensures { SaysSending (set_of round) result }
 {
     let row = vehicle_table().row(64 + round % 176);
     let param_id = row.name;
@@ -61,7 +61,7 @@ fn signed(number: u32) -> i32
 fn upload_message(round: u16, step: u8) -> Message
     requires { step < 6 }
     ensures { (sending : Sending) × (slice_get (upload round) step ≡ Some sending)
-        × Says sending result }
+        × SaysSending sending result }
 {
     if step == 0 {
         return Message::MissionCount {
@@ -97,7 +97,7 @@ fn flush_at(round: u16, step: u8) -> Option<Message>
     ensures { MatchOption result (slice_get (waits_after (flush_of round)) step ≡ Some Waits)
         (λ message. (sending : Sending)
         × (slice_get (waits_after (flush_of round)) step ≡ Some (Sends sending))
-        × Says sending message) }
+        × SaysSending sending message) }
 {
     if step > 0 || round % 16 != 15 {
         return None;
@@ -123,7 +123,7 @@ pub fn message_at(round: u16, step: u8) -> Option<Message>
     ensures { MatchOption result (slice_get (waits_after (messages_of round)) step ≡ Some Waits)
         (λ message. (sending : Sending)
         × (slice_get (waits_after (messages_of round)) step ≡ Some (Sends sending))
-        × Says sending message) }
+        × SaysSending sending message) }
 {
     if step == 0 {
         return Some(set_message(round));

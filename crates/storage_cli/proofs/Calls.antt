@@ -18,7 +18,7 @@ use Rattle.storage_lines.specs.declared.lines.LineWrite.{LineWrite}
 use Rattle.session_boards.specs.Session.{HasNoEnd}
 use Rattle.storage_cli.specs.Serving.{is_armed_after_events, EventsUnworn}
 use Rattle.storage_cli.specs.Steps.Guard.{WearsSince}
-use Rattle.storage_cli.specs.Steps.Progress.{IsSafe, Progress, Finishes, WasArmedSince}
+use Rattle.storage_cli.specs.Steps.Progress.{IsSafe, Progress, FinishesEvents, WasArmedSince}
 
 adds_none : (s : Outcome) → Adds [] [] s s
 adds_none s = record { events_are = sym (append-nil s.events); frames_are = sym (append-nil s.frames) }
@@ -176,14 +176,14 @@ module _ {B : Type 0} (g : Ghosts B) (budget : ℕ) where
         (λ s n o now adds since. safe_later budget b e es sent fs (m + length es) s n o adds since)
         (λ s n o now adds since. safe_later budget b e es sent fs (m + length es) s n o adds since)
 
-  pub finishes_none : (node : Node) (board : B) → Finishes g budget node board node board 0 None
+  pub finishes_none : (node : Node) (board : B) → FinishesEvents g budget node board node board 0 None
   finishes_none node board = record { events = []; frames = []; progress = progress_none node board; ends = (tt, refl) }
 
-  module _ (node : Node) (board : B) (mid : Node) (mid_board : B) (new : Node) (new_board : B) (n : ℕ) (p : Finishes g budget node board mid mid_board n None) (answer : Turn) (f : Finished g mid mid_board new new_board answer)
+  module _ (node : Node) (board : B) (mid : Node) (mid_board : B) (new : Node) (new_board : B) (n : ℕ) (p : FinishesEvents g budget node board mid mid_board n None) (answer : Turn) (f : Finished g mid mid_board new new_board answer)
       (told : g.tells new_board → g.tells mid_board)
       (losses : (b : List ℕ) (e : List Received) (sent : List SentFrame) (m : ℕ) → (g.tells mid_board → StandsForRun mid b e sent m) → Passes g mid_board new_board (SafeSince budget b e sent m) (SafeSince budget b e sent (m + 1))) where
     -- one that is no end
-    pub finishes_more : answer ≡ turn.More → Finishes g budget node board new new_board (n + 1) None
+    pub finishes_more : answer ≡ turn.More → FinishesEvents g budget node board new new_board (n + 1) None
     finishes_more is = record {
       events = p.events ++ f.event ∷ [];
       frames = p.frames ++ f.frames;
@@ -192,7 +192,7 @@ module _ {B : Type 0} (g : Ghosts B) (budget : ℕ) where
     }
 
     -- the end
-    pub finishes_end : (turns : ℕ) → answer ≡ turn.End → Finishes g budget node board new new_board turns (Some n)
+    pub finishes_end : (turns : ℕ) → answer ≡ turn.End → FinishesEvents g budget node board new new_board turns (Some n)
     finishes_end turns is = record {
       events = p.events ++ f.event ∷ [];
       frames = p.frames ++ f.frames;

@@ -5,7 +5,7 @@ use Rattle.flash_traits.specs.declared.board.Fault.{Fault}
 use Rattle.flash_traits.specs.declared.board.Fault.TheVariants as fault
 use Rattle.flash_traits.specs.Causes.{Rose}
 use Rattle.flash_traits.specs.Words.{Words}
-use Rattle.sector_image.specs.FirstBad.{Place, FirstBad, place_of}
+use Rattle.sector_image.specs.FirstBad.{Place, FirstBad, foreign_place}
 use Rattle.sector_image.specs.Stands.{Stands, IsUsedUp}
 use Rattle.sector_image.proofs.ImageLaws as image
 use Rattle.vehicle_node.specs.declared.NodeError.{NodeError}
@@ -79,7 +79,7 @@ module _ (words : Words) (told : Type 0) (before now : Fault → ℕ) where
       → node.OnForeign e (λ place. told → FirstBad words place) → told → IsUsedUp words → (let r : Result Served Stop = Err (stop_of e) in StopsWorn r)
   opens_worn node_error.Memory fails foreign t used = tt
   opens_worn (node_error.Fault kind) fails foreign t used = worn_fault_stop kind fails.0
-  opens_worn (node_error.Foreign region offset word) fails foreign t used = absurd (image.never_both words used.reading (place_of region offset word) used.reads (foreign t))
+  opens_worn (node_error.Foreign region offset word) fails foreign t used = absurd (image.never_both words used.reading (foreign_place region offset word) used.reads (foreign t))
   opens_worn (node_error.Worn count) fails foreign t used = tt
 
 -- what the errors of a node make of a result: `?` gives the stop of the error

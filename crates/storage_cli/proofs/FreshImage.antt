@@ -15,9 +15,9 @@ use Rattle.sector_log.specs.Entries.{IsEntry}
 use Rattle.sector_log.specs.Sector.{IsSector}
 use Rattle.sector_log.specs.Bytes.{IsValue}
 use Rattle.sector_image.specs.Stands.{Stands, Both}
-use Rattle.session_boards.specs.Device.{fresh}
-use Rattle.session_boards.specs.Sizes.{begun}
-use Rattle.storage_cli.specs.Sessions.{zeros, fresh_bytes}
+use Rattle.session_boards.specs.Device.{fresh_words}
+use Rattle.session_boards.specs.Sizes.{fresh_sector}
+use Rattle.storage_cli.specs.Sessions.{zeros, fresh_storage}
 
 no_entries : All IsEntry []
 no_entries i d lt = absurd (omega (arith, lt))
@@ -28,7 +28,7 @@ begun_at n mark = refl
 all_erased : (n : ℕ) → All (λ word. word ≡ ERASED) (replicate n ERASED)
 all_erased n i d lt = get_or-replicate n i ERASED d (omega (arith, length-replicate n ERASED, lt))
 
-begun_sector : (mark : Mark) → IsSector (begun (mark_word mark)) mark []
+begun_sector : (mark : Mark) → IsSector (fresh_sector (mark_word mark)) mark []
 begun_sector mark = record {
   rest = replicate 65534 ERASED;
   whole = begun_at 65534 (mark_word mark);
@@ -47,10 +47,10 @@ zeros_value size is = record {
   each = λ k lt. get_or-replicate size k 0 0 (omega (arith, is, lt));
 }
 
-pub fresh_guard : IsGuardRow fresh.guard 0
+pub fresh_guard : IsGuardRow fresh_words.guard 0
 fresh_guard = no_count
 
-pub fresh_stands : Stands fresh fresh_bytes
+pub fresh_stands : Stands fresh_words fresh_storage
 fresh_stands = (
   Both 0 InUse Available [] [],
   record {
@@ -72,10 +72,10 @@ half_size n (inr (inl is)) half = omega (arith, is, half)
 half_size n (inr (inr (inl is))) half = omega (arith, is, half)
 half_size n (inr (inr (inr is))) half = is
 
-begun_length : (mark : ℕ) → length (begun mark) ≡ 65536
+begun_length : (mark : ℕ) → length (fresh_sector mark) ≡ 65536
 begun_length mark = ap length (begun_at 65534 mark) ∙ ap (λ (n : ℕ). suc (suc n)) (length-replicate 65534 ERASED)
 
-pub fresh_size : (n : ℕ) (w : Words) → w ≡ fresh → IsSectorSize n → HasShape n w → n ≡ SECTOR_BYTES
+pub fresh_size : (n : ℕ) (w : Words) → w ≡ fresh_words → IsSectorSize n → HasShape n w → n ≡ SECTOR_BYTES
 fresh_size n w is known shape =
     let long : length w.s0 ≡ n / 2 = shape S0 in
     half_size n known (sym (begun_length (mark_word InUse)) ∙ ap (λ (v : Words). length v.s0) (sym is) ∙ long)

@@ -2,10 +2,10 @@
 use Rattle.storage_cli.specs.declared.stop.Stop.{Stop}
 use Rattle.storage_cli.specs.declared.stop.Stop.TheVariants as stop
 use Rattle.storage_cli.specs.Texts as texts
-use Rattle.storage_cli.specs.Texts.{Line}
+use Rattle.storage_cli.specs.Texts.{PrintedLine}
 use Rattle.storage_cli.specs.Steps.Stops.{line_of_stop}
 
-pub line_is : (why : Stop) → Line (line_of_stop why)
+pub line_is : (why : Stop) → PrintedLine (line_of_stop why)
 line_is stop.Words = texts.Words
 line_is stop.Memory = texts.Memory
 line_is (stop.Foreign found) = texts.Foreign found.region found.offset found.word

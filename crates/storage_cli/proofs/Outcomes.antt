@@ -2,7 +2,7 @@
 use Rattle.std.proofs.Common.{◌≡◌, ◌≢◌, ◌⊎◌, inl, inr, ℕ, List, refl, sym, ◌∙◌, subst, arith, Result, Err}
 use Rattle.flash_traits.specs.declared.board.Fault.{Fault}
 use Rattle.flash_traits.specs.Words.{Words}
-use Rattle.sector_image.specs.FirstBad.{place_of}
+use Rattle.sector_image.specs.FirstBad.{foreign_place}
 use Rattle.storage_cli.specs.declared.stop.Served.{Served}
 use Rattle.storage_cli.specs.declared.stop.Foreign.{Foreign}
 use Rattle.storage_cli.specs.declared.stop.Stop.{Stop}
@@ -235,7 +235,7 @@ module _ (status : ℕ) (why : Stop) (gives : Gives status (status_of_stop why))
   foreign_named printed told words line first e =
       let found = ends_foreign e in
       record {
-        place = place_of found.0.region found.0.offset found.0.word;
+        place = foreign_place found.0.region found.0.offset found.0.word;
         first = λ t. subst (λ (w : Stop). IsFirst words w) found.1 (first t);
         line = subst (λ (w : Stop). printed (line_of_stop w)) found.1 (line (λ z. omega (arith, z, e)));
       }

@@ -3,7 +3,7 @@ use Rattle.std.proofs.Common.{◌≡◌, ◌≢◌, ◌⊎◌, inl, inr, ℕ, Li
 use Rattle.flash_traits.specs.Causes.{Rose}
 use Rattle.flash_traits.specs.Words.{Words}
 use Rattle.flash_traits.specs.declared.stream.Sink.{Ghosts}
-use Rattle.sector_image.specs.FirstBad.{place_of}
+use Rattle.sector_image.specs.FirstBad.{foreign_place}
 use Rattle.storage_cli.specs.declared.stop.Stop.{Stop}
 use Rattle.storage_cli.specs.declared.stop.Stop.TheVariants as stop
 use Rattle.storage_cli.specs.Statuses.{IsReplayStatus, Prints}
@@ -86,7 +86,7 @@ module _ {K : Type 0} (k : Ghosts K) (old mid new : K) (status : ℕ) (why : Sto
       read = λ e. only _ 4 (λ z. omega (arith, z)) e (ap line_of_stop (ends_read status why gives e)) (untouched 4 (inl refl) e stops).1;
       attach = λ e. only _ 13 (λ z. omega (arith, z)) e (ap line_of_stop (ends_attach status why gives e)) (untouched 13 (inr refl) e stops).1;
       memory = λ e. last _ 2 (λ z. omega (arith, z)) e (ap line_of_stop (ends_memory status why gives e));
-      foreign = λ e. let found = ends_foreign status why gives e in (place_of found.0.region found.0.offset found.0.word, last _ 3 (λ z. omega (arith, z)) e (ap line_of_stop found.1));
+      foreign = λ e. let found = ends_foreign status why gives e in (foreign_place found.0.region found.0.offset found.0.word, last _ 3 (λ z. omega (arith, z)) e (ap line_of_stop found.1));
       worn = λ e. last _ 7 (λ z. omega (arith, z)) e (ap line_of_stop (ends_worn status why gives e));
       input = λ e. last _ 9 (λ z. omega (arith, z)) e (ap line_of_stop (ends_input status why gives e));
       script = λ e. let found = ends_script status why gives e in (found.0, last _ 11 (λ z. omega (arith, z)) e (ap line_of_stop found.1));
@@ -96,7 +96,7 @@ module _ {K : Type 0} (k : Ghosts K) (old mid new : K) (status : ℕ) (why : Sto
     names_first e (inl before) t =
         let found = ends_foreign status why gives e in
         record {
-          place = place_of found.0.region found.0.offset found.0.word;
+          place = foreign_place found.0.region found.0.offset found.0.word;
           first = λ tw. subst (λ (w : Stop). IsFirst words w) found.1 (before.first tw);
           line = only _ 3 (λ z. omega (arith, z)) e (ap line_of_stop found.1) before.untouched.1;
         }

@@ -5,7 +5,7 @@ use Rattle.flash_traits.specs.Words.{Words}
 use Rattle.flash_traits.specs.declared.board.Fault.{Fault}
 use Rattle.flash_traits.specs.declared.board.Fault.TheVariants as fault
 use Rattle.flash_traits.specs.Causes.{Rose}
-use Rattle.sector_image.specs.FirstBad.{FirstBad, Place, place_of}
+use Rattle.sector_image.specs.FirstBad.{FirstBad, Place, foreign_place}
 use Rattle.sector_image.specs.Refusals as image
 use Rattle.sector_image.specs.declared.kept.SurveyError.{SurveyError}
 use Rattle.sector_image.specs.declared.kept.SurveyError.TheVariants as survey
@@ -84,7 +84,7 @@ output_in script_stop.Output P p = p
 
 pub foreign_map : (why : script.Stop) (P : Place → Type 0) (Q : Type 0) → ((place : Place) → P place → Q) → OnForeign P why → OnForeign (λ place. Q) why
 foreign_map script_stop.Memory P Q f p = tt
-foreign_map (script_stop.Foreign region offset word) P Q f p = f (place_of region offset word) p
+foreign_map (script_stop.Foreign region offset word) P Q f p = f (foreign_place region offset word) p
 foreign_map (script_stop.Worn count) P Q f p = tt
 foreign_map (script_stop.Refused line) P Q f p = tt
 foreign_map script_stop.Input P Q f p = tt

@@ -25,7 +25,7 @@ use Rattle.storage_cli.specs.declared.stop.Stop.TheVariants as stop
 use Rattle.replay.specs.Histories.{IsWhole}
 use Rattle.storage_cli.specs.Serving.{HasToVoid, is_armed_after_events, EventsUnworn, ServeUnworn}
 use Rattle.storage_cli.specs.Steps.Guard.{WearsSince, WearsFrom}
-use Rattle.storage_cli.specs.Steps.Progress.{IsSafe, IsSafeRun, Finishes, Completes, EndsSo, WasArmedSince}
+use Rattle.storage_cli.specs.Steps.Progress.{IsSafe, IsSafeRun, FinishesEvents, CompletesServe, EndsInTurns, WasArmedSince}
 use Rattle.storage_cli.proofs.FewerEvents.{one_fewer, safe_none}
 use Rattle.storage_cli.proofs.Calls.{ending, some_safe, safe_later, safe_after}
 
@@ -86,7 +86,7 @@ module _ {B : Type 0} (g : Ghosts B) (budget : ℕ) (a m c d : B) (node new : No
     (closed : (e : List Received) (f : List SentFrame) → g.has_lists c e f → g.has_lists d e f)
     (done : g.tells d → (b : List ℕ) (r : Run) (frames : List SentFrame) → StandsAt new b r frames → Stands (g.words d) (after b r.issued))
     (all_put : AllUnworn g (armed_in new) new.lines d)
-    (end : Option ℕ) (p : Finishes g budget node m new c turns end) where
+    (end : Option ℕ) (p : FinishesEvents g budget node m new c turns end) where
   runs : g.tells d → (b : List ℕ) → Stands (g.words a) b → StandsForRun new b p.events p.frames (0 + length p.events)
   runs t b stands = p.progress.stands b [] [] 0 (starts (p.progress.told (told t)) b stands)
 
@@ -128,20 +128,20 @@ module _ {B : Type 0} (g : Ghosts B) (budget : ℕ) (a m c d : B) (node new : No
   lists : g.has_lists a [] [] → g.has_lists d p.events p.frames
   lists stood = closed p.events p.frames (p.progress.lists [] [] (opened [] [] stood))
 
-  pub completes_end : (count frames lines : ℕ) → end ≡ Some count → frames ≡ new.frames → lines ≡ new.issued → Completes g budget (g.words a) (g.has_lists a [] []) d turns (Ok (record { events = count; frames = frames; lines = lines }))
+  pub completes_end : (count frames lines : ℕ) → end ≡ Some count → frames ≡ new.frames → lines ≡ new.issued → CompletesServe g budget (g.words a) (g.has_lists a [] []) d turns (Ok (record { events = count; frames = frames; lines = lines }))
   completes_end count frames lines is same same_lines = record {
     events = p.events;
     frames = p.frames;
     lists = lists;
-    ends = subst (λ (e : Option ℕ). EndsSo e turns p.events) is p.ends;
+    ends = subst (λ (e : Option ℕ). EndsInTurns e turns p.events) is p.ends;
     whole = λ t b stands. let r = counted t b stands in record { whole = r.whole; lines = same_lines ∙ r.lines };
     counted = λ t. same ∙ sent t;
     unworn = unworn;
   }
 
-  pub completes_turns : end ≡ None → Completes g budget (g.words a) (g.has_lists a [] []) d turns (Err (stop.Turns turns))
+  pub completes_turns : end ≡ None → CompletesServe g budget (g.words a) (g.has_lists a [] []) d turns (Err (stop.Turns turns))
   completes_turns is =
-      let ends = subst (λ (e : Option ℕ). EndsSo e turns p.events) is p.ends in
+      let ends = subst (λ (e : Option ℕ). EndsInTurns e turns p.events) is p.ends in
       record {
         events = p.events;
         frames = p.frames;
@@ -154,7 +154,7 @@ module _ {B : Type 0} (g : Ghosts B) (budget : ℕ) (a m c d : B) (node new : No
 
 -- the attach keeps the words, and its lists are empty
 pub completes_attached : {B : Type 0} (g : Ghosts B) (budget : ℕ) (a d : B) (before : Words) (turns : ℕ) (r : Result Served Stop) → (g.tells d → g.words a ≡ before) → g.has_lists a [] []
-    → Completes g budget (g.words a) (g.has_lists a [] []) d turns r → Completes g budget before ⊤ d turns r
+    → CompletesServe g budget (g.words a) (g.has_lists a [] []) d turns r → CompletesServe g budget before ⊤ d turns r
 completes_attached g budget a d before turns r same empty p = record {
   events = p.events;
   frames = p.frames;
@@ -166,8 +166,8 @@ completes_attached g budget a d before turns r same empty p = record {
 }
 
 -- the events that were finished, by the budget of the board
-pub finished_at : {B : Type 0} (g : Ghosts B) (n budget : ℕ) → n ≡ budget → (node : Node) (m : B) (new : Node) (c : B) (turns : ℕ) (end : Option ℕ) → Finishes g n node m new c turns end → Finishes g budget node m new c turns end
-finished_at g n budget same node m new c turns end p = subst (λ (k : ℕ). Finishes g k node m new c turns end) same p
+pub finished_at : {B : Type 0} (g : Ghosts B) (n budget : ℕ) → n ≡ budget → (node : Node) (m : B) (new : Node) (c : B) (turns : ℕ) (end : Option ℕ) → FinishesEvents g n node m new c turns end → FinishesEvents g budget node m new c turns end
+finished_at g n budget same node m new c turns end p = subst (λ (k : ℕ). FinishesEvents g k node m new c turns end) same p
 
 -- why a sector had to be voided, at the opening and in an event
 pub void_opened : {B : Type 0} (g : Ghosts B) (words : Words) (c : B) → (g.tells c → IsUsedUp words) ⊎ ((lines : Lines) × IsWornForNext g c lines) → HasToVoid g words c
@@ -206,7 +206,7 @@ module _ {B : Type 0} (g : Ghosts B) (budget : ℕ) (words : Words) (a m : B) (n
     lines = λ t count b row stands. subst (λ (n : ℕ). MayWear n count b wears.events) same (wears.lines t count b [] [] 0 (within (told t) count b row stands));
   }
 
-  pub wears_closed : (c d : B) (new : Node) (turns : ℕ) (end : Option ℕ) → (p : Finishes g budget node m new c turns end) → new.budget ≡ budget → (g.tells d → g.tells c) → ((e : List Received) (f : List SentFrame) → g.has_lists c e f → g.has_lists d e f)
+  pub wears_closed : (c d : B) (new : Node) (turns : ℕ) (end : Option ℕ) → (p : FinishesEvents g budget node m new c turns end) → new.budget ≡ budget → (g.tells d → g.tells c) → ((e : List Received) (f : List SentFrame) → g.has_lists c e f → g.has_lists d e f)
       → (g.tells d → (count : ℕ) (b : List ℕ) (e : List Received) (f : List SentFrame) (k : ℕ) → StaysWithin count new b e f k → MayWear new.budget count b e) → WearsFrom g budget words (g.has_lists a [] []) d
   wears_closed c d new turns end p same told closed wears = record {
     events = p.events;

@@ -11,7 +11,7 @@ use Rattle.flash_traits.specs.declared.numbers.TheConstants.{GUARD_HALFWORDS}
 use Rattle.flash_traits.specs.Words.{Words, IsSectorSize, HasShape}
 use Rattle.flash_traits.specs.Losses.{Received, SentFrame}
 use Rattle.guard_row.specs.Row.{IsGuardRow}
-use Rattle.session_boards.specs.Device.{fresh}
+use Rattle.session_boards.specs.Device.{fresh_words}
 use Rattle.sha2.specs.Sha256.{sha256}
 use Rattle.storage_lines.specs.Lines.{after}
 use Rattle.flash_traits.specs.declared.board.Board.{Ghosts}
@@ -33,11 +33,11 @@ use Rattle.storage_cli.specs.declared.stop.Served.{Served}
 use Rattle.storage_cli.specs.declared.stop.Stop.{Stop}
 use Rattle.storage_cli.specs.declared.stop.Stop.TheVariants as stop
 use Rattle.storage_cli.specs.declared.stop.Summary.{Summary}
-use Rattle.storage_cli.specs.Sessions.{Session, fresh_bytes, fresh_run, digest_after, line_of_session, WearsOut}
+use Rattle.storage_cli.specs.Sessions.{Session, fresh_storage, fresh_run, digest_after, line_of_session, WearsOut}
 use Rattle.storage_cli.specs.Texts.{session_line}
 use Rattle.storage_cli.specs.Steps.Sessions.{IsSessionStop, IsSummary}
 use Rattle.storage_cli.specs.Steps.Guard.{WearsFrom}
-use Rattle.storage_cli.specs.Steps.Progress.{Completes, IsCounted}
+use Rattle.storage_cli.specs.Steps.Progress.{CompletesServe, IsCounted}
 use Rattle.storage_cli.specs.Steps.Stops.{IsAttached, IsDone, IsServeStop, IsCausedBy, IsFirst, OnWorn}
 use Rattle.storage_cli.proofs.FreshImage.{fresh_guard, fresh_stands, fresh_size}
 
@@ -62,10 +62,10 @@ session_stop stop.Input before now words bytes serves zero cause law stands firs
 session_stop (stop.Script line) before now words bytes serves zero cause law stands first on = serves
 
 -- no session has so many turns
-pub not_over : {B : Type 0} (g : Ghosts B) (budget rounds : ℕ) (before : Words) (board : B) (why : Stop) → (IsDone (Err why) → Completes g budget before ⊤ board (2 ^ 32 - 1) (Err why)) → SessionEnds → rounds ≤ 1000
+pub not_over : {B : Type 0} (g : Ghosts B) (budget rounds : ℕ) (before : Words) (board : B) (why : Stop) → (IsDone (Err why) → CompletesServe g budget before ⊤ board (2 ^ 32 - 1) (Err why)) → SessionEnds → rounds ≤ 1000
     → ((e : List Received) (f : List SentFrame) → g.has_lists board e f → AreFirst rounds e) → (n : ℕ) → why ≢ stop.Turns n
 not_over g budget rounds before board why done law few session n is =
-    let P : Stop → Type 0 = λ w. IsDone (Err w) → Completes g budget before ⊤ board (2 ^ 32 - 1) (Err w) in
+    let P : Stop → Type 0 = λ w. IsDone (Err w) → CompletesServe g budget before ⊤ board (2 ^ 32 - 1) (Err w) in
     let p = subst P is done tt in
     omega (arith, law.few rounds p.events (session p.events p.frames (p.lists tt)) p.ends.0, few, p.ends.1)
 
@@ -76,14 +76,14 @@ survey_answers (survey_error.Fault kind) words bytes law stands foreign fault = 
 survey_answers (survey_error.Foreign region offset word) words bytes law stands foreign fault = law.never_both words bytes _ stands (foreign tt)
 
 -- the run, by the budget of the sectors of a fresh image
-pub counted_at : (n : ℕ) → n ≡ SECTOR_BYTES → (served : Served) (events : List Received) (frames : List SentFrame) (words : Words) → IsCounted (budget_of n) (Ok served) fresh_bytes events frames words
-    → IsCounted (budget_of SECTOR_BYTES) (Ok served) fresh_bytes events frames words
-counted_at n same served events frames words run = subst (λ (k : ℕ). IsCounted (budget_of k) (Ok served) fresh_bytes events frames words) same run
+pub counted_at : (n : ℕ) → n ≡ SECTOR_BYTES → (served : Served) (events : List Received) (frames : List SentFrame) (words : Words) → IsCounted (budget_of n) (Ok served) fresh_storage events frames words
+    → IsCounted (budget_of SECTOR_BYTES) (Ok served) fresh_storage events frames words
+counted_at n same served events frames words run = subst (λ (k : ℕ). IsCounted (budget_of k) (Ok served) fresh_storage events frames words) same run
 
 -- what the session came to
 pub summary_of : (rounds : ℕ) (served : Served) (digest whole : List ℕ) (events : List Received) (frames : List SentFrame) (words : Words)
     → SessionEnds → OneOfBoth → AreFirst rounds events → EndsOnce events × (served.events ≡ length events - 1) → served.frames ≡ counts (length frames)
-    → IsCounted (budget_of SECTOR_BYTES) (Ok served) fresh_bytes events frames words → Stands words whole → digest ≡ sha256 whole
+    → IsCounted (budget_of SECTOR_BYTES) (Ok served) fresh_storage events frames words → Stands words whole → digest ≡ sha256 whole
     → IsSummary rounds (record { rounds = rounds; events = served.events; frames = served.frames; lines = served.lines; digest = digest })
 unfolding digest_after
 summary_of rounds served digest whole events frames words ends law first ended sent run stands is = record {
@@ -92,7 +92,7 @@ summary_of rounds served digest whole events frames words ends law first ended s
   events_are = ended.1;
   frames_are = sent ∙ ap counts (AllZip-long IsFrameOf (fresh_run run.whole.acts).answers frames run.whole.all_answers);
   lines_are = run.lines;
-  digest_is = is ∙ ap sha256 (law.one_value words whole (after fresh_bytes (fresh_run run.whole.acts).issued) stands run.whole.all_lines);
+  digest_is = is ∙ ap sha256 (law.one_value words whole (after fresh_storage (fresh_run run.whole.acts).issued) stands run.whole.all_lines);
 }
 
 -- the line of the summary is that of its session
@@ -117,7 +117,7 @@ one_line one read rounds s t =
 
 -- where its guard row is used up, lines enough were issued
 pub wears_out : {B : Type 0} (g : Ghosts B) (rounds n : ℕ) (before : Words) (board : B) (why : Stop) → (let r : Result Served Stop = Err why in IsAttached r → IsSectorSize n) → (let r : Result Served Stop = Err why in IsAttached r → HasShape n before)
-    → before ≡ fresh → ((e : List Received) (f : List SentFrame) → g.has_lists board e f → AreFirst rounds e) → g.tells board → OnWorn why (WearsFrom g (budget_of n) before ⊤ board) → OnWorn why (WearsOut rounds)
+    → before ≡ fresh_words → ((e : List Received) (f : List SentFrame) → g.has_lists board e f → AreFirst rounds e) → g.tells board → OnWorn why (WearsFrom g (budget_of n) before ⊤ board) → OnWorn why (WearsOut rounds)
 wears_out g rounds n before board stop.Words size shape is session told w = tt
 wears_out g rounds n before board stop.Memory size shape is session told w = tt
 wears_out g rounds n before board (stop.Foreign found) size shape is session told w = tt
@@ -126,7 +126,7 @@ wears_out g rounds n before board stop.Flash size shape is session told w = tt
 wears_out g rounds n before board stop.Link size shape is session told w = tt
 wears_out g rounds n before board stop.Worn size shape is session told w =
     let lists = w.lists tt in
-    let m = w.lines told 0 fresh_bytes (subst (λ (v : Words). IsGuardRow v.guard 0) (sym is) fresh_guard) (subst (λ (v : Words). Stands v fresh_bytes) (sym is) fresh_stands) in
+    let m = w.lines told 0 fresh_storage (subst (λ (v : Words). IsGuardRow v.guard 0) (sym is) fresh_guard) (subst (λ (v : Words). Stands v fresh_storage) (sym is) fresh_stands) in
     let same : n ≡ SECTOR_BYTES = fresh_size n before is (size tt) (shape tt) in
     record {
       events = w.events;
@@ -134,7 +134,7 @@ wears_out g rounds n before board stop.Worn size shape is session told w =
       acts = m.acts;
       rests = m.rests;
       reads = m.reads;
-      enough = subst (λ (k : ℕ). GUARD_HALFWORDS ≤ 2 + 2 * length (run_of (budget_of k) fresh_bytes m.acts).issued) same (omega (arith, m.enough));
+      enough = subst (λ (k : ℕ). GUARD_HALFWORDS ≤ 2 + 2 * length (run_of (budget_of k) fresh_storage m.acts).issued) same (omega (arith, m.enough));
     }
 wears_out g rounds n before board (stop.Turns k) size shape is session told w = tt
 wears_out g rounds n before board stop.Input size shape is session told w = tt

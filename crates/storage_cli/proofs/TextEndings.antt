@@ -2,7 +2,7 @@
 use Rattle.std.proofs.Common.{◌≡◌, ◌≢◌, ◌⊎◌, inl, inr, ℕ, List, refl, sym, subst, arith, Result, Ok, Err, Option, Some, ap, true, ◌∙◌}
 use Rattle.std.specs.Prelude.{IfErr, is_err, option_map}
 use Rattle.flash_traits.specs.Words.{Words}
-use Rattle.command_line.specs.Commands.{line_of}
+use Rattle.command_line.specs.Commands.{command_line_of}
 use Rattle.command_line.specs.Lines.{CommandLine}
 use Rattle.command_line.specs.declared.Command.{Command}
 use Rattle.sector_image.specs.FirstBad.{Place, FirstBad}
@@ -22,7 +22,7 @@ use Rattle.storage_cli.specs.declared.printing.Printed.{Printed}
 use Rattle.storage_cli.specs.declared.printing.Printed.TheVariants as printed
 use Rattle.storage_cli.specs.Steps.Stops.{status_of_stop, IsFirst}
 use Rattle.storage_cli.specs.Statuses.{IsCutShort, IsTextCutShort}
-use Rattle.storage_cli.specs.Texts.{Line}
+use Rattle.storage_cli.specs.Texts.{PrintedLine}
 use Rattle.storage_cli.specs.Steps.Printing.{IsTextOf, IsTextStatus, IsTextStop, OnWhole, OnPrefix, status_of_printed, ending_of}
 use Rattle.storage_cli.proofs.Causes.{never_both, first_fault}
 use Rattle.storage_cli.proofs.Outcomes.{Gives}
@@ -160,9 +160,9 @@ module _ (n : ℕ) where
   never_0 (stop.Script line) (inl is) e = omega (arith, is, e)
 
 -- the command that the words are
-pub line_given : (line : Option CommandLine) (r : Option Command) (some command : Command) → option_map line_of r ≡ line → r ≡ Some some → some ≡ command → line ≡ Some (line_of command)
-line_given line r some command value is same = sym value ∙ ap (option_map line_of) is ∙ ap (λ (c : Command). Some (line_of c)) same
+pub line_given : (line : Option CommandLine) (r : Option Command) (some command : Command) → option_map command_line_of r ≡ line → r ≡ Some some → some ≡ command → line ≡ Some (command_line_of command)
+line_given line r some command value is same = sym value ∙ ap (option_map command_line_of) is ∙ ap (λ (c : Command). Some (command_line_of c)) same
 
-pub cut_short_of : (line other : Option CommandLine) (told : Type 0) (w : Words) (old new : List ℕ) → line ≡ other → IsCutShort Line old new ⊎ IsTextCutShort other told w old new → IsCutShort Line old new ⊎ IsTextCutShort line told w old new
+pub cut_short_of : (line other : Option CommandLine) (told : Type 0) (w : Words) (old new : List ℕ) → line ≡ other → IsCutShort PrintedLine old new ⊎ IsTextCutShort other told w old new → IsCutShort PrintedLine old new ⊎ IsTextCutShort line told w old new
 cut_short_of line other told w old new is (inl cut) = inl cut
 cut_short_of line other told w old new is (inr cut) = inr (subst (λ (l : Option CommandLine). IsTextCutShort l told w old new) (sym is) cut)

@@ -9,7 +9,7 @@ use Rattle.replay.specs.declared.Stop.{Stop}
 use Rattle.replay.specs.declared.Stop.TheVariants as stop
 use Rattle.script_replay.specs.Replays.{ReplaysWhole, ReplaysPart}
 use Rattle.storage_cli.specs.declared.status.TheConstants.{ATTACH_FAILED, FOREIGN_WORD, INPUT_FAILED, NO_MEMORY, OUTPUT_FAILED, READ_FAILED, SCRIPT_REFUSED, WORN}
-use Rattle.storage_cli.specs.Texts.{memory_line, foreign_line, read_line, worn_line, input_line, script_line, attach_line, digest_line}
+use Rattle.storage_cli.specs.Texts.{memory_line, foreign_line, read_line, worn_line, input_line, script_line, attach_line, replay_digest_line}
 
 -- the board tells its words, the source the bytes that are left, and the sink those written
 abbrev pub AllTell : {B S K : Type 0} → board.Ghosts B → source.Ghosts S → sink.Ghosts K → B → S → K
@@ -22,7 +22,7 @@ pub record PrintsWhole (budget : ℕ) (before : Words) (rest_before rest_now : L
     (written_before written_now : List ℕ) : Type 0 where
   pub text : List ℕ
   pub digest : List ℕ
-  pub written : written_now ≡ written_before ++ (text ++ digest_line digest)
+  pub written : written_now ≡ written_before ++ (text ++ replay_digest_line digest)
   pub whole : ReplaysWhole budget before rest_before rest_now text digest
 
 -- the status of each stop

@@ -20,8 +20,8 @@ unfoldable pub zeros : ℕ → List ℕ
 zeros size = replicate size 0
 
 -- the storage bytes of a fresh image
-abbrev pub fresh_bytes : List ℕ
-fresh_bytes = zeros storage_bytes
+abbrev pub fresh_storage : List ℕ
+fresh_storage = zeros storage_bytes
 
 -- the generated session of so many rounds, and the acts of its events
 pub record Session (rounds : ℕ) : Type 0 where
@@ -34,7 +34,7 @@ pub record Session (rounds : ℕ) : Type 0 where
 -- The run of a vehicle over these acts, from a fresh image on. The sectors of its device give the
 -- arming budget.
 abbrev pub fresh_run : List (List Act) → Run
-fresh_run acts = run_of (budget_of SECTOR_BYTES) fresh_bytes acts
+fresh_run acts = run_of (budget_of SECTOR_BYTES) fresh_storage acts
 
 -- The first events of the generated session of so many rounds whose run issues so many lines that
 -- the guard row can be used up: its count, which is 0 in a fresh image, rises by two at the opening
@@ -49,7 +49,7 @@ pub record WearsOut (rounds : ℕ) : Type 0 where
 
 -- the digest of the storage bytes with all lines of a run that began with a fresh image
 unfoldable pub digest_after : Run → List ℕ
-digest_after r = sha256 (after fresh_bytes r.issued)
+digest_after r = sha256 (after fresh_storage r.issued)
 
 -- The line of a session: the events before its end, the frames of all answers of the run, all of
 -- its lines with those of boot, and the digest. A count of 64 bits stands still at its end.

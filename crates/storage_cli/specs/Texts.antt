@@ -52,8 +52,8 @@ abbrev pub script_line : ℕ → List ℕ
 script_line line = with_newline (codes "error 11 line " ++ decimal line)
 
 -- the digest of the storage bytes at the end of a replay
-abbrev pub digest_line : List ℕ → List ℕ
-digest_line digest = with_newline (codes "bytes " ++ encode_lower digest)
+abbrev pub replay_digest_line : List ℕ → List ℕ
+replay_digest_line digest = with_newline (codes "bytes " ++ encode_lower digest)
 
 -- how many events came before the end, and how many frames were sent
 abbrev pub served_line : ℕ → ℕ → List ℕ
@@ -70,18 +70,18 @@ session_line rounds events frames lines digest =
     ++ (codes " lines " ++ decimal lines ++ codes " sha256 ") ++ encode_lower digest)
 
 -- the lines that a call may print
-pub data Line : List ℕ → Type 0 where
-  Words : Line words_line
-  Memory : Line memory_line
-  Foreign : (region : Region) (offset word : ℕ) → Line (foreign_line region offset word)
-  Read : Line read_line
-  Flash : Line flash_line
-  Link : Line link_line
-  Worn : Line worn_line
-  Turns : (turns : ℕ) → Line (turns_line turns)
-  Attach : Line attach_line
-  Input : Line input_line
-  Script : (line : ℕ) → Line (script_line line)
-  Served : (events frames : ℕ) → Line (served_line events frames)
+pub data PrintedLine : List ℕ → Type 0 where
+  Words : PrintedLine words_line
+  Memory : PrintedLine memory_line
+  Foreign : (region : Region) (offset word : ℕ) → PrintedLine (foreign_line region offset word)
+  Read : PrintedLine read_line
+  Flash : PrintedLine flash_line
+  Link : PrintedLine link_line
+  Worn : PrintedLine worn_line
+  Turns : (turns : ℕ) → PrintedLine (turns_line turns)
+  Attach : PrintedLine attach_line
+  Input : PrintedLine input_line
+  Script : (line : ℕ) → PrintedLine (script_line line)
+  Served : (events frames : ℕ) → PrintedLine (served_line events frames)
   Session : (rounds events frames lines : ℕ) (digest : List ℕ)
-      → Line (session_line rounds events frames lines digest)
+      → PrintedLine (session_line rounds events frames lines digest)

@@ -13,7 +13,7 @@ ghost use Rattle.vehicle_node.specs.Safe.{Safe};
 ghost use Rattle.image_report.specs.Dumps.{IsDump};
 ghost use Rattle.image_report.specs.Reports.{IsReport};
 ghost use Rattle.image_report.specs.Writes.{WritesOne};
-ghost use Rattle.storage_cli.specs.Texts.{Line, memory_line, turns_line};
+ghost use Rattle.storage_cli.specs.Texts.{PrintedLine, memory_line, turns_line};
 ghost use Rattle.storage_cli.specs.Fresh.{IsFreshImage};
 ghost use Rattle.storage_cli.specs.Statuses.{texts, IsStatusOf, IsServeStatus, IsReplayStatus, IsFormatStatus, IsPastAttach, IsUnasked, OnServe, OnReplay, OnOthers, OnFormat, OnDump, OnReport, OnReading, TellsFaults, PrintsStatus, Prints, IsCutShort, IsTextCutShort, IsForeignStatus, IsWornStatus, IsGenStatus, IsDoneUnlessMemory, NothingFailed, OnGen};
 ghost use Rattle.storage_cli.specs.Replays.{AllTell, PrintsWhole, PrintsPart, PrintsLast, PrintsReplayStatus};
@@ -62,7 +62,7 @@ fn print_stop<K: Sink>(out: &mut K, stop: Stop) -> Status
     ensures output { result.0 ≡ OUTPUT_FAILED → Rose (K.faults out.old) (K.faults out.new) }
     ensures line { result.0 ≢ OUTPUT_FAILED → Prints K.Sink out.old out.new (line_of_stop stop) }
     ensures cut { result.0 ≡ OUTPUT_FAILED → K.tells_written out.new
-        → IsCutShort Line (K.written out.old) (K.written out.new) }
+        → IsCutShort PrintedLine (K.written out.old) (K.written out.new) }
     ensures told { K.tells_written out.new → K.tells_written out.old }
 {
     let line = line_of_stop(stop);
@@ -81,7 +81,7 @@ fn run_serve<B: Board, K: Sink>(
     ensures known { IsServeStatus result.0 }
     ensures ends { Ends B.Board K.Sink board.old board.new out.old out.new result.0 }
     ensures cut_short { result.0 ≡ OUTPUT_FAILED → K.tells_written out.new
-        → IsCutShort Line (K.written out.old) (K.written out.new) }
+        → IsCutShort PrintedLine (K.written out.old) (K.written out.new) }
     ensures memory { result.0 ≡ NO_MEMORY → B.moment board.new ≡ B.moment board.old }
     ensures foreign { result.0 ≡ FOREIGN_WORD → NamesForeign (B.tells board.new) (B.words board.old)
         (Prints K.Sink out.old out.new) }
@@ -186,7 +186,7 @@ fn run_format<B: Board, K: Sink>(
     ensures known { IsFormatStatus result.0 }
     ensures ends { Ends B.Board K.Sink board.old board.new out.old out.new result.0 }
     ensures cut_short { result.0 ≡ OUTPUT_FAILED → K.tells_written out.new
-        → IsCutShort Line (K.written out.old) (K.written out.new) }
+        → IsCutShort PrintedLine (K.written out.old) (K.written out.new) }
     ensures no_others { (result.0 ≢ NO_MEMORY) × (result.0 ≢ FOREIGN_WORD)
         × (result.0 ≢ WORN) }
     ensures formatted { result.0 ≡ DONE → B.tells board.new
@@ -218,7 +218,7 @@ fn run_text<B: Board, K: Sink>(
     ensures known { IsTextStatus text result.0 }
     ensures ends { Ends B.Board K.Sink board.old board.new out.old out.new result.0 }
     ensures cut_short { result.0 ≡ OUTPUT_FAILED → K.tells_written out.new
-        → IsCutShort Line (K.written out.old) (K.written out.new)
+        → IsCutShort PrintedLine (K.written out.old) (K.written out.new)
         ⊎ (B.tells board.new → IsCutShort (IsTextOf text (B.words board.old))
         (K.written out.old) (K.written out.new)) }
     ensures foreign { result.0 ≡ FOREIGN_WORD → NamesForeign (B.tells board.new) (B.words board.old)
@@ -254,7 +254,7 @@ fn run_gen<K: Sink>(alloc: Global, out: &mut K, rounds: u16) -> Status
     ensures output { result.0 ≡ OUTPUT_FAILED → Rose (K.faults out.old) (K.faults out.new) }
     ensures lines { PrintsStatus result.0 (Prints K.Sink out.old out.new) }
     ensures cut_short { result.0 ≡ OUTPUT_FAILED → K.tells_written out.new
-        → IsCutShort Line (K.written out.old) (K.written out.new) }
+        → IsCutShort PrintedLine (K.written out.old) (K.written out.new) }
     ensures generated { result.0 ≡ DONE → PrintsSession rounds (Prints K.Sink out.old out.new) }
     ensures worn { result.0 ≡ WORN → WearsOut rounds }
 {
@@ -322,7 +322,7 @@ pub fn run<'a, B: Board, S: Source, K: Sink>(
         (PrintsReplayStatus result.0 (Prints K.Sink out.old out.new)
         (PrintsLast K.Sink out.old out.new)) }
     ensures cut_short { result.0 ≡ OUTPUT_FAILED → K.tells_written out.new
-        → IsCutShort Line (K.written out.old) (K.written out.new)
+        → IsCutShort PrintedLine (K.written out.old) (K.written out.new)
         ⊎ IsTextCutShort (line_of_words (texts words.entry.now)) (B.tells board.new)
         (B.words board.old) (K.written out.old) (K.written out.new) }
 

@@ -13,7 +13,7 @@ ghost use Rattle.vehicle_node.specs.Standing.{Fits, IsAloneUnlessArmed, StandsFo
 ghost use Rattle.storage_cli.specs.Serving.{HasToVoid, IsLeftAlone};
 ghost use Rattle.storage_cli.specs.Steps.Stops.{IsAttached, IsDone, IsServeStop, IsEventStop, IsFirst, OnForeign, OnMemory, OnWorn, StopsEarly, StopsWorn, StopsByCause};
 ghost use Rattle.storage_cli.specs.Steps.Guard.{WearsSince, WearsFrom};
-ghost use Rattle.storage_cli.specs.Steps.Progress.{IsSafe, Finishes, Completes, IsSafeRun, WasArmedSince};
+ghost use Rattle.storage_cli.specs.Steps.Progress.{IsSafe, FinishesEvents, CompletesServe, IsSafeRun, WasArmedSince};
 
 use crate::stop::{Served, Stop};
 use flash_traits::{Board, DATAGRAM_BYTES};
@@ -26,7 +26,7 @@ fn serve_events<B: Board>(node: &mut Node, board: &mut B, turns: u32) -> Result<
     requires fits { Fits B.Board board.old node.old }
     ensures fits { OnOk result (Fits B.Board board.new node.new) }
     ensures finished { IfOk result (λ end.
-        Finishes B.Board node.old.budget node.old board.old node.new board.new turns end) }
+        FinishesEvents B.Board node.old.budget node.old board.old node.new board.new turns end) }
     ensures losses { OnErr result ((b : List ℕ) (e : List Received) (f : List SentFrame) (m : ℕ)
         → (B.tells board.old → StandsForRun node.old b e f m)
         → Passes B.Board board.old board.new (IsSafe node.old.budget b e f)
@@ -64,7 +64,7 @@ fn serve_image<B: Board>(alloc: Global, board: &mut B, turns: u32) -> Result<Ser
         (IsSafe (budget_of (B.sector_bytes board.old)) b [] [])
         (IsSafe (budget_of (B.sector_bytes board.old)) b [] []) }
     ensures completes { IsDone result
-        → Completes B.Board (budget_of (B.sector_bytes board.old)) (B.words board.old)
+        → CompletesServe B.Board (budget_of (B.sector_bytes board.old)) (B.words board.old)
         (B.has_lists board.old [] []) board.new turns result }
     ensures told { B.tells board.new → B.tells board.old }
     ensures foreign { B.tells board.new → IfErr result (IsFirst (B.words board.old)) }
@@ -116,7 +116,8 @@ pub(crate) fn serve<B: Board>(
         → (o : Outcome) → B.left board.new (B.moment board.old) o
         → IsSafeRun (budget_of (B.sector_bytes board.new)) b o }
     ensures completes { IsDone result
-        → Completes B.Board (budget_of (B.sector_bytes board.new)) (B.words board.old) ⊤ board.new
+        → CompletesServe B.Board (budget_of (B.sector_bytes board.new))
+        (B.words board.old) ⊤ board.new
         turns result }
     ensures foreign { B.tells board.new → IfErr result (IsFirst (B.words board.old)) }
     ensures foreign_where { B.tells board.new → (place : Place) → FirstBad (B.words board.old) place

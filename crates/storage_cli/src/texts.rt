@@ -1,7 +1,7 @@
 //! The lines that a call prints.
 ghost use Rattle.std.specs.Prelude.{◌≡◌, ◌≤◌, ◌+◌, ◌++◌, length};
 ghost use Rattle.printed_text.specs.Pieces.{with_newline};
-ghost use Rattle.storage_cli.specs.Texts.{served_line, session_line, digest_line, turns_line, script_line, foreign_line};
+ghost use Rattle.storage_cli.specs.Texts.{served_line, session_line, replay_digest_line, turns_line, script_line, foreign_line};
 ghost use Rattle.storage_cli.specs.Steps.Stops.{line_of_stop};
 
 use crate::stop::{Foreign, Served, Stop, Summary};
@@ -80,7 +80,7 @@ pub(crate) fn session_line(summary: Summary) -> SessionLine
 
 /// The last line of a `replay`, by the SHA-256 of the storage bytes.
 pub(crate) fn digest_line(digest: [u8; 32]) -> Line
-    ensures { result.items ≡ digest_line digest }
+    ensures { result.items ≡ replay_digest_line digest }
 {
     let mut digits = [0u8; 64];
     match hex::encode_to_slice(digest, &mut digits) {

@@ -10,7 +10,7 @@ use Rattle.storage_lines.specs.declared.areas.Spans.{Spans}
 use Rattle.storage_lines.specs.declared.lines.LineWrite.{LineWrite}
 use Rattle.storage_lines.specs.declared.lines.TheConstants.{STORAGE_BYTES, LINES}
 use Rattle.storage_lines.specs.Areas.{put_in, place_in, place_of, spans_of, size_of_area, logical_of}
-use Rattle.storage_lines.specs.Bytes.{IsBytes, AreBytes, AreInside}
+use Rattle.storage_lines.specs.Bytes.{IsBytes, HaveBytes, AreInside}
 use Rattle.storage_lines.specs.Lines.{after, put_line, line_of, line_change, changes_below, changes}
 use Rattle.storage_lines.specs.Pieces.{Piece, writes_of_piece, writes_of}
 use Rattle.storage_lines.specs.Laws.{PiecesAreLines}
@@ -39,7 +39,7 @@ line_bytes bytes n h i = elim (cases_lt i 8) [
   | inr past ↦ omega (arith, get_or_past (line_of bytes n) i 0 (omega (arith, length-take 8 (drop (8 * n) bytes))))
 ]
 
-pub changes_bytes : (old new : List ℕ) → IsBytes new → AreBytes (changes old new)
+pub changes_bytes : (old new : List ℕ) → IsBytes new → HaveBytes (changes old new)
 changes_bytes old new h = changes_all (λ (write : LineWrite). IsBytes write.bytes) LINES old new (λ k l. line_bytes new k h)
 
 pub set_bytes : (bytes : List ℕ) (k x : ℕ) → x < 256 → IsBytes bytes → IsBytes (set bytes k x)
@@ -65,7 +65,7 @@ put_line_bytes bytes w few h k = elim (cases_lt k (length bytes)) [
   | inr past ↦ omega (arith, get_or_past (put_line bytes w) k 0 (omega (arith, length-put_line bytes w)))
 ]
 
-pub bytes_after : (bytes : List ℕ) (writes : List LineWrite) → IsBytes bytes → AreBytes writes → IsBytes (after bytes writes)
+pub bytes_after : (bytes : List ℕ) (writes : List LineWrite) → IsBytes bytes → HaveBytes writes → IsBytes (after bytes writes)
 bytes_after bytes [] h few = h
 bytes_after bytes (w ∷ writes) h few =
     let P : LineWrite → Type 0 = λ write. IsBytes write.bytes in

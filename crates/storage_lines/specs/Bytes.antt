@@ -8,8 +8,8 @@ abbrev pub IsBytes : List ℕ → Type 0
 IsBytes bytes = (i : ℕ) → slice_index bytes i < 256
 
 -- each of the writes has bytes: so do all that were pushed on a batch
-abbrev pub AreBytes : List LineWrite → Type 0
-AreBytes writes = All (λ write. IsBytes write.bytes) writes
+abbrev pub HaveBytes : List LineWrite → Type 0
+HaveBytes writes = All (λ write. IsBytes write.bytes) writes
 
 -- each of the writes is of a line of the storage
 abbrev pub AreInside : List LineWrite → Type 0

@@ -4,7 +4,7 @@ use Rattle.storage_lines.specs.declared.areas.Area.{Area}
 use Rattle.storage_lines.specs.declared.lines.LineWrite.{LineWrite}
 use Rattle.storage_lines.specs.declared.lines.TheConstants.{STORAGE_BYTES}
 use Rattle.storage_lines.specs.Areas.{size_of_area, place_of, logical_of}
-use Rattle.storage_lines.specs.Bytes.{IsBytes, AreBytes, AreInside}
+use Rattle.storage_lines.specs.Bytes.{IsBytes, HaveBytes, AreInside}
 use Rattle.storage_lines.specs.Lines.{after, changes}
 use Rattle.storage_lines.specs.Pieces.{writes_of_piece}
 
@@ -65,8 +65,8 @@ pub record PiecesAreLines : Type 0 where
   pub inside : (area : Area) (at : ℕ) (new old : List ℕ)
       → AreInside (writes_of_piece area at new old)
   pub bytes : (area : Area) (at : ℕ) (new old : List ℕ)
-      → IsBytes old → IsBytes new → AreBytes (writes_of_piece area at new old)
+      → IsBytes old → IsBytes new → HaveBytes (writes_of_piece area at new old)
   pub bytes_after : (old : List ℕ) (writes : List LineWrite)
-      → IsBytes old → AreBytes writes → IsBytes (after old writes)
+      → IsBytes old → HaveBytes writes → IsBytes (after old writes)
   pub bytes_in_area : (area : Area) (bytes : List ℕ)
       → IsBytes bytes → IsBytes (logical_of area bytes)

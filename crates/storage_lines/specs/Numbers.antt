@@ -2,9 +2,9 @@
 use Rattle.std.specs.Prelude.{ℕ, zero, suc, ℤ, pos, negsuc, neg_ℤ, ◌<◌, ◌+◌, ◌-◌, ◌*◌, ◌/◌, ◌%◌, ◌^◌, List, [], ◌∷◌, nat_lt, if◌then◌else◌}
 
 -- so many bytes of a number
-unfoldable pub bytes_of : ℕ → ℕ → List ℕ
-bytes_of zero n = []
-bytes_of (suc w) n = (n % 256) ∷ bytes_of w (n / 256)
+unfoldable pub bytes_of_number : ℕ → ℕ → List ℕ
+bytes_of_number zero n = []
+bytes_of_number (suc w) n = (n % 256) ∷ bytes_of_number w (n / 256)
 
 -- the number that bytes spell
 unfoldable pub number_of : List ℕ → ℕ

@@ -2,7 +2,7 @@
 
 ghost use Rattle.std.specs.Prelude.{◌≡◌, ◌+◌, ◌*◌, ◌^◌, ◌<◌, ◌≤◌, ◌++◌, length, pos, negsuc, ◌≤ℤ◌};
 ghost use Rattle.arrayvec.specs.ArrayVec.{array_vec_len};
-ghost use Rattle.storage_lines.specs.Numbers.{bytes_of, number_of, signed_of, unsigned, FitsBytes};
+ghost use Rattle.storage_lines.specs.Numbers.{bytes_of_number, number_of, signed_of, unsigned, FitsBytes};
 
 use arrayvec::ArrayVec;
 use byteorder::{ByteOrder, LittleEndian};
@@ -12,7 +12,7 @@ pub fn push_number<const N: usize>(bytes: &mut ArrayVec<u8, N>, width: usize, nu
     requires width { (1 ≤ width) × (width ≤ 4) }
     requires fits { number < 256 ^ width }
     requires room { array_vec_len bytes.old + width ≤ N }
-    ensures items { bytes.new.items ≡ bytes.old.items ++ bytes_of width number }
+    ensures items { bytes.new.items ≡ bytes.old.items ++ bytes_of_number width number }
     ensures len { array_vec_len bytes.new ≡ array_vec_len bytes.old + width }
 {
     let mut field = [0; 4];

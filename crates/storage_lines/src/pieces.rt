@@ -2,7 +2,7 @@
 ghost use Rattle.std.specs.Prelude.{◌≡◌, ◌<◌, ◌≤◌, ◌+◌, ◌*◌, ◌↔◌, ◌++◌, ℕ, List, length, take, drop, slice_index, MatchOption, OnOk, OnErr, IsErrOf};
 ghost use Rattle.arrayvec.specs.ArrayVec.{array_vec_len};
 ghost use Rattle.storage_lines.specs.Areas.{IsAscending, put_in, total_size, size_of_area, logical_of};
-ghost use Rattle.storage_lines.specs.Bytes.{AreBytes, AreInside};
+ghost use Rattle.storage_lines.specs.Bytes.{HaveBytes, AreInside};
 ghost use Rattle.storage_lines.specs.Lines.{after, line_of, changes};
 ghost use Rattle.storage_lines.specs.Pieces.{writes_of_piece};
 
@@ -132,7 +132,7 @@ pub fn split(
     // What a batch keeps from push to push, whatever is answered.
     ensures few { array_vec_len out.new ≤ array_vec_len out.old + length bytes.now }
     ensures inside { AreInside out.old.items → AreInside out.new.items }
-    ensures bytes { AreBytes out.old.items → AreBytes out.new.items }
+    ensures bytes { HaveBytes out.old.items → HaveBytes out.new.items }
 {
     let spans = spans_of(area);
     let start = at as usize;

@@ -18,7 +18,7 @@ use Rattle.mission_service.specs.declared.uploads.Target.{Target}
 use Rattle.mission_service.specs.Requests as asking
 use Rattle.mission_service.specs.Service as missions
 use Rattle.mission_service.specs.Replies as answering
-use Rattle.vehicle_core.specs.Orders.{Need, Nothing, VehicleCommand, command_of}
+use Rattle.vehicle_core.specs.Orders.{Need, Nothing, VehicleCommand, vehicle_command_of}
 use Rattle.vehicle_core.specs.Inside.{stations_of, view_of}
 use Rattle.vehicle_core.specs.Vehicle.{Vehicle, StationState, Asked, Parameters, Missions, one_of, orders_for, Alive, tells_value, tells_of_missions, is_heard, is_armed, speaks_v2, hears, allowed_of, issues}
 use Rattle.vehicle_core.specs.Acts.{Did, heard_as, Said, Beat, Stream, did, nothing, by_parameters, by_missions, beaten, ordered, asked_of, lines_counted}
@@ -69,7 +69,7 @@ one_of-none None = refl
 one_of-none (Some a) = refl
 
 -- a message without a command asks one of the protocols
-pub no_command : (sender : Target) (message : Message) (a b : Option Asked) → command_of message ≡ None → one_of a (one_of b (option_map (orders_for sender) (command_of message))) ≡ one_of a b
+pub no_command : (sender : Target) (message : Message) (a b : Option Asked) → vehicle_command_of message ≡ None → one_of a (one_of b (option_map (orders_for sender) (vehicle_command_of message))) ≡ one_of a b
 no_command sender message a b none =
     ap (λ (o : Option VehicleCommand). one_of a (one_of b (option_map (orders_for sender) o))) none ∙ ap (one_of a) (one_of-none b)
 

@@ -38,12 +38,13 @@ order_of number param1 =
     else Refuse)
 
 -- the command of a message for the vehicle, or none
-abbrev pub command_of : Message → Option VehicleCommand
-command_of (CommandLong param1 param2 param3 param4 param5 param6 param7 number system component
+abbrev pub vehicle_command_of : Message → Option VehicleCommand
+vehicle_command_of (CommandLong param1 param2 param3 param4 param5 param6 param7 number system
+    component
     confirmation) =
     if is_for system component
     then Some (record { number = number; order = order_of number param1 }) else None
-command_of _ = None
+vehicle_command_of _ = None
 
 -- MAV_RESULT: how an order is answered
 abbrev pub mav_result_accepted : ℕ

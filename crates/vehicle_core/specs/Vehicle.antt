@@ -15,7 +15,7 @@ use Rattle.mission_service.specs.Requests as missions
 use Rattle.mission_service.specs.Service as service
 use Rattle.storage_lines.specs.declared.lines.LineWrite.{LineWrite}
 use Rattle.vehicle_core.specs.Orders.{Order, preflight_storage, arm_disarm, mav_result_accepted}
-use Rattle.vehicle_core.specs.Orders.{VehicleCommand, command_of}
+use Rattle.vehicle_core.specs.Orders.{VehicleCommand, vehicle_command_of}
 
 -- whether the station was heard, and whether its last right frame was of version 2
 pub record StationState : Type 0 where
@@ -92,7 +92,7 @@ Asks sender message asked =
     × (asking : Option missions.Asking) × missions.Asks message asking
     × (asked ≡ one_of (option_map Parameters request)
     (one_of (option_map (Missions sender) asking)
-    (option_map (orders_for sender) (command_of message))))
+    (option_map (orders_for sender) (vehicle_command_of message))))
 
 -- What the vehicle tells: a parameter's value; that it is there, and whether it is armed; something
 -- of the missions; or how a command of this target is answered.

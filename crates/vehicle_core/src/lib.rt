@@ -160,7 +160,7 @@ impl Core {
         requires size { length current.now ≡ STORAGE_BYTES }
         requires index { IsIndexed current.now self.old }
         requires station { from.station < STATIONS }
-        requires order { orders.command_of message.now ≡ None }
+        requires order { orders.vehicle_command_of message.now ≡ None }
         requires batch { batch.old.items ≡ [] }
         requires replies { replies.old.items ≡ [] }
         ensures answered { (asked : Option Asked) × Asks (target_of from) message.now asked ×

@@ -5,7 +5,7 @@ ghost use Rattle.param_service.specs.Requests as parameters;
 ghost use Rattle.mission_service.specs.Requests as missions;
 ghost use Rattle.mission_service.specs.Replies.{target_of};
 ghost use Rattle.vehicle_core.specs.Vehicle.{Acknowledged};
-ghost use Rattle.vehicle_core.specs.Orders.{order_of, command_of, result_of, need_of};
+ghost use Rattle.vehicle_core.specs.Orders.{order_of, vehicle_command_of, result_of, need_of};
 ghost use Rattle.vehicle_core.specs.Replies.{Tells};
 
 use mav_messages::{Message, Sender};
@@ -72,7 +72,7 @@ fn order_of(number: u16, param1: u32) -> Order
 
 /// The command of a message for the vehicle.
 pub fn command_of(message: &Message) -> Option<VehicleCommand>
-    ensures command { result ≡ command_of message.now }
+    ensures command { result ≡ vehicle_command_of message.now }
     ensures parameters { IsSome result → parameters.Asks message.now None }
     ensures missions { IsSome result → missions.Asks message.now None }
 {

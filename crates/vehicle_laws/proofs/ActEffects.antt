@@ -18,7 +18,7 @@ use Rattle.param_service.specs.Service.{is_total, writes_for, set_writes, stream
 use Rattle.mission_commands.specs.declared.commands.Command.{Command}
 use Rattle.mission_records.specs.declared.reading.TheConstants.{CAPACITY}
 use Rattle.mission_records.specs.Mission.{total_row, begin_writes}
-use Rattle.mission_records.specs.Steps.{IsFormatted, Keeps}
+use Rattle.mission_records.specs.Steps.{IsFormatted, KeepsMission}
 use Rattle.mission_records.proofs.Totals.{total_there, sets_no_mission}
 use Rattle.mission_service.specs.declared.requests.MissionType.{MissionType}
 use Rattle.mission_service.specs.declared.requests.MissionType.TheVariants.{Mission}
@@ -39,11 +39,11 @@ use Rattle.vehicle_laws.proofs.Keeping.{keeps_none, keeps_empties}
 use Rattle.vehicle_laws.proofs.Effects.{Begun, NotBegun, is_next, first_next, Effect, cond_none, unchanged, effect}
 
 -- a row that is set keeps the mission
-row_keeps : (bytes : List ℕ) (index number : ℕ) (row : Var) → IsFormatted bytes → slice_get vehicle_rows index ≡ Some row → IsKept row.kind number → Keeps bytes (writes_for bytes row number)
+row_keeps : (bytes : List ℕ) (index number : ℕ) (row : Var) → IsFormatted bytes → slice_get vehicle_rows index ≡ Some row → IsKept row.kind number → KeepsMission bytes (writes_for bytes row number)
 row_keeps bytes index number row f is kept =
     let full = is_full (records_in_storage bytes) row number in
     let ws = writes_of bytes (set_pieces vehicle_rows (records_in_storage bytes) row number) in
-    cond_both (is_total row || full) [] ws (Keeps bytes)
+    cond_both (is_total row || full) [] ws (KeepsMission bytes)
     (λ t. keeps_none bytes f)
     (λ t. sets_no_mission bytes index row number f
     (λ e.
@@ -54,15 +54,15 @@ row_keeps bytes index number row f is kept =
     is kept
     (λ g. let clash : true ≡ false = sym (or_right (is_total row) full (g)) ∙ t in cc))
 
-setting_keeps : (bytes : List ℕ) (index number : ℕ) (o : Option Var) → IsFormatted bytes → slice_get vehicle_rows index ≡ o → IfSome o (λ row. IsKept row.kind number) → Keeps bytes (option_map_or (λ row. writes_for bytes row number) o [])
+setting_keeps : (bytes : List ℕ) (index number : ℕ) (o : Option Var) → IsFormatted bytes → slice_get vehicle_rows index ≡ o → IfSome o (λ row. IsKept row.kind number) → KeepsMission bytes (option_map_or (λ row. writes_for bytes row number) o [])
 setting_keeps bytes index number None f is kept = keeps_none bytes f
 setting_keeps bytes index number (Some row) f is kept = row_keeps bytes index number row f is kept
 
 -- lines that are allowed
-allowed_keeps : (bytes : List ℕ) (allowed : Option ℕ) (ws : List LineWrite) → IsFormatted bytes → Keeps bytes ws → Keeps bytes (allowed_writes allowed ws)
-allowed_keeps bytes allowed ws f keeps = cond_both (exceeds allowed ws) [] ws (Keeps bytes) (λ t. keeps_none bytes f) (λ t. keeps)
+allowed_keeps : (bytes : List ℕ) (allowed : Option ℕ) (ws : List LineWrite) → IsFormatted bytes → KeepsMission bytes ws → KeepsMission bytes (allowed_writes allowed ws)
+allowed_keeps bytes allowed ws f keeps = cond_both (exceeds allowed ws) [] ws (KeepsMission bytes) (λ t. keeps_none bytes f) (λ t. keeps)
 
-parameters_keep : (bytes : List ℕ) (allowed : Option ℕ) (next_rows : List ℕ) (station : ℕ) (request : parameters.Request) → IsFormatted bytes → SettingFits request → Keeps bytes (parameter_service.answered bytes allowed next_rows station request).writes
+parameters_keep : (bytes : List ℕ) (allowed : Option ℕ) (next_rows : List ℕ) (station : ℕ) (request : parameters.Request) → IsFormatted bytes → SettingFits request → KeepsMission bytes (parameter_service.answered bytes allowed next_rows station request).writes
 parameters_keep bytes allowed next_rows station (Show index) f fits = keeps_none bytes f
 parameters_keep bytes allowed next_rows station ShowAll f fits = keeps_none bytes f
 parameters_keep bytes allowed next_rows station (Set index None) f fits = allowed_keeps bytes allowed [] f (keeps_none bytes f)
@@ -121,7 +121,7 @@ abbrev ActEffect : ℕ → List ℕ → Run → Act → Did → Type 0
 ActEffect budget b r act d = Effect (ActBegun budget b r act (did_in budget b r act).writes d.vehicle.missions.mission) (OpensNone budget Mission b r act) (after b r.issued) (missions_at r) (λ u. command_given u.owner u.expected act) d.writes d.vehicle.missions.mission
 
 -- nothing is given
-silent : (budget : ℕ) (b : List ℕ) (r : Run) (s : ℕ) (v : Bool) (asked : Option Asked) (ws : List LineWrite) → Keeps (after b r.issued) ws → ((u : Upload) → command_given u.owner u.expected (Said s (heard_as v asked)) ≡ None) → OpensNone budget Mission b r (Said s (heard_as v asked))
+silent : (budget : ℕ) (b : List ℕ) (r : Run) (s : ℕ) (v : Bool) (asked : Option Asked) (ws : List LineWrite) → KeepsMission (after b r.issued) ws → ((u : Upload) → command_given u.owner u.expected (Said s (heard_as v asked)) ≡ None) → OpensNone budget Mission b r (Said s (heard_as v asked))
     → Effect (ActBegun budget b r (Said s (heard_as v asked)) (did_in budget b r (Said s (heard_as v asked))).writes (missions_at r)) (OpensNone budget Mission b r (Said s (heard_as v asked))) (after b r.issued) (missions_at r) (λ u. command_given u.owner u.expected (Said s (heard_as v asked))) ws (missions_at r)
 silent budget b r s v asked ws k n alone = unchanged _ _ (after b r.issued) (missions_at r) (λ u. command_given u.owner u.expected (Said s (heard_as v asked))) ws (missions_at r) refl k n alone
 

@@ -42,7 +42,7 @@ use Rattle.mission_records.proofs.Commands.{empty_mission}
 use Rattle.fence_records.specs.Lists.{fence_of}
 use Rattle.vehicle_node.specs.Runs.{convert_step, boot_steps, boot, start}
 use Rattle.vehicle_node.proofs.BootLaws as node
-use Rattle.vehicle_laws.specs.Laws.{StartsFormatted, BootFormats}
+use Rattle.vehicle_laws.specs.Laws.{StartsFormatted, BootFormatsInSteps}
 use Rattle.vehicle_laws.proofs.FenceSteps.{same_fence}
 
 -- What each rule keeps holds after each prefix of the lines of several rules.
@@ -165,5 +165,5 @@ boot_fence b size low =
     boot_prefix (λ now. fence_of now ≡ fence_of b) Any (λ rule old now q p adds. same_fence now old (adds.areas Fence fence_not_param) ∙ p) any_rules b size low refl
     (λ other j h. same_fence (after b (take j (writes_of b formatting))) b ((formats b size).areas j h Fence fence_not_param))
 
-pub boot_formats : BootFormats
+pub boot_formats : BootFormatsInSteps
 boot_formats = record { formatted = boot_formatted; in_one_line = boot_in_one_line; unformatted = boot_unformatted; bytes = boot_bytes; mission = boot_mission; fence = boot_fence }

@@ -10,7 +10,7 @@ use Rattle.param_records.specs.Steps.{records_in_storage}
 use Rattle.mission_commands.specs.declared.commands.Command.{Command}
 use Rattle.mission_records.specs.declared.reading.TheConstants.{CAPACITY}
 use Rattle.mission_records.specs.Mission.{total_row, total_writes, begin_writes, put_writes}
-use Rattle.mission_records.specs.Steps.{IsFormatted, Keeps}
+use Rattle.mission_records.specs.Steps.{IsFormatted, KeepsMission}
 use Rattle.mission_commands.specs.Storable.{IsStorable}
 use Rattle.mission_records.proofs.Totals.{clears}
 use Rattle.fence_records.specs.declared.items.FenceItem.{FenceItem}
@@ -40,7 +40,7 @@ pub record Off (bytes : List ℕ) (writes : List LineWrite) (now : Uploads) : Ty
 
 -- The open upload stays, and the mission is kept.
 pub record Stays (bytes : List ℕ) (u : Upload) (given : Option Command) (writes : List LineWrite) (now : Uploads) : Type 0 where
-  pub keeps : Keeps bytes writes
+  pub keeps : KeepsMission bytes writes
   pub none : given ≡ None
   pub upload : Upload
   pub now_is : now ≡ Open upload
@@ -98,7 +98,7 @@ not_begun : (from : From) (request : Request) (told : List Told) → first_next 
 not_begun from request told h count e t = let clash : false ≡ true = sym h ∙ t in cc
 
 -- nothing changes but the fence
-pub unchanged : (B N : Type 0) (bytes : List ℕ) (before : Uploads) (given : Upload → Option Command) (ws : List LineWrite) (now : Uploads) → now ≡ before → Keeps bytes ws → ((u : Upload) → given u ≡ None) → N → Effect B N bytes before given ws now
+pub unchanged : (B N : Type 0) (bytes : List ℕ) (before : Uploads) (given : Upload → Option Command) (ws : List LineWrite) (now : Uploads) → now ≡ before → KeepsMission bytes ws → ((u : Upload) → given u ≡ None) → N → Effect B N bytes before given ws now
 unchanged B N bytes (Open u) given ws now e k n alone = inr (alone, inr (u, refl, inl (record { keeps = k; none = n u; upload = u; now_is = e; owner = refl; count = refl; expected = refl })))
 unchanged B N bytes Quiet given ws now e k n alone = inr (alone, inl (record { empties = keeps_empties bytes ws k; closed = λ u h. cc }))
 unchanged B N bytes (Finished s l) given ws now e k n alone = inr (alone, inl (record { empties = keeps_empties bytes ws k; closed = λ u h. cc }))
@@ -127,7 +127,7 @@ refused bytes before fence from request content f n a = unchanged _ _ bytes befo
 
 -- Clearing types keeps the mission, or empties it where it is one of them.
 abbrev Cleared : List ℕ → Missions → List LineWrite → Missions → Type 0
-Cleared bytes m ws now = (Keeps bytes ws × (now.mission ≡ m.mission)) ⊎ (Empties bytes ws × (now.mission ≡ Quiet))
+Cleared bytes m ws now = (KeepsMission bytes ws × (now.mission ≡ m.mission)) ⊎ (Empties bytes ws × (now.mission ≡ Quiet))
 
 clears_types : (types : List MissionType) (bytes : List ℕ) (m : Missions) → IsFormatted bytes → Cleared bytes m (clear_writes bytes types) (all_quiet m types)
 unfolding clear_writes
@@ -141,7 +141,7 @@ clears_types (Mission ∷ ts) bytes m f =
       | inr e ↦ inr (empties_then bytes w1 (clear_writes (after bytes w1) ts) x e.0, e.1)
     ]
 clears_types (Fence ∷ ts) bytes m f =
-    let w1 = fences.clear_writes bytes in
+    let w1 = fences.clear_fence_writes bytes in
     let x = clear_keeps bytes f in
     let g : IsFormatted (after bytes w1) = formatted_then bytes w1 x.stays in
     elim (clears_types ts (after bytes w1) (with_uploads Fence m Quiet) g) [
@@ -293,7 +293,7 @@ effect_of_item bytes allowed (Open u) fence from seq stored f fits =
     (λ t. item_taken bytes allowed u fence from seq stored f fits (not-false (u.owner == from.station) own) (not-false (seq == u.expected) t))))
 
 -- an item of a fence
-fence_taken : (bytes : List ℕ) (allowed : Option ℕ) (before : Uploads) (w : Upload) (from : From) (request : Request) (kept : List FenceItem) (r : Result (List LineWrite) ℕ) → IsFormatted bytes → GivesNone request → ((ws : List LineWrite) → r ≡ Ok ws → Keeps bytes ws) → ((content : Content) → NotBegun from request (tells from content))
+fence_taken : (bytes : List ℕ) (allowed : Option ℕ) (before : Uploads) (w : Upload) (from : From) (request : Request) (kept : List FenceItem) (r : Result (List LineWrite) ℕ) → IsFormatted bytes → GivesNone request → ((ws : List LineWrite) → r ≡ Ok ws → KeepsMission bytes ws) → ((content : Content) → NotBegun from request (tells from content))
     → E bytes before from request (took (both before (Open w)) from Fence w (if_allowed allowed kept r))
 fence_taken bytes allowed before w from request kept (Err e) f n keeps alone = refused bytes before Quiet from request (Answer e) f n refl
 fence_taken bytes allowed before w from request kept (Ok ws) f n keeps alone =

@@ -11,7 +11,7 @@ use Rattle.param_records.specs.Changes.{IsFull, is_full}
 use Rattle.param_records.specs.Steps.{records_in_storage}
 use Rattle.mission_commands.specs.declared.commands.Command.{Command}
 use Rattle.mission_records.specs.Mission.{total_row, mission_of, put_writes}
-use Rattle.mission_records.specs.Steps.{Puts}
+use Rattle.mission_records.specs.Steps.{PutsCommand}
 use Rattle.mission_commands.specs.Storable.{IsStorable}
 use Rattle.mission_records.proofs.Puts.{puts}
 use Rattle.mission_service.specs.declared.requests.MissionType.{MissionType}
@@ -27,7 +27,7 @@ use Rattle.mission_service.specs.Service.{Told, From, Taken as TakenItem, tells,
 use Rattle.vehicle_core.specs.Vehicle.{Asked, Missions, tells_of_missions, allowed_of, Content as VehicleContent, Parameter, Alive, OfMissions, Acknowledged, Told as VehicleTold}
 use Rattle.vehicle_core.specs.Acts.{Act, Said, did}
 use Rattle.vehicle_node.specs.Runs.{Run, did_in}
-use Rattle.vehicle_laws.specs.Uploads.{run_over, says, Opens, OpensNone, GoesOn, commands_from, command_in}
+use Rattle.vehicle_laws.specs.Uploads.{run_over, says, Opens, OpensNone, UploadGoesOn, commands_from, command_in}
 use Rattle.mission_service.specs.Asked.{RequestFits, GivenFits}
 use Rattle.vehicle_laws.specs.Fitting.{ActFits, AllFit}
 use Rattle.vehicle_laws.specs.Laws.{LawOfUploads}
@@ -190,16 +190,16 @@ law_of_uploads budget b acts last u f fit ends =
     let long : length (mission_of bytes) ≡ u.expected = ap (λ (l : List Command). length l) o.mission ∙ sym expected in
     let ws = put_writes bytes u.expected c in
     let w0 = puts bytes c o.held.formatted o.versioned storable (omega (arith, o.below, o.few, long, expected)) (λ g. lp.room (subst (λ (n : ℕ). IsFull (records_in_storage bytes) total_row (n + 1)) long g)) in
-    let w : Puts c bytes ws = subst (λ (n : ℕ). Puts c bytes (put_writes bytes n c)) long w0 in
+    let w : PutsCommand c bytes ws = subst (λ (n : ℕ). PutsCommand c bytes (put_writes bytes n c)) long w0 in
     let end : after b (run_over budget b (acts ++ last ∷ [])).issued ≡ after bytes ws =
     ap (λ (r : Run). after b r.issued) (run_snoc budget b acts last)
     ∙ after-append b s.issued (did_in budget b s last).writes
     ∙ ap (λ (act : Act). after bytes (did_in budget b s act).writes) is
     ∙ ap (λ (l : List LineWrite). after bytes l) lp.writes_are in
     let alone = gives_not_opens budget Mission b s last u.owner ends.v2 ends.sender ends.number ends.seq ends.given ends.is in
-    let goes : GoesOn budget Mission b (run_over budget b (x.before ++ x.opening ∷ [])) (x.since ++ last ∷ []) =
+    let goes : UploadGoesOn budget Mission b (run_over budget b (x.before ++ x.opening ∷ [])) (x.since ++ last ∷ []) =
     goes_snoc budget Mission b (run_over budget b (x.before ++ x.opening ∷ [])) x.since last x.goes
-    (subst (λ (r : Run). GoesOn budget Mission b r (last ∷ [])) (sym (run_since budget b acts x.before x.since x.opening x.split)) ((u, ends.was_open), alone, tt)) in
+    (subst (λ (r : Run). UploadGoesOn budget Mission b r (last ∷ [])) (sym (run_since budget b acts x.before x.since x.opening x.split)) ((u, ends.was_open), alone, tt)) in
     let all_fit : AllFit (x.before ++ x.opening ∷ (x.since ++ last ∷ [])) =
     subst AllFit (ap (λ (l : List Act). l ++ last ∷ []) x.split ∙ append_assoc x.before (x.opening ∷ x.since) (last ∷ [])) fit in
     let last_one : u.expected + 1 ≡ u.count = eqb-true (u.expected + 1) u.count lp.last in

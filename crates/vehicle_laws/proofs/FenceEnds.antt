@@ -23,7 +23,7 @@ use Rattle.mission_service.specs.Service.{Told, From, Taken as TakenItem, tells,
 use Rattle.vehicle_core.specs.Vehicle.{allowed_of}
 use Rattle.vehicle_core.specs.Acts.{Act, did}
 use Rattle.vehicle_node.specs.Runs.{Run, did_in}
-use Rattle.vehicle_laws.specs.Uploads.{run_over, says, Opens, GoesOn, fence_items_from, fence_item_in}
+use Rattle.vehicle_laws.specs.Uploads.{run_over, says, Opens, UploadGoesOn, fence_items_from, fence_item_in}
 use Rattle.mission_service.specs.Asked.{RequestFits, GivenFits}
 use Rattle.vehicle_laws.specs.Fitting.{ActFits, AllFit}
 use Rattle.vehicle_laws.specs.Laws.{LawOfFenceUploads}
@@ -159,9 +159,9 @@ law_of_fence_uploads budget b acts last u size fit ends =
     ∙ after-append b s.issued (did_in budget b s last).writes
     ∙ ap (λ (act : Act). after bytes (did_in budget b s act).writes) is in
     let alone = gives_not_opens budget Fence b s last u.owner ends.v2 ends.sender ends.number ends.seq ends.given ends.is in
-    let goes : GoesOn budget Fence b (run_over budget b (x.before ++ x.opening ∷ [])) (x.since ++ last ∷ []) =
+    let goes : UploadGoesOn budget Fence b (run_over budget b (x.before ++ x.opening ∷ [])) (x.since ++ last ∷ []) =
     goes_snoc budget Fence b (run_over budget b (x.before ++ x.opening ∷ [])) x.since last x.goes
-    (subst (λ (r : Run). GoesOn budget Fence b r (last ∷ [])) (sym (run_since budget b acts x.before x.since x.opening x.split)) ((u, ends.was_open), alone, tt)) in
+    (subst (λ (r : Run). UploadGoesOn budget Fence b r (last ∷ [])) (sym (run_since budget b acts x.before x.since x.opening x.split)) ((u, ends.was_open), alone, tt)) in
     let all_fit : AllFit (x.before ++ x.opening ∷ (x.since ++ last ∷ [])) =
     subst AllFit (ap (λ (l : List Act). l ++ last ∷ []) x.split ∙ append_assoc x.before (x.opening ∷ x.since) (last ∷ [])) fit in
     let last_one : u.expected + 1 ≡ u.count = eqb-true (u.expected + 1) u.count lp.last in

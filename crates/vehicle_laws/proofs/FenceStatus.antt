@@ -17,7 +17,7 @@ use Rattle.mission_service.specs.declared.replies.Content.TheVariants.{Next, Ans
 use Rattle.vehicle_core.specs.Vehicle.{Vehicle, Asked, Parameters, Missions, Orders, is_heard, tells_of_missions, allowed_of}
 use Rattle.vehicle_core.specs.Acts.{Act, Said, Beat, Stream, Did, did, heard_as, nothing, by_parameters, beaten}
 use Rattle.vehicle_node.specs.Runs.{Run, did_in, act_done, start}
-use Rattle.vehicle_laws.specs.Uploads.{run_over, uploads_at, says, Opens, OpensNone, GoesOn, fence_items_from, fence_item_in, said_in}
+use Rattle.vehicle_laws.specs.Uploads.{run_over, uploads_at, says, Opens, OpensNone, UploadGoesOn, fence_items_from, fence_item_in, said_in}
 use Rattle.vehicle_laws.specs.Fitting.{AskedFits, ActFits, AllFit}
 use Rattle.vehicle_laws.proofs.Effects.{cond_none}
 use Rattle.vehicle_laws.proofs.ActEffects.{asked_of, from_station, not_opened, vehicle_after}
@@ -177,7 +177,7 @@ pub record OpenSince (budget : ℕ) (b : List ℕ) (done : List Act) : Type 0 wh
   pub count : ℕ
   pub split : done ≡ before ++ opening ∷ since
   pub opens : Opens budget Fence b (run_over budget b before) opening station count
-  pub goes : GoesOn budget Fence b (run_over budget b (before ++ opening ∷ [])) since
+  pub goes : UploadGoesOn budget Fence b (run_over budget b (before ++ opening ∷ [])) since
   pub ongoing : Ongoing (run_over budget b done) station count (fence_items_from station 0 since)
 
 abbrev pub Status : ℕ → List ℕ → List Act → Type 0
@@ -221,7 +221,7 @@ status_step budget b done act fits st =
               split = ap (λ (l : List Act). l ++ act ∷ []) x.split ∙ append_assoc x.before (x.opening ∷ x.since) (act ∷ []);
               opens = x.opens;
               goes = goes_snoc budget Fence b (run_over budget b (x.before ++ x.opening ∷ [])) x.since act x.goes
-                  (subst (λ (r : Run). GoesOn budget Fence b r (act ∷ [])) (sym (run_since budget b done x.before x.since x.opening x.split)) (is_open, y.0, tt));
+                  (subst (λ (r : Run). UploadGoesOn budget Fence b r (act ∷ [])) (sym (run_since budget b done x.before x.since x.opening x.split)) (is_open, y.0, tt));
               ongoing = subst (λ (r : Run). Ongoing r x.station x.count (fence_items_from x.station 0 (x.since ++ act ∷ []))) (sym e) (subst (Ongoing t x.station x.count) more on);
             })
       ]

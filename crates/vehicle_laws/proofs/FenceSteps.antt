@@ -23,7 +23,7 @@ use Rattle.mission_records.proofs.Commands.{length-command}
 use Rattle.mission_records.proofs.Totals.{all_writes, Setting, sets, total_setting, zero_fits, clears}
 use Rattle.fence_records.specs.declared.items.FenceItem.{FenceItem}
 use Rattle.fence_records.specs.Write.{fence_area}
-use Rattle.fence_records.specs.Fence.{items_of, version as version_of_fence}
+use Rattle.fence_records.specs.Fence.{items_of, fence_version as version_of_fence}
 use Rattle.std.specs.Str.{bytes_eq}
 use Rattle.std.specs.List.{flat_map}
 use Rattle.param_records.specs.Records.{Record, records_of}
@@ -131,7 +131,7 @@ clears_types q (Mission ∷ ts) bytes f =
     old_or_none_then bytes w1 (clear_writes (after bytes w1) ts) (left_old bytes w1 (left_row bytes TOTAL_INDEX total_row 0 (total_setting bytes 0 f (omega arith) (zero_fits (records_in_storage bytes)))))
     (clears_types q ts (after bytes w1) (formatted_then bytes w1 (clears bytes f).stays))
 clears_types q (Fence ∷ ts) bytes f =
-    let w1 = fences.clear_writes bytes in
+    let w1 = fences.clear_fence_writes bytes in
     old_or_none_then bytes w1 (clear_writes (after bytes w1) ts) (λ j h. q.clears bytes j f.size)
     (clears_types q ts (after bytes w1) (formatted_then bytes w1 (clear_keeps bytes f).stays))
 

@@ -14,10 +14,10 @@ use Rattle.storage_lines.proofs.AreaLemmas.{length-put_in}
 use Rattle.storage_lines.proofs.ApartLemmas.{whole_changes}
 use Rattle.storage_lines.proofs.PieceLemmas.{pieces_in_steps}
 use Rattle.fence_records.specs.declared.items.FenceItem.{FenceItem}
-use Rattle.fence_records.specs.Fence.{Figure, version}
+use Rattle.fence_records.specs.Fence.{Figure, fence_version}
 use Rattle.fence_records.specs.Write.{encoded, without_fence, with_records, fence_writes}
-use Rattle.fence_records.specs.Lists.{clear_writes, replace_writes, figure_writes, figures_of, is_return_point}
-use Rattle.mission_records.specs.Steps.{IsFormatted, Keeps, IsBeside}
+use Rattle.fence_records.specs.Lists.{clear_fence_writes, replace_writes, figure_writes, figures_of, is_return_point}
+use Rattle.mission_records.specs.Steps.{IsFormatted, KeepsMission, IsBeside}
 use Rattle.storage_lines.proofs.PrefixLemmas.{prefix_append}
 use Rattle.storage_lines.proofs.LineLemmas.{length-after}
 use Rattle.mission_records.proofs.Totals.{all_writes}
@@ -41,8 +41,8 @@ piece_beside at new bytes size fits j h = let steps = pieces_in_steps in record 
 }
 
 -- the lines that clear a fence leave the parameters and the mission
-pub clear_beside : (bytes : List ℕ) → length bytes ≡ STORAGE_BYTES → EachPrefix (IsBeside bytes) bytes (clear_writes bytes)
-clear_beside bytes size = piece_beside 0 (version ++ 99 ∷ []) bytes size (omega arith)
+pub clear_beside : (bytes : List ℕ) → length bytes ≡ STORAGE_BYTES → EachPrefix (IsBeside bytes) bytes (clear_fence_writes bytes)
+clear_beside bytes size = piece_beside 0 (fence_version ++ 99 ∷ []) bytes size (omega arith)
 
 -- the bytes after the piece are those that were meant
 put_there : (at : ℕ) (new bytes : List ℕ) → length bytes ≡ STORAGE_BYTES → after bytes (writes_of_piece area.Fence at new bytes) ≡ put_in (spans_of area.Fence) at new bytes
@@ -50,10 +50,10 @@ put_there at new bytes size = whole_changes bytes (put_in (spans_of area.Fence) 
 
 fence_beside : (new bytes : List ℕ) → length bytes ≡ STORAGE_BYTES → length new ≤ 416 → EachPrefix (IsBeside bytes) bytes (fence_writes new bytes)
 fence_beside new bytes size fits =
-    let w1 = writes_of_piece area.Fence 0 (version ++ 99 ∷ []) bytes in
+    let w1 = writes_of_piece area.Fence 0 (fence_version ++ 99 ∷ []) bytes in
     let c1 = without_fence bytes in
-    let k1 = piece_beside 0 (version ++ 99 ∷ []) bytes size (omega arith) in
-    let e1 : after bytes w1 ≡ c1 = put_there 0 (version ++ 99 ∷ []) bytes size in
+    let k1 = piece_beside 0 (fence_version ++ 99 ∷ []) bytes size (omega arith) in
+    let e1 : after bytes w1 ≡ c1 = put_there 0 (fence_version ++ 99 ∷ []) bytes size in
     let size1 : length c1 ≡ STORAGE_BYTES = ap (λ (l : List ℕ). length l) (sym e1) ∙ length-after bytes w1 ∙ size in
     let w2 = writes_of_piece area.Fence 8 (drop 8 new) c1 in
     let c2 = with_records new bytes in
@@ -78,8 +78,8 @@ replace_beside bytes items size ws e = cond_both (nat_lt 1 (count_by is_return_p
     (λ t h. figures_beside bytes (figures_of (length items) items) size ws h)
     e
 
-pub clear_keeps : (bytes : List ℕ) → IsFormatted bytes → Keeps bytes (clear_writes bytes)
-clear_keeps bytes f = others_keep bytes (clear_writes bytes) f (clear_beside bytes f.size)
+pub clear_keeps : (bytes : List ℕ) → IsFormatted bytes → KeepsMission bytes (clear_fence_writes bytes)
+clear_keeps bytes f = others_keep bytes (clear_fence_writes bytes) f (clear_beside bytes f.size)
 
-pub replace_keeps : (bytes : List ℕ) (items : List FenceItem) → IsFormatted bytes → (ws : List LineWrite) → replace_writes bytes items ≡ Ok ws → Keeps bytes ws
+pub replace_keeps : (bytes : List ℕ) (items : List FenceItem) → IsFormatted bytes → (ws : List LineWrite) → replace_writes bytes items ≡ Ok ws → KeepsMission bytes ws
 replace_keeps bytes items f ws e = others_keep bytes ws f (replace_beside bytes items f.size ws e)

@@ -95,7 +95,7 @@ clears_stay (Mission ∷ ts) bytes f =
     let x = zero_stays bytes f in
     stays_then bytes w1 (clear_writes (after bytes w1) ts) x (clears_stay ts (after bytes w1) (formatted_then bytes w1 x))
 clears_stay (Fence ∷ ts) bytes f =
-    let w1 = fences.clear_writes bytes in
+    let w1 = fences.clear_fence_writes bytes in
     let x = keeps_stay bytes w1 f (λ j h. (clear_beside bytes f.size j h).params) in
     stays_then bytes w1 (clear_writes (after bytes w1) ts) x (clears_stay ts (after bytes w1) (formatted_then bytes w1 x))
 

@@ -13,14 +13,14 @@ use Rattle.param_records.specs.Steps.{records_in_storage}
 use Rattle.mission_commands.specs.declared.commands.Command.{Command}
 use Rattle.mission_records.specs.declared.reading.TheConstants.{CAPACITY}
 use Rattle.mission_records.specs.Mission.{total_row, mission_area, mission_of, begin_writes, put_writes}
-use Rattle.mission_records.specs.Steps.{IsFormatted, IsTotalInOneLine, HasVersion, StaysFormatted, Puts}
+use Rattle.mission_records.specs.Steps.{IsFormatted, IsTotalInOneLine, HasVersion, StaysFormatted, PutsCommand}
 use Rattle.mission_records.proofs.Puts.{begins, puts}
 use Rattle.mission_service.specs.declared.requests.MissionType.TheVariants.{Mission}
 use Rattle.mission_service.specs.Uploads.{Upload, Open}
 use Rattle.mission_service.specs.Requests.{Request}
 use Rattle.vehicle_core.specs.Acts.{Act}
 use Rattle.vehicle_node.specs.Runs.{Run, did_in, act_done, all_acts}
-use Rattle.vehicle_laws.specs.Uploads.{OpensNone, GoesOn, given_from, commands_from, command_in, said_in}
+use Rattle.vehicle_laws.specs.Uploads.{OpensNone, UploadGoesOn, given_from, commands_from, command_in, said_in}
 use Rattle.vehicle_laws.specs.Fitting.{ActFits, AllFit}
 use Rattle.vehicle_laws.specs.Laws.{IsPrefixOf}
 use Rattle.mission_records.proofs.Totals.{all_writes}
@@ -207,7 +207,7 @@ step_put budget b r s station count cs act u o e x =
     let ws = put_writes bytes u.expected c in
     let is : t.issued ≡ s.issued ++ ws = ap (λ (l : List LineWrite). s.issued ++ l) x.writes_are in
     let w0 = puts bytes c o.held.formatted o.versioned x.storable (omega (arith, o.below, o.few, long, expected)) (λ g. x.room (subst (λ (n : ℕ). IsFull (records_in_storage bytes) total_row (n + 1)) long g)) in
-    let w : Puts c bytes ws = subst (λ (n : ℕ). Puts c bytes (put_writes bytes n c)) long w0 in
+    let w : PutsCommand c bytes ws = subst (λ (n : ℕ). PutsCommand c bytes (put_writes bytes n c)) long w0 in
     let end : after b t.issued ≡ after bytes ws = ap (λ (l : List LineWrite). after b l) is ∙ after-append b s.issued ws in
     let grown : mission_of bytes ++ c ∷ [] ≡ ds = ap (λ (l : List Command). l ++ c ∷ []) o.mission in
     let held : Held b r t ds = held_more b r s t ds ws is (held_wider b r s cs ds (prefix_more cs (c ∷ [])) o.held) w.stays (λ l j h. elim (w.each l j h) [
@@ -260,12 +260,12 @@ pub from_cons : {X : Type 0} (f : ℕ → Request → Option X) (station seq : �
 from_cons f station seq act acts = given_cons f station seq acts (said_in (f seq) station act)
 
 -- after the end of an upload no act belongs to it
-ends_there : (budget : ℕ) (b : List ℕ) (r s : Run) (cs : List Command) (acts : List Act) → Held b r s cs → IsClosed s → GoesOn budget Mission b s acts → Held b r (all_acts budget b s acts) cs
+ends_there : (budget : ℕ) (b : List ℕ) (r s : Run) (cs : List Command) (acts : List Act) → Held b r s cs → IsClosed s → UploadGoesOn budget Mission b s acts → Held b r (all_acts budget b s acts) cs
 ends_there budget b r s cs [] h closed g = h
 ends_there budget b r s cs (act ∷ acts) h closed g = absurd (closed g.0.0 g.0.1)
 
 -- the acts of an upload
-pub goes_on : (budget : ℕ) (b : List ℕ) (r s : Run) (station count : ℕ) (cs : List Command) (acts : List Act) → Ongoing b r s station count cs → GoesOn budget Mission b s acts → AllFit acts → Held b r (all_acts budget b s acts) (cs ++ commands_from station (length cs) acts)
+pub goes_on : (budget : ℕ) (b : List ℕ) (r s : Run) (station count : ℕ) (cs : List Command) (acts : List Act) → Ongoing b r s station count cs → UploadGoesOn budget Mission b s acts → AllFit acts → Held b r (all_acts budget b s acts) (cs ++ commands_from station (length cs) acts)
 goes_on budget b r s station count cs [] o g fit = subst (Held b r s) (sym (append-nil cs)) o.held
 goes_on budget b r s station count cs (act ∷ acts) o g fit =
     let x = step budget b r s station count cs act o fit.0 g.1 in

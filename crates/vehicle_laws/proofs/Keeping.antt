@@ -5,7 +5,7 @@ use Rattle.storage_lines.specs.Lines.{after, EachPrefix}
 use Rattle.storage_lines.proofs.LineLemmas.{after-append}
 use Rattle.storage_lines.proofs.PrefixLemmas.{prefix_append, prefix_nil}
 use Rattle.mission_records.specs.Mission.{mission_of}
-use Rattle.mission_records.specs.Steps.{IsFormatted, IsTotalInOneLine, HasVersion, StaysFormatted, IsOneOf, Keeps, Clears}
+use Rattle.mission_records.specs.Steps.{IsFormatted, IsTotalInOneLine, HasVersion, StaysFormatted, IsOneOf, KeepsMission, Clears}
 use Rattle.mission_records.proofs.Totals.{all_writes}
 
 -- After each prefix of the writes the mission is the old one or empty.
@@ -13,14 +13,14 @@ pub record Empties (old : List ℕ) (writes : List LineWrite) : Type 0 where
   pub stays : EachPrefix (StaysFormatted old) old writes
   pub each : IsTotalInOneLine old → EachPrefix (IsOneOf (mission_of old) []) old writes
 
-pub keeps_none : (b : List ℕ) → IsFormatted b → Keeps b []
+pub keeps_none : (b : List ℕ) → IsFormatted b → KeepsMission b []
 keeps_none b f = record {
   stays = prefix_nil (StaysFormatted b) b (record { formatted = f; one_line = λ t. t });
   same = prefix_nil (λ now. mission_of now ≡ mission_of b) b refl;
   versioned = λ v. v;
 }
 
-pub keeps_empties : (b : List ℕ) (ws : List LineWrite) → Keeps b ws → Empties b ws
+pub keeps_empties : (b : List ℕ) (ws : List LineWrite) → KeepsMission b ws → Empties b ws
 keeps_empties b ws k = record { stays = k.stays; each = λ t j h. inl (k.same j h) }
 
 pub clears_empties : (b : List ℕ) (ws : List LineWrite) → Clears b ws → Empties b ws
@@ -50,7 +50,7 @@ empties_then b xs ys x y =
           ]);
     }
 
-pub keeps_then : (b : List ℕ) (xs ys : List LineWrite) → Keeps b xs → Keeps (after b xs) ys → Keeps b (xs ++ ys)
+pub keeps_then : (b : List ℕ) (xs ys : List LineWrite) → KeepsMission b xs → KeepsMission (after b xs) ys → KeepsMission b (xs ++ ys)
 keeps_then b xs ys x y =
     let mid = after b xs in
     let at_mid : StaysFormatted b mid = all_writes (StaysFormatted b) b xs x.stays in

@@ -23,7 +23,7 @@ use Rattle.vehicle_node.specs.Runs.{Run, did_in, act_done, all_acts, start}
 use Rattle.vehicle_node.proofs.RunLaws.{extends_all, all_acts-append}
 use Rattle.vehicle_laws.specs.Fitting.{ActFits, AllFit}
 use Rattle.vehicle_laws.specs.Uploads.{run_over}
-use Rattle.vehicle_laws.specs.Rows.{row_of_act, AllLeave, SetsOnly, IsSetting}
+use Rattle.vehicle_laws.specs.Rows.{row_of_act, AllLeave, SetsOnly, SetsRowTo}
 use Rattle.vehicle_laws.specs.Laws.{StartsFormatted, LawOfLastValues}
 use Rattle.vehicle_laws.proofs.RowSteps.{same_value, row_sets, law_of_records}
 use Rattle.vehicle_laws.proofs.Status.{status, run_snoc, fit_before, fit_since}
@@ -104,7 +104,7 @@ setting_writes : (budget : ℕ) (b : List ℕ) (r : Run) (station : ℕ) (v2 : B
 unfolding did
 setting_writes budget b r station v2 index number = refl
 
-set_value : (budget : ℕ) (b : List ℕ) (before : List Act) (act : Act) (index : ℕ) (row : Var) (number : ℕ) → StartsFormatted b → AllFit (before ++ act ∷ []) → IsSetting (after b (run_over budget b before).issued) (allowed_of budget (run_over budget b before).machine.vehicle) act index row number
+set_value : (budget : ℕ) (b : List ℕ) (before : List Act) (act : Act) (index : ℕ) (row : Var) (number : ℕ) → StartsFormatted b → AllFit (before ++ act ∷ []) → SetsRowTo (after b (run_over budget b before).issued) (allowed_of budget (run_over budget b before).machine.vehicle) act index row number
     → params_of (after b (run_over budget b (before ++ act ∷ [])).issued) row ≡ value_of_number row.kind number
 set_value budget b before act index row number f fit x =
     let r = run_over budget b before in

@@ -8,7 +8,7 @@ use Rattle.param_tree.specs.Rows.{vehicle_rows}
 use Rattle.param_records.specs.Steps.{IsKept}
 use Rattle.param_records.proofs.SetLemmas.{kept_number}
 use Rattle.param_service.specs.Requests as parameters
-use Rattle.param_service.specs.Requests.{Show, ShowAll, Set, IsNumberFor, IsSetting, is_for, row_of, row_named}
+use Rattle.param_service.specs.Requests.{Show, ShowAll, Set, IsNumberFor, IsSetting, is_for, row_asked_for, row_named}
 use Rattle.mav_messages.specs.declared.messages.Message.{Message}
 use Rattle.mav_messages.specs.declared.messages.Message.TheVariants as message
 use Rattle.mission_service.specs.declared.uploads.Target.{Target}
@@ -20,7 +20,7 @@ use Rattle.mission_service.specs.Requests as missions
 use Rattle.mission_service.specs.Requests.{Begin, Give, Clear, Count, Show as ShowItem, Cancel, Unsupported}
 use Rattle.mission_service.specs.Asked.{RequestFits, AsksWhatFits}
 use Rattle.vehicle_core.specs.declared.orders.VehicleCommand.{VehicleCommand}
-use Rattle.vehicle_core.specs.Orders.{command_of}
+use Rattle.vehicle_core.specs.Orders.{vehicle_command_of}
 use Rattle.vehicle_core.specs.Vehicle.{Asked, Parameters, Missions, Asks, one_of, orders_for}
 use Rattle.vehicle_core.specs.Acts.{Act, Beat, Stream}
 use Rattle.vehicle_node.specs.Reading.{sender_in, AreSaid, IsEvent, Reads, no_rests, streams, beats}
@@ -54,7 +54,7 @@ shown_fits (Some index) = tt
 -- what a message asks of the parameters fits
 parameters_fit : (m : Message) (asked : Option parameters.Request) → parameters.Asks m asked → AskedSettingFits asked
 parameters_fit (message.ParamRequestRead index system component name) asked h = subst AskedSettingFits (sym h)
-    (cond_both (is_for system component) (option_map Show (row_of index name)) None AskedSettingFits (λ t. shown_fits (row_of index name)) (λ t. tt))
+    (cond_both (is_for system component) (option_map Show (row_asked_for index name)) None AskedSettingFits (λ t. shown_fits (row_asked_for index name)) (λ t. tt))
 parameters_fit (message.ParamRequestList system component) asked h = subst AskedSettingFits (sym h)
     (cond_both (is_for system component) (Some ShowAll) None AskedSettingFits (λ t. tt) (λ t. tt))
 parameters_fit (message.ParamSet bits system component name kind) asked h = set_fits (cond (is_for system component) (row_named name) None) bits asked h
@@ -112,7 +112,7 @@ clears_fit _ asked h = subst AskedClears (sym h) tt
 
 -- what a message asks fits
 asked_fits : AsksWhatFits → (sender : Target) (m : Message) (asked : Option Asked) → Asks sender m asked → AskedFits asked
-asked_fits q sender m asked h = subst AskedFits (sym h.4) (one_fits sender h.0 h.2 (command_of m) (parameters_fit m h.0 h.1) (λ a e. (q m a (subst (λ (x : Option missions.Asking). missions.Asks m x) e h.3), clears_so a (subst AskedClears e (clears_fit m h.2 h.3)))))
+asked_fits q sender m asked h = subst AskedFits (sym h.4) (one_fits sender h.0 h.2 (vehicle_command_of m) (parameters_fit m h.0 h.1) (λ a e. (q m a (subst (λ (x : Option missions.Asking). missions.Asks m x) e h.3), clears_so a (subst AskedClears e (clears_fit m h.2 h.3)))))
 
 said_fit : AsksWhatFits → (station : ℕ) (frames : List (List ℕ)) (acts : List Act) → AreSaid station frames acts → AllFit acts
 said_fit q station [] acts h = subst AllFit (sym h) tt

@@ -144,12 +144,12 @@ put_sets bytes n c f storable few room =
 abbrev OfTotal : List ℕ → List LineWrite → Type 0
 OfTotal bytes ws = EachPrefix (KeepsParams bytes) bytes ws ⊎ ((number : ℕ) × SetsTotal number bytes ws)
 
-fence_clears : (bytes : List ℕ) → length bytes ≡ STORAGE_BYTES → EachPrefix (KeepsParams bytes) bytes (fences.clear_writes bytes)
+fence_clears : (bytes : List ℕ) → length bytes ≡ STORAGE_BYTES → EachPrefix (KeepsParams bytes) bytes (fences.clear_fence_writes bytes)
 fence_clears bytes size j h = (clear_beside bytes size j h).params
 
 fence_keeps : (bytes : List ℕ) → IsFormatted bytes → EachPrefix (KeepsParams bytes) bytes (clear_writes bytes (Fence ∷ []))
 unfolding clear_writes
-fence_keeps bytes f = subst (EachPrefix (KeepsParams bytes) bytes) (sym (append-nil (fences.clear_writes bytes))) (fence_clears bytes f.size)
+fence_keeps bytes f = subst (EachPrefix (KeepsParams bytes) bytes) (sym (append-nil (fences.clear_fence_writes bytes))) (fence_clears bytes f.size)
 
 nothing_set : (bytes : List ℕ) (row : Option ℕ) → SetsOnly row bytes []
 nothing_set bytes None = keeps_none bytes
@@ -166,7 +166,7 @@ all_clear bytes f =
     let w1 = total_writes bytes 0 in
     let mid = after bytes w1 in
     let size : length mid ≡ STORAGE_BYTES = length-after bytes w1 ∙ f.size in
-    inr (0, sets_then TOTAL_INDEX total_row 0 bytes w1 (fences.clear_writes mid ++ []) (total_zero bytes f) (subst (EachPrefix (KeepsParams mid) mid) (sym (append-nil (fences.clear_writes mid))) (fence_clears mid size)))
+    inr (0, sets_then TOTAL_INDEX total_row 0 bytes w1 (fences.clear_fence_writes mid ++ []) (total_zero bytes f) (subst (EachPrefix (KeepsParams mid) mid) (sym (append-nil (fences.clear_fence_writes mid))) (fence_clears mid size)))
 
 clears_total : (bytes : List ℕ) (types : List MissionType) → IsFormatted bytes → ClearsOneOrAll (Clear types) → OfTotal bytes (clear_writes bytes types)
 clears_total bytes types f (inl one) = subst (λ (ts : List MissionType). OfTotal bytes (clear_writes bytes ts)) (sym one.1) (one_clears bytes one.0 f)

@@ -10,7 +10,7 @@ use Rattle.mission_service.specs.Requests.{Request, Begin}
 use Rattle.vehicle_core.specs.Vehicle.{Asked, Missions}
 use Rattle.vehicle_core.specs.Acts.{Act, Said, Beat, Stream}
 use Rattle.vehicle_node.specs.Runs.{Run, did_in, act_done, all_acts, start}
-use Rattle.vehicle_laws.specs.Uploads.{run_over, says, Opens, OpensNone, GoesOn, given_from, commands_from, command_in}
+use Rattle.vehicle_laws.specs.Uploads.{run_over, says, Opens, OpensNone, UploadGoesOn, given_from, commands_from, command_in}
 use Rattle.vehicle_laws.specs.Fitting.{ActFits, AllFit}
 use Rattle.vehicle_laws.specs.Laws.{LawOfMissions}
 use Rattle.mission_records.proofs.Totals.{all_writes}
@@ -36,7 +36,7 @@ from_snoc {X} f station seq (q ∷ acts) act =
     ∙ ap (λ (k : ℕ). (m ++ xs) ++ given_in f station k act) long
     ∙ ap (λ (l : List X). l ++ given_in f station (seq + length l) act) (sym (from_cons f station seq q acts))
 
-pub goes_snoc : (budget : ℕ) (t : MissionType) (b : List ℕ) (r : Run) (acts : List Act) (act : Act) → GoesOn budget t b r acts → GoesOn budget t b (all_acts budget b r acts) (act ∷ []) → GoesOn budget t b r (acts ++ act ∷ [])
+pub goes_snoc : (budget : ℕ) (t : MissionType) (b : List ℕ) (r : Run) (acts : List Act) (act : Act) → UploadGoesOn budget t b r acts → UploadGoesOn budget t b (all_acts budget b r acts) (act ∷ []) → UploadGoesOn budget t b r (acts ++ act ∷ [])
 goes_snoc budget t b r [] act g h = h
 goes_snoc budget t b r (q ∷ acts) act g h = (g.0, g.1, goes_snoc budget t b (act_done budget b r q) acts act g.2 h)
 
@@ -49,7 +49,7 @@ pub record OpenSince (budget : ℕ) (b : List ℕ) (done : List Act) : Type 0 wh
   pub count : ℕ
   pub split : done ≡ before ++ opening ∷ since
   pub opens : Opens budget Mission b (run_over budget b before) opening station count
-  pub goes : GoesOn budget Mission b (run_over budget b (before ++ opening ∷ [])) since
+  pub goes : UploadGoesOn budget Mission b (run_over budget b (before ++ opening ∷ [])) since
   pub one_line : IsTotalInOneLine (after b (start b).issued) → IsTotalInOneLine (after b (run_over budget b before).issued)
   pub ongoing : Ongoing b (run_over budget b before) (run_over budget b done) station count (commands_from station 0 since)
 
@@ -75,8 +75,8 @@ longer budget b done act x fits alone y =
     let zero_more : 0 + length cs ≡ length cs = omega arith in
     let more : cs ++ more_from x.station (length cs) act ≡ commands_from x.station 0 (x.since ++ act ∷ []) = sym (from_snoc command_in x.station 0 x.since act ∙ ap (λ (n : ℕ). cs ++ more_from x.station n act) zero_more) in
     let is_open : (u : Upload) × (missions_at s ≡ Open u) = (x.ongoing.upload, x.ongoing.is) in
-    let goes : GoesOn budget Mission b (run_over budget b (x.before ++ x.opening ∷ [])) (x.since ++ act ∷ []) =
-    goes_snoc budget Mission b (run_over budget b (x.before ++ x.opening ∷ [])) x.since act x.goes (subst (λ (r : Run). GoesOn budget Mission b r (act ∷ [])) (sym (run_since budget b done x.before x.since x.opening x.split)) (is_open, alone, tt)) in
+    let goes : UploadGoesOn budget Mission b (run_over budget b (x.before ++ x.opening ∷ [])) (x.since ++ act ∷ []) =
+    goes_snoc budget Mission b (run_over budget b (x.before ++ x.opening ∷ [])) x.since act x.goes (subst (λ (r : Run). UploadGoesOn budget Mission b r (act ∷ [])) (sym (run_since budget b done x.before x.since x.opening x.split)) (is_open, alone, tt)) in
     record {
       formatted = subst (λ (r : Run). IsFormatted (after b r.issued)) (sym e) y.held.formatted;
       one_line = λ o. subst (λ (r : Run). IsTotalInOneLine (after b r.issued)) (sym e) (y.held.one_line (x.one_line o));
@@ -200,7 +200,7 @@ law_of_missions budget b before since opening station count k f up one from upto
     let st = status budget b before f (fit_before before (opening ∷ since) up.fit) in
     let back = fit_since before (opening ∷ since) up.fit in
     let first = opened_here budget b r opening station count st.formatted back.0 up.opens in
-    let g : GoesOn budget Mission b (act_done budget b r opening) since = subst (λ (x : Run). GoesOn budget Mission b x since) (run_snoc budget b before opening) up.goes_on in
+    let g : UploadGoesOn budget Mission b (act_done budget b r opening) since = subst (λ (x : Run). UploadGoesOn budget Mission b x since) (run_snoc budget b before opening) up.goes_on in
     let end : all_acts budget b (act_done budget b r opening) since ≡ e = ap (λ (x : Run). all_acts budget b x since) (sym (run_snoc budget b before opening)) ∙ run_since budget b (before ++ opening ∷ since) before since opening refl in
     let held : Held b r e (commands_from station 0 since) = subst (λ (x : Run). Held b r x (commands_from station 0 since)) end (goes_on budget b r (act_done budget b r opening) station count [] since first g back.1) in
     held.each one k from upto

@@ -24,8 +24,8 @@ use Rattle.vehicle_core.specs.Acts.{Act}
 use Rattle.vehicle_node.specs.Reading.{Reads, no_rests}
 use Rattle.vehicle_node.specs.Runs.{Run, did_in, act_done, boot, start, run_of}
 use Rattle.vehicle_laws.specs.Fitting.{AllFit}
-use Rattle.vehicle_laws.specs.Rows.{SetsOnly, row_of_act, AllLeave, IsSetting}
-use Rattle.vehicle_laws.specs.Uploads.{run_over, IsUpload, Ends, commands_from, fence_items_from}
+use Rattle.vehicle_laws.specs.Rows.{SetsOnly, row_of_act, AllLeave, SetsRowTo}
+use Rattle.vehicle_laws.specs.Uploads.{run_over, IsUpload, EndsUpload, commands_from, fence_items_from}
 
 -- the acts of events, one after another
 abbrev pub acts_of : List (List Act) → List Act
@@ -96,14 +96,14 @@ pub record Stores {X : Type 0} (budget : ℕ) (t : MissionType) (stored : List �
 abbrev pub LawOfUploads : Type 0
 LawOfUploads = (budget : ℕ) (b : List ℕ) (acts : List Act) (last : Act) (u : Upload)
     → StartsFormatted b → AllFit (acts ++ last ∷ [])
-    → Ends budget Mission b (run_over budget b acts) last u
+    → EndsUpload budget Mission b (run_over budget b acts) last u
     → Stores budget Mission mission_of commands_from b acts last u
 
 -- The same of a fence.
 abbrev pub LawOfFenceUploads : Type 0
 LawOfFenceUploads = (budget : ℕ) (b : List ℕ) (acts : List Act) (last : Act) (u : Upload)
     → length b ≡ STORAGE_BYTES → AllFit (acts ++ last ∷ [])
-    → Ends budget Fence b (run_over budget b acts) last u
+    → EndsUpload budget Fence b (run_over budget b acts) last u
     → Stores budget Fence fence_of fence_items_from b acts last u
 
 -- the fence is this one, none, or the other
@@ -140,7 +140,7 @@ pub record LawOfLastValues : Type 0 where
       ≡ params_of (current b (run_over budget b before)) row
   pub set : (budget : ℕ) (b : List ℕ) (before : List Act) (act : Act) (index : ℕ) (row : Var)
       (number : ℕ) → StartsFormatted b → AllFit (before ++ act ∷ [])
-      → IsSetting (current b (run_over budget b before))
+      → SetsRowTo (current b (run_over budget b before))
       (allowed_of budget (run_over budget b before).machine.vehicle) act index row number
       → params_of (current b (run_over budget b (before ++ act ∷ []))) row
       ≡ value_of_number row.kind number
@@ -148,7 +148,7 @@ pub record LawOfLastValues : Type 0 where
 -- Boot leaves formatted bytes, and where it formats them itself, MIS_TOTAL lies in one line; after
 -- fewer of its lines than all the next start then formats them again. None of its lines changes the
 -- mission or the fence.
-pub record BootFormats : Type 0 where
+pub record BootFormatsInSteps : Type 0 where
   pub formatted : (b : List ℕ) → length b ≡ STORAGE_BYTES → IsBytes (logical_of Param b)
       → StartsFormatted b
   pub in_one_line : (b : List ℕ) → length b ≡ STORAGE_BYTES → ¬ HasMagic b

@@ -74,7 +74,7 @@ SetsOnly (Some index) old writes = EachPrefix (KeepsParams old) old writes
 -- The act is a PARAM_SET that sets the row at an index to a number over these bytes: it isn't a
 -- count of commands or rally points, where a record has to be appended there is room, and no more
 -- lines are needed than are allowed.
-pub record IsSetting (bytes : List ℕ) (allowed : Option ℕ) (act : Act) (index : ℕ) (row : Var)
+pub record SetsRowTo (bytes : List ℕ) (allowed : Option ℕ) (act : Act) (index : ℕ) (row : Var)
     (number : ℕ) : Type 0 where
   pub station : ℕ
   pub v2 : Bool

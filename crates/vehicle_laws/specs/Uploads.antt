@@ -54,21 +54,21 @@ OpensNone budget t b r act = (station count : ℕ) → ¬ Opens budget t b r act
 
 -- Before each of these acts an upload of the type is open, and none of them opens another: they
 -- belong to one upload, which the last one may end.
-abbrev pub GoesOn : ℕ → MissionType → List ℕ → Run → List Act → Type 0
-GoesOn budget t b r [] = Unit {0}
-GoesOn budget t b r (act ∷ acts) = IsOpen t r × OpensNone budget t b r act
-    × GoesOn budget t b (act_done budget b r act) acts
+abbrev pub UploadGoesOn : ℕ → MissionType → List ℕ → Run → List Act → Type 0
+UploadGoesOn budget t b r [] = Unit {0}
+UploadGoesOn budget t b r (act ∷ acts) = IsOpen t r × OpensNone budget t b r act
+    × UploadGoesOn budget t b (act_done budget b r act) acts
 
 -- An upload of a type in a run: after some acts one act opens it for a station with a count, and
 -- these acts belong to it.
 pub record IsUpload (budget : ℕ) (t : MissionType) (b : List ℕ) (before : List Act) (opening : Act)
     (since : List Act) (station count : ℕ) : Type 0 where
   pub opens : Opens budget t b (run_over budget b before) opening station count
-  pub goes_on : GoesOn budget t b (run_over budget b (before ++ opening ∷ [])) since
+  pub goes_on : UploadGoesOn budget t b (run_over budget b (before ++ opening ∷ [])) since
   pub fit : AllFit (before ++ opening ∷ since)
 
 -- The open upload ends here: an item of its station is answered with 0.
-pub record Ends (budget : ℕ) (t : MissionType) (b : List ℕ) (r : Run) (act : Act) (u : Upload)
+pub record EndsUpload (budget : ℕ) (t : MissionType) (b : List ℕ) (r : Run) (act : Act) (u : Upload)
     : Type 0 where
   pub v2 : Bool
   pub sender : Target

@@ -1,6 +1,6 @@
 //! The laws, on functions that do nothing.
 
-ghost use Rattle.vehicle_laws.specs.Laws.{RunsByActs, ReadActsFit, LawOfMissions, LawOfUploads, LawOfFenceUploads, LawOfFences, LawOfRecords, LawOfLastValues, LinesByActs, BootFormats, StaysInOneLine};
+ghost use Rattle.vehicle_laws.specs.Laws.{RunsByActs, ReadActsFit, LawOfMissions, LawOfUploads, LawOfFenceUploads, LawOfFences, LawOfRecords, LawOfLastValues, LinesByActs, BootFormatsInSteps, StaysInOneLine};
 
 /// What events do is what their acts do, one after another.
 pub fn runs_by_acts()
@@ -55,7 +55,7 @@ pub fn lines_by_acts()
 
 /// Boot leaves formatted bytes, and changes neither the mission nor the fence.
 pub fn boot_formats()
-    ensures { BootFormats }
+    ensures { BootFormatsInSteps }
 {}
 
 /// After each number of lines from the start on the bytes are formatted, and MIS_TOTAL stays in one

@@ -30,7 +30,7 @@ use Rattle.param_convert.specs.declared.rules.Rule.{Rule}
 use Rattle.param_convert.specs.Rules.{to_servo1_trim, vehicle_rules}
 use Rattle.param_convert.proofs.ConvertSteps.{from_step}
 use Rattle.sector_log.specs.Bytes.{value_of}
-use Rattle.sector_image.specs.Stands.{Stands, Reading, Both, One, Reads, entries_in, count_in, count_after}
+use Rattle.sector_image.specs.Stands.{Stands, Reading, Both, One, IsReadAs, entries_in, count_in, count_after}
 use Rattle.sector_switch.specs.States.{HomeAfter}
 use Rattle.sector_image.proofs.Values.{is_value}
 use Rattle.sector_image.specs.Losses.{KeepsBytes}
@@ -351,7 +351,7 @@ closed_fits g (Err e) node new w not voids full = tt
 
 -- the lines of boot were put, and none of their entries wears the guard row
 pub booted_unworn : (words : Words) (taken : ℕ) (lines : Lines) (node last : Node) → IsBooted taken lines node → IsTrue (is_alone lines.store) → Stands words (durable_of lines.store)
-    → ((reading : Reading) → Reads words reading → guard_of lines.store ≡ count_after reading) → ((reading : Reading) → Reads words reading → OnHome lines.store (HomeAfter reading))
+    → ((reading : Reading) → IsReadAs words reading → guard_of lines.store ≡ count_after reading) → ((reading : Reading) → IsReadAs words reading → OnHome lines.store (HomeAfter reading))
     → (n : ℕ) → Flushed n false node last → last.lines.pending ≡ [] → BootUnworn words last.lines
 booted_unworn words taken lines node last booted alone stands guard home n f none = record {
   opened = lines.store;
@@ -394,15 +394,15 @@ flushing_leaves node s o a = record {
 }
 
 -- words that are an image stand for bytes
-pub read_stands : (w : Words) (reading : Reading) → Reads w reading → (b : List ℕ) × Stands w b
+pub read_stands : (w : Words) (reading : Reading) → IsReadAs w reading → (b : List ℕ) × Stands w b
 read_stands w reading reads = (value_of (entries_in reading), (reading, reads, is_value (entries_in reading)))
 
-reads_guard : (w : Words) (reading : Reading) → Reads w reading → IsGuardRow w.guard (count_in reading)
+reads_guard : (w : Words) (reading : Reading) → IsReadAs w reading → IsGuardRow w.guard (count_in reading)
 reads_guard w (Both count m n home other) reads = reads.guard
 reads_guard w (One count entries) reads = reads.guard
 
 -- the guard row of an image that was read with its count at the end of the row
-pub read_wears : (w : Words) (reading : Reading) → Reads w reading → count_in reading ≡ GUARD_HALFWORDS → (budget count : ℕ) (b : List ℕ) → IsGuardRow w.guard count → MayWear budget count b []
+pub read_wears : (w : Words) (reading : Reading) → IsReadAs w reading → count_in reading ≡ GUARD_HALFWORDS → (budget count : ℕ) (b : List ℕ) → IsGuardRow w.guard count → MayWear budget count b []
 read_wears w reading reads full budget count b row = record {
   acts = [];
   rests = no_rests;

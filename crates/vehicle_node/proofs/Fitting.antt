@@ -10,7 +10,7 @@ use Rattle.storage_lines.specs.declared.lines.LineWrite.{LineWrite}
 use Rattle.storage_lines.specs.Lines.{after, put_line}
 use Rattle.param_tree.specs.Rows.{vehicle_rows}
 use Rattle.param_index.specs.Places.{Places, IsIndexOf}
-use Rattle.block_store.specs.Store.{Store, State, Alone, Spilled, Spent, FitsState, durable_of, in_one_sector, is_alone, spare_in, HasSpare}
+use Rattle.block_store.specs.Store.{Store, StoreState, Alone, Spilled, Spent, FitsState, durable_of, in_one_sector, is_alone, spare_in, HasSpare}
 use Rattle.sector_image.specs.Images.{Bytes}
 use Rattle.block_store.specs.Store as store
 use Rattle.block_store.proofs.StoreLaws.{fits_kept as store_kept}
@@ -29,7 +29,7 @@ use Rattle.vehicle_node.specs.declared.Node.TheInside.{Inside}
 use Rattle.vehicle_node.specs.declared.NodeError.{NodeError}
 use Rattle.vehicle_node.proofs.FramesSent.{counted-vehicle}
 
-state_spare : {B : Type 0} (g : Ghosts B) (b : B) (state : State) (bytes : Bytes) → FitsState g b state bytes → IsTrue (in_one_sector state) → line_bytes * budget_of (g.sector_bytes b) ≤ spare_in state bytes
+state_spare : {B : Type 0} (g : Ghosts B) (b : B) (state : StoreState) (bytes : Bytes) → FitsState g b state bytes → IsTrue (in_one_sector state) → line_bytes * budget_of (g.sector_bytes b) ≤ spare_in state bytes
 state_spare g b (Alone kept) bytes fits is = omega (arith, ap budget_of fits.0.home.size)
 state_spare g b (Spilled kept) bytes fits is = absurd (cc)
 state_spare g b Spent bytes fits is = absurd fits

@@ -10,7 +10,7 @@ use Rattle.flash_traits.specs.Losses.{KeepsWords}
 use Rattle.guard_row.specs.Row.{IsGuardRow}
 use Rattle.guard_row.proofs.RowLaws.{one_count}
 use Rattle.sector_image.specs.Images.{Bytes}
-use Rattle.block_store.specs.Store.{State, Alone, Spilled, Spent, in_one_sector, in_both_sectors, guard_of, is_spilled}
+use Rattle.block_store.specs.Store.{StoreState, Alone, Spilled, Spent, in_one_sector, in_both_sectors, guard_of, is_spilled}
 use Rattle.block_store.specs.Refusals as put
 use Rattle.block_store.specs.declared.PutError.{PutError}
 use Rattle.block_store.specs.declared.PutError.TheVariants as put_error
@@ -42,7 +42,7 @@ no_wear (node_error.Worn count) P none = absurd none
 reached_by : (row : List ℕ) (most : ℕ) → IsGuardRow row GUARD_HALFWORDS → CountsUpTo most row → GUARD_HALFWORDS ≤ most
 reached_by row most is counts = omega (arith, one_count row GUARD_HALFWORDS counts.0 is counts.1, counts.2)
 
-not_both : (state : State) → IsTrue (in_one_sector state) → IsTrue (in_both_sectors state) → ⊥
+not_both : (state : StoreState) → IsTrue (in_one_sector state) → IsTrue (in_both_sectors state) → ⊥
 not_both (Alone kept) one both = cc
 not_both (Spilled kept) one both = cc
 not_both Spent one both = cc

@@ -16,7 +16,7 @@ use Rattle.storage_lines.specs.Lines.{after, put_line}
 use Rattle.sector_image.specs.Losses.{RaisesGuard, KeepsBytes}
 use Rattle.sector_image.specs.Images.{Bytes}
 use Rattle.sector_image.specs.Stands.{Stands}
-use Rattle.block_store.specs.Store.{Store, State, FitsState, Alone, Spilled, Spent, in_one_sector, in_both_sectors, durable_of, guard_of, guard_ahead, guard_in, is_alone, is_spilled, is_spent, room_of, HasSpare}
+use Rattle.block_store.specs.Store.{Store, StoreState, FitsState, Alone, Spilled, Spent, in_one_sector, in_both_sectors, durable_of, guard_of, guard_ahead, guard_in, is_alone, is_spilled, is_spent, room_of, HasSpare}
 use Rattle.block_store.specs.Store as store
 use Rattle.block_store.specs.Refusals as put
 use Rattle.block_store.specs.declared.PutError.{PutError}
@@ -39,7 +39,7 @@ use Rattle.vehicle_node.specs.declared.TheConstants.{ROOM_FROM}
 use Rattle.vehicle_node.proofs.Wearing.{unworn_none, unworn_then, unworn_put, unworn_compact, unworn_issue}
 use Rattle.vehicle_node.proofs.Passing.{on_ok, worn_more, cut_call, begun, going_on, lists_kept, lists_then, sent_nothing, sent_both}
 
-pub guard_le : (state : State) → guard_in state ≤ guard_in state + (if in_both_sectors state then 2 else 0)
+pub guard_le : (state : StoreState) → guard_in state ≤ guard_in state + (if in_both_sectors state then 2 else 0)
 guard_le (Alone kept) = omega arith
 guard_le (Spilled kept) = omega arith
 guard_le Spent = omega arith
@@ -214,17 +214,17 @@ flushed_none node armed n none = record {
 }
 
 -- a store that fits stands alone or is spilled
-state_kinds : {B : Type 0} (g : Ghosts B) (b : B) (state : State) (bytes : Bytes) → FitsState g b state bytes → IsTrue (in_one_sector state) ⊎ IsTrue (in_both_sectors state)
+state_kinds : {B : Type 0} (g : Ghosts B) (b : B) (state : StoreState) (bytes : Bytes) → FitsState g b state bytes → IsTrue (in_one_sector state) ⊎ IsTrue (in_both_sectors state)
 state_kinds g b (Alone kept) bytes fits = inl refl
 state_kinds g b (Spilled kept) bytes fits = inr refl
 state_kinds g b Spent bytes fits = absurd fits
 
-spilled_ahead : (state : State) → IsTrue (in_both_sectors state) → guard_in state + 2 ≡ guard_in state + (if in_both_sectors state then 2 else 0)
+spilled_ahead : (state : StoreState) → IsTrue (in_both_sectors state) → guard_in state + 2 ≡ guard_in state + (if in_both_sectors state then 2 else 0)
 spilled_ahead (Alone kept) is = absurd (cc)
 spilled_ahead (Spilled kept) is = refl
 spilled_ahead Spent is = absurd (cc)
 
-pub guard_alone : (state : State) → IsTrue (in_one_sector state) → guard_in state + (if in_both_sectors state then 2 else 0) ≡ guard_in state
+pub guard_alone : (state : StoreState) → IsTrue (in_one_sector state) → guard_in state + (if in_both_sectors state then 2 else 0) ≡ guard_in state
 guard_alone (Alone kept) is = omega arith
 guard_alone (Spilled kept) is = cc
 guard_alone Spent is = cc

@@ -5,7 +5,7 @@ use Rattle.std.proofs.lemmas.List.{set-set, set-get_or, get_or-set_same, length-
 use Rattle.std.proofs.lemmas.Option.{slice_get_within, slice_get-get_or, get_or_from_slice_get}
 use Rattle.std.proofs.lemmas.List.Elements.{All-head, All-tail}
 use Rattle.flash_traits.specs.Losses.{Received, Datagram, Idle, End}
-use Rattle.mav_frames.specs.Cut.{Piece, Skipped, Whole, Cut, frames_in}
+use Rattle.mav_frames.specs.Cut.{StreamPiece, Skipped, Whole, Cut, frames_in}
 use Rattle.mav_frames.specs.Frames.{IsMessageOf, is_v2}
 use Rattle.mav_messages.specs.declared.messages.Message.{Message}
 use Rattle.mav_messages.specs.Messages.{FitsTypes}
@@ -17,7 +17,7 @@ use Rattle.vehicle_node.specs.Steps.Hearing.{IsHeard}
 use Rattle.vehicle_node.specs.Laws.{FramesAreRead, IsInRange, EventsAreRead, EventsAreReadOnce}
 use Rattle.vehicle_node.proofs.LawsBelow.{cut_any, cut_once, cut_more}
 
-frames_in-append : (ps qs : List Piece) → frames_in (ps ++ qs) ≡ frames_in ps ++ frames_in qs
+frames_in-append : (ps qs : List StreamPiece) → frames_in (ps ++ qs) ≡ frames_in ps ++ frames_in qs
 frames_in-append [] qs = refl
 frames_in-append (Skipped byte ∷ ps) qs = frames_in-append ps qs
 frames_in-append (Whole f ∷ ps) qs = ap (λ (l : List (List ℕ)). f ∷ l) (frames_in-append ps qs)
@@ -165,7 +165,7 @@ event_once : FramesAreRead → (event : Received) (old : List (List ℕ)) (ps qs
 event_once read (Datagram station bytes) old ps qs new left a c =
     let same : a.rest ≡ c.rest = some_is a.rest c.rest (sym a.rest_is ∙ c.rest_is) in
     let cuts = cut_once (a.rest ++ bytes) a.pieces c.pieces a.new_rest c.new_rest a.cut (subst (λ (l : List ℕ). Cut (l ++ bytes) c.pieces c.new_rest) (sym same) c.cut) in
-    let said = said_once read station (frames_in a.pieces) a.said c.said a.are_said (subst (λ (l : List Piece). AreSaid station (frames_in l) c.said) (sym cuts.0) c.are_said) in (
+    let said = said_once read station (frames_in a.pieces) a.said c.said a.are_said (subst (λ (l : List StreamPiece). AreSaid station (frames_in l) c.said) (sym cuts.0) c.are_said) in (
       a.acts_are ∙ ap (λ (l : List Act). l ++ streams) said ∙ sym c.acts_are,
       a.new_is ∙ ap (λ (l : List ℕ). slice_set old station l) cuts.1 ∙ sym c.new_is,
     )

@@ -5,7 +5,7 @@ use Rattle.std.specs.Option.{option_map_or}
 use Rattle.std.proofs.lemmas.Bool.{cases_Bool, both_ways}
 use Rattle.flash_traits.specs.declared.numbers.TheConstants.{GUARD_HALFWORDS}
 use Rattle.storage_lines.specs.declared.lines.LineWrite.{LineWrite}
-use Rattle.block_store.specs.Store.{State, Alone, Spilled, Spent, Store, guard_of, guard_in, is_spilled, in_one_sector, in_both_sectors}
+use Rattle.block_store.specs.Store.{StoreState, Alone, Spilled, Spent, Store, guard_of, guard_in, is_spilled, in_one_sector, in_both_sectors}
 use Rattle.dirty_lines.specs.Lines.{Lines}
 use Rattle.dirty_lines.specs.Entries.{CutIntoEntries, joined}
 use Rattle.dirty_lines.specs.Losses.{NextVoids}
@@ -25,7 +25,7 @@ abbrev pub IsFull : Lines → Type 0
 IsFull lines = guard_of lines.store ≡ GUARD_HALFWORDS
 
 -- a store with a guard count at the end of the row isn't spent
-one_or_both : (state : State) → guard_in state ≡ GUARD_HALFWORDS → (IsTrue (in_both_sectors state) → ⊥) → IsTrue (in_one_sector state)
+one_or_both : (state : StoreState) → guard_in state ≡ GUARD_HALFWORDS → (IsTrue (in_both_sectors state) → ⊥) → IsTrue (in_one_sector state)
 one_or_both (Alone kept) full never = refl
 one_or_both (Spilled kept) full never = absurd (never refl)
 one_or_both Spent full never = absurd (omega (arith, full))
@@ -67,7 +67,7 @@ pub event_spilled : (armed : Bool) (acts : List Act) (writes : List LineWrite) (
 event_spilled armed acts writes old new e full spilled =
     entries_spilled (is_armed_after_all armed acts) e.entries e.mid.store new.store e.last (acts_full armed acts writes old e.mid e.acted full) (acts_spilled armed acts writes old e.mid e.acted full spilled)
 
-not_both : (state : State) → IsTrue (in_one_sector state) → IsTrue (in_both_sectors state) → ⊥
+not_both : (state : StoreState) → IsTrue (in_one_sector state) → IsTrue (in_both_sectors state) → ⊥
 not_both (Alone kept) one both = cc
 not_both (Spilled kept) one both = cc
 not_both Spent one both = cc

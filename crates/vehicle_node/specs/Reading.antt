@@ -4,7 +4,7 @@ use Rattle.std.specs.Prelude.{◌≡◌, ◌⊎◌, ℕ, ◌+◌, List, [], ◌�
 use Rattle.flash_traits.specs.Losses.{Received, Datagram, Idle, End}
 use Rattle.mav_messages.specs.declared.messages.Message.{Message}
 use Rattle.mav_messages.specs.Messages.{FitsTypes}
-use Rattle.mav_frames.specs.Cut.{Piece, Cut, frames_in}
+use Rattle.mav_frames.specs.Cut.{StreamPiece, Cut, frames_in}
 use Rattle.mav_frames.specs.Frames.{IsMessageOf, is_v2, sequence_place}
 use Rattle.mission_service.specs.declared.uploads.Target.{Target}
 use Rattle.vehicle_core.specs.Vehicle.{Asked, Asks}
@@ -55,7 +55,7 @@ pub record IsDatagram (station : ℕ) (bytes : List ℕ) (old : List (List ℕ))
     (new : List (List ℕ)) : Type 0 where
   pub rest : List ℕ
   pub rest_is : slice_get old station ≡ Some rest
-  pub pieces : List Piece
+  pub pieces : List StreamPiece
   pub new_rest : List ℕ
   pub cut : Cut (rest ++ bytes) pieces new_rest
   pub said : List Act

@@ -3,7 +3,7 @@ use Rattle.std.specs.Prelude.{◌≡◌, ℕ, Result, IfOk, IfErr}
 use Rattle.flash_traits.specs.declared.board.Board.{Ghosts}
 use Rattle.flash_traits.specs.declared.board.Fault.{Fault}
 use Rattle.flash_traits.specs.declared.board.Fault.TheVariants.{Read}
-use Rattle.sector_image.specs.FirstBad.{Place, place_of}
+use Rattle.sector_image.specs.FirstBad.{Place, foreign_place}
 use Rattle.vehicle_node.specs.declared.NodeError.{NodeError}
 use Rattle.vehicle_node.specs.declared.NodeError.TheVariants as node_error
 
@@ -25,7 +25,7 @@ OnFault (node_error.Worn count) P = Unit {0}
 abbrev pub OnForeign : NodeError → (Place → Type 0) → Type 0
 OnForeign node_error.Memory P = Unit {0}
 OnForeign (node_error.Fault kind) P = Unit {0}
-OnForeign (node_error.Foreign region offset word) P = P (place_of region offset word)
+OnForeign (node_error.Foreign region offset word) P = P (foreign_place region offset word)
 OnForeign (node_error.Worn count) P = Unit {0}
 
 -- what holds where the guard row is used up, of its count

@@ -5,7 +5,7 @@ use Rattle.flash_traits.specs.declared.board.Board.{Ghosts}
 use Rattle.flash_traits.specs.declared.numbers.TheConstants.{GUARD_HALFWORDS}
 use Rattle.flash_traits.specs.Words.{Words}
 use Rattle.storage_lines.specs.declared.lines.LineWrite.{LineWrite}
-use Rattle.sector_image.specs.Stands.{Stands, Reading, Reads, count_after}
+use Rattle.sector_image.specs.Stands.{Stands, Reading, IsReadAs, count_after}
 use Rattle.block_store.specs.Store as store
 use Rattle.sector_switch.specs.States.{HomeAfter}
 use Rattle.block_store.specs.Store.{Store, durable_of, guard_of, guard_ahead, room_of, is_alone, is_spilled, OnHome}
@@ -110,8 +110,8 @@ pub record BootUnworn (words : Words) (lines : Lines) : Type 0 where
   pub opened : Store
   pub alone : IsTrue (is_alone opened)
   pub stands : Stands words (durable_of opened)
-  pub guard : (reading : Reading) → Reads words reading → guard_of opened ≡ count_after reading
-  pub home : (reading : Reading) → Reads words reading → OnHome opened (HomeAfter reading)
+  pub guard : (reading : Reading) → IsReadAs words reading → guard_of opened ≡ count_after reading
+  pub home : (reading : Reading) → IsReadAs words reading → OnHome opened (HomeAfter reading)
   pub entries : List (List LineWrite)
   pub cut : CutIntoEntries entries [] (boot (durable_of opened))
   pub each : NoneWears false entries opened lines.store

@@ -18,7 +18,7 @@ ghost use Rattle.flash_traits.specs.Causes.{Rose};
 ghost use Rattle.guard_row.specs.Row.{IsGuardRow};
 ghost use Rattle.storage_lines.specs.Lines.{after};
 ghost use Rattle.sector_image.specs.FirstBad.{FirstBad};
-ghost use Rattle.sector_image.specs.Stands.{Stands, Reads, is_due, count_in, IsUsedUp};
+ghost use Rattle.sector_image.specs.Stands.{Stands, IsReadAs, is_due, count_in, IsUsedUp};
 ghost use Rattle.block_store.specs.Refusals.{IsWorn};
 ghost use Rattle.block_store.specs.Store.{guard_of, is_spilled};
 ghost use Rattle.dirty_lines.specs.Lines.{Lines};
@@ -188,7 +188,7 @@ impl Node {
         ensures worn_image { IfErr result (λ e. OnWorn e (λ count. B.tells board.new →
             (b : List ℕ) × Stands (B.words board.old) b)) }
         // always where a sector is to be voided and the guard count is 8,192: of the image found
-        ensures used_up { B.tells board.new → (reading : _) → Reads (B.words board.old) reading →
+        ensures used_up { B.tells board.new → (reading : _) → IsReadAs (B.words board.old) reading →
             IsTrue (is_due reading) →
             count_in reading ≡ GUARD_HALFWORDS → IfOk result (λ _. ⊥) }
         // and of the lines of boot: none that was put had a sector to be voided at that count

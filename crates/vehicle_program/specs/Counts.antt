@@ -5,12 +5,12 @@ use Rattle.flash_traits.specs.declared.board.Fault.{Fault}
 use Rattle.flash_traits.specs.declared.board.Fault.TheVariants.{Attach, Read, Flash, Recv, Send}
 
 -- the count of each kind
-abbrev pub count_of : (attach read flash recv send : ℕ) → Fault → ℕ
-count_of attach read flash recv send Attach = attach
-count_of attach read flash recv send Read = read
-count_of attach read flash recv send Flash = flash
-count_of attach read flash recv send Recv = recv
-count_of attach read flash recv send Send = send
+abbrev pub fault_count_of : (attach read flash recv send : ℕ) → Fault → ℕ
+fault_count_of attach read flash recv send Attach = attach
+fault_count_of attach read flash recv send Read = read
+fault_count_of attach read flash recv send Flash = flash
+fault_count_of attach read flash recv send Recv = recv
+fault_count_of attach read flash recv send Send = send
 
 -- the words of a board that tells none
 abbrev pub untold : Words

@@ -130,7 +130,7 @@ impl<'a, R: Files<File = File> + Net + Clock> FileBoard<'a, R> {
 }
 
 impl<'a, R: Files<File = File> + Net + Clock> Board for FileBoard<'a, R> {
-    ghost use Rattle.vehicle_program.specs.Counts.{count_of, untold};
+    ghost use Rattle.vehicle_program.specs.Counts.{fault_count_of, untold};
 
     ghost sector_bytes = { λ b. b.image.sector_bytes };
 
@@ -151,7 +151,8 @@ impl<'a, R: Files<File = File> + Net + Clock> Board for FileBoard<'a, R> {
 
     ghost left = { λ _ _ _. ⊥ };
 
-    ghost faults = { λ b. count_of b.counts.attach_faults b.counts.read_faults b.counts.flash_faults
+    ghost faults = { λ b. fault_count_of b.counts.attach_faults b.counts.read_faults
+        b.counts.flash_faults
         b.counts.recv_faults b.counts.send_faults };
 
     ghost reads = { λ b o now. absurd now };

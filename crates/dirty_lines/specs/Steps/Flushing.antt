@@ -12,7 +12,8 @@ use Rattle.dirty_lines.specs.Entries.{Wrote, joined}
 use Rattle.dirty_lines.specs.Losses.{MayPutFirst, NextExceeds, NextVoids}
 
 -- These entries were put, and the store fits.
-pub record HasPut {B : Type 0} (g : Ghosts B) (armed : Bool) (entries : List (List LineWrite))
+pub record HasPutEntries {B : Type 0} (g : Ghosts B) (armed : Bool)
+    (entries : List (List LineWrite))
     (old new : Lines) (before now : B) : Type 0 where
   pub wrote : Wrote entries armed old new
   pub fits : Fits g now new.store
@@ -37,7 +38,7 @@ Refuses armed lines =
 pub record HasLeft {B : Type 0} (g : Ghosts B) (armed : Bool) (n left : ℕ) (old new : Lines)
     (before now : B) : Type 0 where
   pub entries : List (List LineWrite)
-  pub put : HasPut g armed entries old new before now
+  pub put : HasPutEntries g armed entries old new before now
   pub rest : left ≡ n - length (joined entries)
   pub still : length entries ≡ 0 → (new ≡ old) × (now ≡ before)
   pub fitted : 0 < length entries → Refuses armed old → ⊥

@@ -52,7 +52,7 @@ AreKept (inner.Open u) kept = length kept ≡ u.expected
 AreKept (inner.Finished station last) kept = Unit {0}
 
 -- the uploads are such
-pub record IsState (mission fence : Uploads) (kept : List FenceItem) : Type 0 where
+pub record AreUploadsRight (mission fence : Uploads) (kept : List FenceItem) : Type 0 where
   pub mission_right : IsOpenRight CAPACITY mission
   pub fence_right : IsOpenRight fence_capacity fence
   pub all_kept : AreKept fence kept

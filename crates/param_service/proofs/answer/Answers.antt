@@ -4,7 +4,7 @@ use Rattle.std.specs.Int.{w16}
 use Rattle.std.specs.Int.RustNames.{FitsSigned}
 use Rattle.std.proofs.lemmas.Int.{to_z-of_z}
 use Rattle.mav_messages.specs.declared.messages.Reply.{Reply}
-use Rattle.param_service.specs.Requests.{Show, ShowAll, row_of}
+use Rattle.param_service.specs.Requests.{Show, ShowAll, row_asked_for}
 use Rattle.param_service.specs.State.{State}
 use Rattle.param_service.specs.Service.{Shown}
 use Rattle.param_service.specs.Replies.{AreRepliesOf}
@@ -17,9 +17,9 @@ returns-then-is_vehicle-clause-answered c =
     let name = c.in-ParamRequestRead.param_id in
     let fits : FitsSigned w16 index = search rules in
     let at_index = to_z-of_z w16 index fits in
-    let keeps = read_keeps c.args.current.now c.args.allowed c.args.state.now.next_rows c.args.from.station (row_of index name) in
+    let keeps = read_keeps c.args.current.now c.args.allowed c.args.state.now.next_rows c.args.from.station (row_asked_for index name) in
     let shown = simp at_index at (c.answer_read.ensures c.args.allowed c.args.state.now.next_rows) in (
-      option_map Show (row_of index name),
+      option_map Show (row_asked_for index name),
       asks_read c.args.message.now index _ _ name c.in-ParamRequestRead.is (sym c.is_vehicle.ensures ∙ c.if-is_vehicle.true),
       record { state = keeps.0; lines = c.requires.batch ∙ keeps.1; shown = shown },
     )

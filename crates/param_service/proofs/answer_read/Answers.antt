@@ -4,7 +4,7 @@ use Rattle.std.specs.Int.RustNames.{FitsSigned}
 use Rattle.std.proofs.lemmas.Int.{to_z-of_z}
 use Rattle.mav_messages.specs.declared.messages.To.TheVariants.{Station}
 use Rattle.mav_messages.specs.declared.messages.Reply.{Reply}
-use Rattle.param_service.specs.Requests.{Show, row_of}
+use Rattle.param_service.specs.Requests.{Show, row_asked_for}
 use Rattle.param_service.specs.Service.{did, show}
 use Rattle.param_service.specs.Replies.{AreRepliesOf}
 use Rattle.param_service.proofs.Showing.{shows}
@@ -17,6 +17,6 @@ returns-in-Some c = λ allowed next_rows.
     let v = c.row_value-value.ensures in
     let one : AreRepliesOf (show (Station c.args.station) c.args.current.now c.in-Some.row) (c.reply.result ∷ []) = shows _ _ _ v.0 _ _ v.1 v.2 c.reply.ensures in
     let items : c.push.new.self.items ≡ c.reply.result ∷ [] = c.push.ensures.items ∙ ap (λ (l : List Reply). l ++ c.reply.result ∷ []) c.requires.replies in
-    let named : Some c.in-Some.row ≡ row_of c.args.index c.args.name.now = simp at_index at c.in-Some.ensures.row in
-    subst (λ (l : List Reply). AreRepliesOf (did c.args.current.now allowed next_rows c.args.station (option_map Show (row_of c.args.index c.args.name.now))).shown l) (sym items)
+    let named : Some c.in-Some.row ≡ row_asked_for c.args.index c.args.name.now = simp at_index at c.in-Some.ensures.row in
+    subst (λ (l : List Reply). AreRepliesOf (did c.args.current.now allowed next_rows c.args.station (option_map Show (row_asked_for c.args.index c.args.name.now))).shown l) (sym items)
     (subst (λ (o : Option ℕ). AreRepliesOf (did c.args.current.now allowed next_rows c.args.station (option_map Show o)).shown (c.reply.result ∷ [])) named one)

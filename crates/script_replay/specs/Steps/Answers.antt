@@ -2,7 +2,7 @@
 use Rattle.std.specs.Prelude.{Option, Some, None, Result, Ok, Err}
 use Rattle.vehicle_node.specs.declared.NodeError.{NodeError}
 use Rattle.vehicle_node.specs.declared.NodeError.TheVariants as node_error
-use Rattle.sector_image.specs.FirstBad.{Place, place_of}
+use Rattle.sector_image.specs.FirstBad.{Place, foreign_place}
 use Rattle.script_board.specs.declared.board.ScriptMark.{ScriptMark}
 use Rattle.script_board.specs.declared.board.ScriptMark.TheVariants.{Lost, Refused, Input, Output}
 use Rattle.replay.specs.declared.Break.{Break}
@@ -27,7 +27,7 @@ ended None (Err (node_error.Fault kind)) = Err (breaks.Stopped stops.Memory)
 -- the words are no image, and of the first foreign word this holds
 abbrev pub IsForeign : (Place → Type 0) → Stop → Type 0
 IsForeign P stops.Memory = ⊥
-IsForeign P (stops.Foreign region offset word) = P (place_of region offset word)
+IsForeign P (stops.Foreign region offset word) = P (foreign_place region offset word)
 IsForeign P (stops.Worn count) = ⊥
 IsForeign P (stops.Refused line) = ⊥
 IsForeign P stops.Input = ⊥

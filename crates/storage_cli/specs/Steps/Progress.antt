@@ -27,8 +27,8 @@ pub record IsSafe (budget : ℕ) (b : List ℕ) (events : List Received) (frames
 
 -- Events were received and finished, and frames were sent: whatever run the node stood for, it
 -- stands for the run with these and stays within what that may raise the guard count to, each loss
--- inside is safe, the acts say whether the vehicle is armed, and nothing that was put wore the guard
--- row.
+-- inside is safe, the acts say whether the vehicle is armed, and nothing that was put wore the
+-- guard row.
 pub record Progress {B : Type 0} (g : Ghosts B) (budget : ℕ) (old : Node) (board : B) (new : Node)
     (after_board : B) (events : List Received) (frames : List SentFrame) : Type 0 where
   pub told : g.tells after_board → g.tells board
@@ -49,17 +49,18 @@ pub record Progress {B : Type 0} (g : Ghosts B) (budget : ℕ) (old : Node) (boa
   pub unworn : EventsUnworn (armed_in old) acts old.lines new.lines
 
 -- how many events came before the end, where it came within so many turns
-abbrev pub EndsSo : Option ℕ → ℕ → List Received → Type 0
-EndsSo (Some count) turns events = EndsOnce events × (count ≡ length events - 1)
-EndsSo None turns events = HasNoEnd events × (length events ≡ turns)
+abbrev pub EndsInTurns : Option ℕ → ℕ → List Received → Type 0
+EndsInTurns (Some count) turns events = EndsOnce events × (count ≡ length events - 1)
+EndsInTurns None turns events = HasNoEnd events × (length events ≡ turns)
 
 -- the events that were finished within so many turns
-pub record Finishes {B : Type 0} (g : Ghosts B) (budget : ℕ) (old : Node) (board : B) (new : Node)
+pub record FinishesEvents {B : Type 0} (g : Ghosts B) (budget : ℕ) (old : Node) (board : B)
+    (new : Node)
     (after_board : B) (turns : ℕ) (end : Option ℕ) : Type 0 where
   pub events : List Received
   pub frames : List SentFrame
   pub progress : Progress g budget old board new after_board events frames
-  pub ends : EndsSo end turns events
+  pub ends : EndsInTurns end turns events
 
 -- the events of a serve of so many turns that was not cut off
 abbrev pub EndsBy : Result Served Stop → ℕ → List Received → Type 0
@@ -73,19 +74,19 @@ CountsFrames (Ok served) frames = served.frames ≡ counts (length frames)
 CountsFrames (Err _) frames = Unit {0}
 
 -- the number of lines that a serve tells
-abbrev pub CountsLines : Result Served Stop → Run → Type 0
-CountsLines (Ok served) r = served.lines ≡ counts (length r.issued)
-CountsLines (Err _) r = Unit {0}
+abbrev pub TellsLineCount : Result Served Stop → Run → Type 0
+TellsLineCount (Ok served) r = served.lines ≡ counts (length r.issued)
+TellsLineCount (Err _) r = Unit {0}
 
 -- the whole run, whose lines are counted
 pub record IsCounted (budget : ℕ) (result : Result Served Stop) (b : List ℕ)
     (events : List Received) (frames : List SentFrame) (words : Words) : Type 0 where
   pub whole : IsWhole budget b events frames words
-  pub lines : CountsLines result (run_of budget b whole.acts)
+  pub lines : TellsLineCount result (run_of budget b whole.acts)
 
 -- How a serve that was not cut off has left the board, from these words; `begun` says that the
 -- lists were empty at its start.
-pub record Completes {B : Type 0} (g : Ghosts B) (budget : ℕ) (before : Words) (begun : Type 0)
+pub record CompletesServe {B : Type 0} (g : Ghosts B) (budget : ℕ) (before : Words) (begun : Type 0)
     (board : B) (turns : ℕ) (result : Result Served Stop) : Type 0 where
   pub events : List Received
   pub frames : List SentFrame

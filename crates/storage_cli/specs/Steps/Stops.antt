@@ -4,7 +4,7 @@ use Rattle.flash_traits.specs.Words.{Words}
 use Rattle.flash_traits.specs.Causes.{Rose}
 use Rattle.flash_traits.specs.declared.board.Fault.{Fault}
 use Rattle.flash_traits.specs.declared.board.Fault.TheVariants as fault
-use Rattle.sector_image.specs.FirstBad.{FirstBad, place_of}
+use Rattle.sector_image.specs.FirstBad.{FirstBad, foreign_place}
 use Rattle.sector_image.specs.declared.kept.SurveyError.{SurveyError}
 use Rattle.sector_image.specs.declared.kept.SurveyError.TheVariants as survey
 use Rattle.vehicle_node.specs.declared.NodeError.{NodeError}
@@ -83,7 +83,7 @@ pub record StopsByCause {T : Type 0} (before now : Fault → ℕ) (result : Resu
 -- a foreign halfword is the first one
 abbrev pub IsFirst : Words → Stop → Type 0
 IsFirst words (stop.Foreign foreign) =
-    FirstBad words (place_of foreign.region foreign.offset foreign.word)
+    FirstBad words (foreign_place foreign.region foreign.offset foreign.word)
 IsFirst words _ = Unit {0}
 
 -- what holds where memory is wanting

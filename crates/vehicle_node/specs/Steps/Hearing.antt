@@ -5,7 +5,7 @@ use Rattle.flash_traits.specs.declared.numbers.TheConstants.{GUARD_HALFWORDS}
 use Rattle.flash_traits.specs.Calls.{ErasesNothing}
 use Rattle.flash_traits.specs.Losses.{Received, SentFrame, Outcome}
 use Rattle.storage_lines.specs.declared.lines.LineWrite.{LineWrite}
-use Rattle.mav_frames.specs.Cut.{Piece, Whole, IsFrame, Cut, Pushes, frames_in}
+use Rattle.mav_frames.specs.Cut.{StreamPiece, Whole, IsFrame, Cut, Pushes, frames_in}
 use Rattle.vehicle_core.specs.Acts.{Act}
 use Rattle.vehicle_node.specs.Arming.{NoneFlushes, is_armed_after_all, IsArmedThroughout, IsArmedOnce}
 use Rattle.vehicle_node.specs.Guard.{CountsUpTo}
@@ -89,7 +89,7 @@ pub record IsHeard (station : ℕ) (bytes : List ℕ) (old : List (List ℕ)) (s
     (new : List (List ℕ)) : Type 0 where
   pub rest : List ℕ
   pub rest_is : slice_get old station ≡ Some rest
-  pub pieces : List Piece
+  pub pieces : List StreamPiece
   pub new_rest : List ℕ
   pub cut : Cut (rest ++ bytes) pieces new_rest
   pub are_said : AreSaid station (frames_in pieces) said

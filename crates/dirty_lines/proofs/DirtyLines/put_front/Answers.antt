@@ -7,12 +7,12 @@ use Rattle.storage_lines.proofs.LineLemmas.{after-append, length-after}
 use Rattle.block_store.specs.declared.PutError.TheVariants.{NoRoom}
 use Rattle.block_store.specs.Refusals.{OnWorn, IsWorn}
 use Rattle.block_store.proofs.StoreLaws.{fits_whole}
-use Rattle.block_store.specs.Store.{Fits, IsEntry, durable_of, is_spilled, raise, room_of}
+use Rattle.block_store.specs.Store.{Fits, AreOneEntry, durable_of, is_spilled, raise, room_of}
 use Rattle.flash_traits.specs.Calls.{Changes}
 use Rattle.dirty_lines.specs.Lines.{Lines, AreInside, lines_of}
 use Rattle.dirty_lines.specs.Entries.{IsNext}
 use Rattle.dirty_lines.specs.Losses.{MayPutFirst, MayPutNext, NextExceeds, IsWornForNext}
-use Rattle.dirty_lines.specs.Steps.Flushing.{HasPut, Refuses}
+use Rattle.dirty_lines.specs.Steps.Flushing.{HasPutEntries, Refuses}
 use Rattle.dirty_lines.proofs.RunLemmas.{entry_of, rest_is, inside_right}
 use Rattle.dirty_lines.proofs.Puts.{worn_both, worn_for_next, one_put, exceeds_this, not_refused, changes_refused, raise_most, on_err}
 use Rattle.dirty_lines.proofs.DirtyLines.put_front.Goals as goal
@@ -20,7 +20,7 @@ use Rattle.dirty_lines.proofs.DirtyLines.put_front.Goals as goal
 pub put-requires-clause-entry : goal.put-requires-clause-entry
 put-requires-clause-entry g c =
     let next = c.longest_run-entry.ensures in
-    subst IsEntry (sym c.as_slice.ensures.value) (entry_of c.longest_run-entry.result.items next.behind c.self.inside.pending.items next.whole next.longest c.self.invariant.inside)
+    subst AreOneEntry (sym c.as_slice.ensures.value) (entry_of c.longest_run-entry.result.items next.behind c.self.inside.pending.items next.whole next.longest c.self.invariant.inside)
 
 pub returns-in_err-put-clause-changes : goal.returns-in_err-put-clause-changes
 returns-in_err-put-clause-changes g c =
@@ -67,7 +67,7 @@ returns-clause-put g c =
       entry,
       count,
       omega (arith, count, next.longest.some),
-      subst (λ (l : Lines). HasPut g.B.Board c.args.armed (entry ∷ []) l (lines_of c.put.new.self c.truncate_front.new.self.items) c.args.board.now c.put.new.board) c.self.view_is
+      subst (λ (l : Lines). HasPutEntries g.B.Board c.args.armed (entry ∷ []) l (lines_of c.put.new.self c.truncate_front.new.self.items) c.args.board.now c.put.new.board) c.self.view_is
           (one_put g.B.Board g.met.B.Board.reads c.args.armed entry next.behind items c.truncate_front.new.self.items store c.put.new.self fits next.whole next.longest rest
           put.fits put.put put.alone put.guard put.ahead put.free put.spare put.stays put.spills (λ voids guard. put.used_up voids guard) put.changes put.erases c.put.ensures.counts),
     )

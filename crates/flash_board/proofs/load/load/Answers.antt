@@ -1,6 +1,6 @@
 use Rattle.std.proofs.Common.{ℕ, List, length, map, take, arith, IsTrue, refl, sym, ◌∙◌, ap, subst}
 use Rattle.flash_board.specs.Record.{replayed, moment_after}
-use Rattle.flash_board.specs.Kept.{start, frame_of, peers_fit}
+use Rattle.flash_board.specs.Kept.{outcome_at_attach, frame_of, peers_fit}
 use Rattle.flash_board.specs.Image.{image_words}
 use Rattle.flash_board.specs.declared.record.Feed.{Feed}
 use Rattle.flash_board.specs.declared.record.Call.{Call}
@@ -12,10 +12,10 @@ pub invariant_of-result : goal.invariant_of-result
 invariant_of-result c = record {
   kept = λ told. record {
     words = c.in_ok-load_flash.ensures ∙ sym c.in_ok-load_flash-2.ensures
-        ∙ ap (λ (l : List Call). (replayed c.in_ok-copy_feed.field-0.items l (start c.in_ok-load_flash-2.field-0)).words) (sym c.in_ok-with_capacity.ensures.items);
+        ∙ ap (λ (l : List Call). (replayed c.in_ok-copy_feed.field-0.items l (outcome_at_attach c.in_ok-load_flash-2.field-0)).words) (sym c.in_ok-with_capacity.ensures.items);
     moment = ap (λ (l : List Call). moment_after c.in_ok-copy_feed.field-0.items l (record { programs = 0; erases = 0; receptions = 0; sendings = 0 })) (sym c.in_ok-with_capacity.ensures.items);
     frames = ap (λ (l : List Sent). map frame_of l) c.in_ok-with_capacity-2.ensures.items
-        ∙ ap (λ (l : List Call). take 4096 (replayed c.in_ok-copy_feed.field-0.items l (start c.in_ok-load_flash-2.field-0)).frames) (sym c.in_ok-with_capacity.ensures.items);
+        ∙ ap (λ (l : List Call). take 4096 (replayed c.in_ok-copy_feed.field-0.items l (outcome_at_attach c.in_ok-load_flash-2.field-0)).frames) (sym c.in_ok-with_capacity.ensures.items);
   };
   room = record {
     calls_room = omega (arith, c.in_ok-with_capacity.ensures.exact);

@@ -10,7 +10,7 @@ use Rattle.sector_image.specs.declared.kept.Shape.TheVariants.{Spilled}
 use Rattle.sector_image.specs.Images.{both_bytes}
 use Rattle.sector_image.specs.Room.{left_to_copy}
 use Rattle.guard_row.specs.Home.{second_of}
-use Rattle.sector_image.specs.FirstBad.{At, FirstBad, place_of}
+use Rattle.sector_image.specs.FirstBad.{At, FirstBad, foreign_place}
 use Rattle.sector_image.specs.Fits.{TwoLogWords, torn_chunk}
 use Rattle.sector_image.proofs.LawsBelow.{sector_parts}
 use Rattle.sector_image.proofs.Regions.{half_of, length_second}
@@ -52,7 +52,7 @@ returns-then-left-logs-clause-calls g c = record {
       let long : 2 * length (halfwords_in W (second_of c.args.guard)) ≡ size = omega (arith, g.met.B.Board.shape c.args.board.now told0 c.requires.given.attached (second_of c.args.guard), length_second size c.args.guard, half_of size c.requires.given.attached) in
       let geometry : g.B.Board.sector_bytes c.is_completable.new.board ≡ g.B.Board.sector_bytes c.args.board.now =
       c.is_completable.ensures.reads.changes.geometry ∙ c.log_at.ensures.calls.reads.changes.geometry ∙ c.logs_of.ensures.calls.reads.changes.geometry in
-      subst (λ (q : Region). FirstBad W (place_of q 0 23550)) (sym c.second_sector-region.ensures)
+      subst (λ (q : Region). FirstBad W (foreign_place q 0 23550)) (sym c.second_sector-region.ensures)
       (no_room W c.args.guard c.in_ok-logs.logs.home c.in_ok-logs.logs.other c.in_ok-completable.completable c.logs_of.new.whole c.logs_of.new.upper c.log_at.new.into logs value known
       (omega (arith, c.if-left-logs.true, left, long, c.geometry-sector_bytes.ensures, geometry)));
   fault = tt;

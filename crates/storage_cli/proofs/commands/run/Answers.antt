@@ -1,5 +1,5 @@
 use Rattle.std.proofs.Common.{◌≡◌, ◌∙◌, ℕ, sym, subst, refl, inr, Option, Some}
-use Rattle.command_line.specs.Commands.{line_of}
+use Rattle.command_line.specs.Commands.{command_line_of}
 use Rattle.command_line.specs.Lines.{CommandLine, gen, line_of_words}
 use Rattle.command_line.specs.declared.Command.TheVariants as command
 use Rattle.storage_cli.specs.Sessions.{PrintsSession, WearsOut}
@@ -11,7 +11,7 @@ pub returns-in-Ok-Some-Dump-clause-cut_short : goal.returns-in-Ok-Some-Dump-clau
 returns-in-Ok-Some-Dump-clause-cut_short g c = λ failed told_out.
     let a = c.in-Ok-Some-Dump in
     let line = line_of_words (texts c.args.words.now) in
-    cut_short_of line (Some (line_of (command.Dump a.image))) (g.B.Board.tells c.run_text.new.board) (g.B.Board.words c.args.board.now) (g.K.Sink.written c.args.out.now) (g.K.Sink.written c.run_text.new.out)
+    cut_short_of line (Some (command_line_of (command.Dump a.image))) (g.B.Board.tells c.run_text.new.board) (g.B.Board.words c.args.board.now) (g.K.Sink.written c.args.out.now) (g.K.Sink.written c.run_text.new.out)
     (line_given line a.field-0 a.field-0-0 (command.Dump a.image) a.ensures.value a.field-0-is a.field-0-0-is) (c.run_text.ensures.cut_short failed told_out)
 
 pub returns-in-Ok-Some-Dump-clause-dump_foreign_where : goal.returns-in-Ok-Some-Dump-clause-dump_foreign_where
@@ -22,7 +22,7 @@ returns-in-Ok-Some-Report-clause-cut_short g c = λ failed told_out.
     let a = c.in-Ok-Some-Report in
     let line = line_of_words (texts c.args.words.now) in
     let ran = c.run_text-in-Ok-Some-Report in
-    cut_short_of line (Some (line_of (command.Report a.image))) (g.B.Board.tells ran.new.board) (g.B.Board.words c.args.board.now) (g.K.Sink.written c.args.out.now) (g.K.Sink.written ran.new.out)
+    cut_short_of line (Some (command_line_of (command.Report a.image))) (g.B.Board.tells ran.new.board) (g.B.Board.words c.args.board.now) (g.K.Sink.written c.args.out.now) (g.K.Sink.written ran.new.out)
     (line_given line a.field-0 a.field-0-0 (command.Report a.image) a.ensures.value a.field-0-is a.field-0-0-is) (ran.ensures.cut_short failed told_out)
 
 pub returns-in-Ok-Some-Dump-clause-dump_complete : goal.returns-in-Ok-Some-Dump-clause-dump_complete
@@ -75,5 +75,5 @@ returns-in-Ok-Some-Replay-clause-cut_short g c = λ failed told_out.
     let a = c.in-Ok-Some-Replay in
     let line = line_of_words (texts c.args.words.now) in
     let ran = c.run_replay in
-    cut_short_of line (Some (line_of (command.Replay a.image))) (g.B.Board.tells ran.new.board) (g.B.Board.words c.args.board.now) (g.K.Sink.written c.args.out.now) (g.K.Sink.written ran.new.out)
+    cut_short_of line (Some (command_line_of (command.Replay a.image))) (g.B.Board.tells ran.new.board) (g.B.Board.words c.args.board.now) (g.K.Sink.written c.args.out.now) (g.K.Sink.written ran.new.out)
     (line_given line a.field-0 a.field-0-0 (command.Replay a.image) a.ensures.value a.field-0-is a.field-0-0-is) (inr (ran.ensures.cut_short failed told_out))

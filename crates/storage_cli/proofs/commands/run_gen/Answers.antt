@@ -1,5 +1,5 @@
 use Rattle.std.proofs.Common.{◌∙◌, ap, sym, subst, arith, ℕ, List, ◌++◌}
-use Rattle.storage_cli.specs.Texts.{Line}
+use Rattle.storage_cli.specs.Texts.{PrintedLine}
 use Rattle.storage_cli.specs.Texts as texts
 use Rattle.storage_cli.proofs.Outcomes.{gen_done, gen_others, gen_stopped, not_done, prints_none, prints_stopped, worn_told}
 use Rattle.storage_cli.proofs.TextEndings.{never_0}
@@ -21,7 +21,7 @@ returns-in-Ok-clause-cut_short g c = λ failed told.
     let s = c.in-Ok.summary in
     record {
       text = c.as_slice.result.now;
-      is_text = subst (λ (l : List ℕ). Line l) (sym (c.as_slice.ensures.value ∙ c.session_line-line.ensures)) (texts.Session s.rounds s.events s.frames s.lines s.digest);
+      is_text = subst (λ (l : List ℕ). PrintedLine l) (sym (c.as_slice.ensures.value ∙ c.session_line-line.ensures)) (texts.Session s.rounds s.events s.frames s.lines s.digest);
       count = part.0;
       written = part.1;
     }

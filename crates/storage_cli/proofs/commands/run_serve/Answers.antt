@@ -1,7 +1,7 @@
 use Rattle.std.proofs.Common.{◌≡◌, ◌∙◌, ap, sym, subst, refl, arith, ℕ, List, ◌++◌}
 use Rattle.flash_traits.specs.Budget.{budget_of}
 use Rattle.storage_cli.specs.declared.stop.Served.{Served}
-use Rattle.storage_cli.specs.Texts.{Line}
+use Rattle.storage_cli.specs.Texts.{PrintedLine}
 use Rattle.storage_cli.specs.Texts as texts
 use Rattle.storage_cli.proofs.Outcomes.{attached, faults_none, faults_stopped, foreign_named, foreign_told, memory_told, not_done, prints_none, prints_stopped, serve_done, serve_stopped, stops_early, stops_worn, worn_told}
 use Rattle.storage_cli.proofs.Completeness.{none_named, serve_complete}
@@ -28,7 +28,7 @@ pub returns-in-Ok-clause-cut_short : goal.returns-in-Ok-clause-cut_short
 returns-in-Ok-clause-cut_short g c = λ failed told.
     let part = c.print.ensures.cut failed told in record {
       text = c.as_slice.result.now;
-      is_text = subst (λ (l : List ℕ). Line l) (sym (c.as_slice.ensures.value ∙ c.served_line-line.ensures)) (texts.Served c.in-Ok.served.events c.in-Ok.served.frames);
+      is_text = subst (λ (l : List ℕ). PrintedLine l) (sym (c.as_slice.ensures.value ∙ c.served_line-line.ensures)) (texts.Served c.in-Ok.served.events c.in-Ok.served.frames);
       count = part.0;
       written = part.1;
     }

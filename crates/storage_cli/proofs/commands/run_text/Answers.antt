@@ -1,6 +1,6 @@
 use Rattle.std.proofs.Common.{◌∙◌, ap, sym, subst, refl, inl, inr, ℕ, List, ◌++◌, arith, true≢false}
 use Rattle.flash_traits.specs.Causes.{Rose}
-use Rattle.storage_cli.specs.Texts.{Line}
+use Rattle.storage_cli.specs.Texts.{PrintedLine}
 use Rattle.storage_cli.specs.Steps.Stops.{line_of_stop}
 use Rattle.storage_cli.specs.Statuses.{IsCutShort}
 use Rattle.storage_cli.specs.declared.printing.Printed.{Printed}
@@ -52,7 +52,7 @@ returns-in-Err-clause-ends g c = record {
 
 pub returns-in-Err-clause-cut_short : goal.returns-in-Err-clause-cut_short
 returns-in-Err-clause-cut_short g c = λ failed told.
-    inl (subst (λ (l : List ℕ). IsCutShort Line l (g.K.Sink.written c.print_stop.new.out)) (ap g.K.Sink.written c.in-Err.ensures.quiet) (c.print_stop.ensures.cut failed told))
+    inl (subst (λ (l : List ℕ). IsCutShort PrintedLine l (g.K.Sink.written c.print_stop.new.out)) (ap g.K.Sink.written c.in-Err.ensures.quiet) (c.print_stop.ensures.cut failed told))
 
 pub returns-in-Err-clause-foreign : goal.returns-in-Err-clause-foreign
 returns-in-Err-clause-foreign g c =

@@ -6,7 +6,7 @@ use Rattle.sector_image.specs.FirstBad.{FirstBad}
 use Rattle.sector_image.specs.Stands.{Stands}
 use Rattle.storage_cli.specs.Serving.{HasToVoid}
 use Rattle.storage_cli.specs.Steps.Guard.{WearsFrom}
-use Rattle.storage_cli.specs.Steps.Progress.{IsSafeRun, Completes}
+use Rattle.storage_cli.specs.Steps.Progress.{IsSafeRun, CompletesServe}
 use Rattle.storage_cli.proofs.Causes.{void_from, worn_in, foreign_in}
 use Rattle.storage_cli.proofs.Formatting.{on_ok_part, size_part}
 use Rattle.storage_cli.proofs.Serves.{safe_run, completes_attached, wears_attached}
@@ -28,7 +28,7 @@ returns-clause-completes g c = λ done.
     let budget = budget_of (g.B.Board.sector_bytes c.serve_image.new.board) in
     completes_attached g.B.Board budget c.attach.new.self c.serve_image.new.board (g.B.Board.words c.args.board.now) c.args.turns c.serve_image.result
     (λ t. on_ok_part c.attach.result _ ok a.words (c.serve_image.ensures.told t)) (on_ok_part c.attach.result _ ok a.lists)
-    (subst (λ (n : ℕ). Completes g.B.Board (budget_of n) (g.B.Board.words c.attach.new.self) (g.B.Board.has_lists c.attach.new.self [] []) c.serve_image.new.board c.args.turns c.serve_image.result) (sym c.serve_image.ensures.geometry) (c.serve_image.ensures.completes done))
+    (subst (λ (n : ℕ). CompletesServe g.B.Board (budget_of n) (g.B.Board.words c.attach.new.self) (g.B.Board.has_lists c.attach.new.self [] []) c.serve_image.new.board c.args.turns c.serve_image.result) (sym c.serve_image.ensures.geometry) (c.serve_image.ensures.completes done))
 
 pub returns-clause-foreign_where : goal.returns-clause-foreign_where
 returns-clause-foreign_where g c = λ told place bad.

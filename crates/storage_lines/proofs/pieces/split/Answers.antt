@@ -4,7 +4,7 @@ use Rattle.std.proofs.lemmas.List.Elements.{All-append}
 use Rattle.storage_lines.specs.declared.lines.LineWrite.{LineWrite}
 use Rattle.storage_lines.specs.declared.lines.TheConstants.{STORAGE_BYTES, LINES}
 use Rattle.storage_lines.specs.Areas.{put_in}
-use Rattle.storage_lines.specs.Bytes.{IsBytes, AreBytes, AreInside}
+use Rattle.storage_lines.specs.Bytes.{IsBytes, HaveBytes, AreInside}
 use Rattle.storage_lines.specs.Lines.{after, changes}
 use Rattle.storage_lines.proofs.LineLemmas.{length-after}
 use Rattle.storage_lines.proofs.ByteLemmas.{few_lines, changes_inside, changes_bytes, put_bytes, bytes_after}
@@ -33,6 +33,6 @@ pub returns-in-Ok-clause-bytes : goal.returns-in-Ok-clause-bytes
 returns-in-Ok-clause-bytes c = λ h.
     let before = after c.args.current.now c.as_slice.result.now in
     let now = put_in c.spans_of-spans.result c.args.at c.args.bytes.now before in
-    let old : IsBytes before = bytes_after c.args.current.now c.as_slice.result.now (λ i. omega (arith, c.type_inv.current i)) (subst (λ (l : List LineWrite). AreBytes l) (sym c.as_slice.ensures.value) h) in
-    subst (λ (l : List LineWrite). AreBytes l) (sym (got c))
+    let old : IsBytes before = bytes_after c.args.current.now c.as_slice.result.now (λ i. omega (arith, c.type_inv.current i)) (subst (λ (l : List LineWrite). HaveBytes l) (sym c.as_slice.ensures.value) h) in
+    subst (λ (l : List LineWrite). HaveBytes l) (sym (got c))
     (All-append (λ (write : LineWrite). IsBytes write.bytes) c.args.out.now.items (changes before now) h (changes_bytes before now (put_bytes c.spans_of-spans.result c.args.at c.args.bytes.now before (λ i. omega (arith, c.type_inv.bytes i)) old)))

@@ -1,6 +1,6 @@
 use Rattle.std.proofs.Common.{◌≡◌, ◌+◌, false, refl, sym, ◌∙◌, ap, arith}
 use Rattle.flash_traits.specs.Losses.{Moment, Outcome, Unchanged}
-use Rattle.flash_board.specs.Kept.{start}
+use Rattle.flash_board.specs.Kept.{outcome_at_attach}
 use Rattle.flash_board.specs.declared.record.Call.TheVariants as call
 use Rattle.flash_board.proofs.MemCalls.{kept-push, elapses}
 use Rattle.flash_board.proofs.Recorded.{replayed-noted}
@@ -24,7 +24,7 @@ returns-clause-receives c =
       words = record { geometry = refl; told = c.note.ensures.full; content = λ told. refl };
       lists = λ e f stood told.
           let was = stood (c.note.ensures.full told) in
-          let after = replayed-noted m.feed.items m.calls.items c.note.new.calls.items (call.Recv m.next false) (start m.base) (c.note.ensures.noted told) in
+          let after = replayed-noted m.feed.items m.calls.items c.note.new.calls.items (call.Recv m.next false) (outcome_at_attach m.base) (c.note.ensures.noted told) in
           (was.0 ∙ sym (ap (λ (o : Outcome). o.events) after), was.1 ∙ sym (ap (λ (o : Outcome). o.frames) after));
       passes = elapses m _ (call.Recv m.next false) (record { feed = refl; base = refl; first = refl; told = c.note.ensures.full; noted = c.note.ensures.noted }) Unchanged Unchanged (record { programs = omega arith; erases = omega arith; receptions = omega arith; sendings = omega arith }) (λ o may. may) (λ told. refl) (λ told. refl);
     }

@@ -1,6 +1,6 @@
 use Rattle.std.proofs.Common.{◌≡◌, inl, ◌+◌, ℕ, List, false, refl, sym, ◌∙◌, ap, subst, arith}
 use Rattle.flash_traits.specs.Losses.{Moment, Outcome, SentFrame, sent_frame, Either, Unchanged, Sends}
-use Rattle.flash_board.specs.Kept.{start}
+use Rattle.flash_board.specs.Kept.{outcome_at_attach}
 use Rattle.flash_board.specs.declared.record.Call.TheVariants as call
 use Rattle.flash_board.proofs.MemCalls.{before_of, kept-push, elapses, covers}
 use Rattle.flash_board.proofs.Recorded.{replayed-noted}
@@ -26,7 +26,7 @@ returns-clause-sends c =
       words = record { geometry = refl; told = c.note.ensures.full; content = λ told. refl };
       lists = λ e f stood told.
           let was = stood (c.note.ensures.full told) in
-          let after = replayed-noted m.feed.items m.calls.items c.note.new.calls.items (call.Send c.args.peer c.copied-bytes.result false) (start m.base) (c.note.ensures.noted told) in (
+          let after = replayed-noted m.feed.items m.calls.items c.note.new.calls.items (call.Send c.args.peer c.copied-bytes.result false) (outcome_at_attach m.base) (c.note.ensures.noted told) in (
             was.0 ∙ sym (ap (λ (o : Outcome). o.events) after),
             was.1 ∙ sym (ap (λ (o : Outcome). o.frames) after),
           );

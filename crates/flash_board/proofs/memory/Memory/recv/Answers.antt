@@ -1,7 +1,7 @@
 use Rattle.std.proofs.Common.{◌≡◌, inr, ◌+◌, List, [], ◌∷◌, ◌++◌, drop, map, true, refl, sym, ◌∙◌, ap, subst, arith, slice_get}
 use Rattle.flash_traits.specs.Losses.{Moment, Outcome, Received, received, Either, Unchanged, Receives}
 use Rattle.flash_board.specs.Record.{stepped, event_of}
-use Rattle.flash_board.specs.Kept.{start, frame_of}
+use Rattle.flash_board.specs.Kept.{outcome_at_attach, frame_of}
 use Rattle.flash_board.specs.declared.record.Feed.{Feed}
 use Rattle.flash_board.specs.declared.record.Call.TheVariants as call
 use Rattle.flash_board.proofs.MemCalls.{before_of, kept-push, elapses, covers}
@@ -29,7 +29,7 @@ returns-clause-receives c =
       words = record { geometry = refl; told = c.note.ensures.full; content = λ told. refl };
       lists = λ e f stood told.
           let was = stood (c.note.ensures.full told) in
-          let after = replayed-noted m.feed.items m.calls.items c.note.new.calls.items (call.Recv m.next true) (start m.base) (c.note.ensures.noted told) in (
+          let after = replayed-noted m.feed.items m.calls.items c.note.new.calls.items (call.Recv m.next true) (outcome_at_attach m.base) (c.note.ensures.noted told) in (
             ap (λ (l : List Received). l ++ (received c.deliver-event.result c.deliver-event.new.into) ∷ []) was.0 ∙ ap (λ (r : Received). (before_of m).events ++ r ∷ []) event ∙ sym (ap (λ (o : Outcome). o.events) after),
             was.1 ∙ sym (ap (λ (o : Outcome). o.frames) after),
           );

@@ -1,7 +1,7 @@
 use Rattle.std.proofs.Common.{◌≡◌, inr, ◌+◌, ℕ, List, [], ◌∷◌, ◌++◌, take, true, refl, sym, ◌∙◌, ap, subst, arith}
 use Rattle.flash_traits.specs.Losses.{Moment, Outcome, SentFrame, sent_frame, Either, Unchanged, Sends}
 use Rattle.flash_board.specs.Record.{stepped}
-use Rattle.flash_board.specs.Kept.{start}
+use Rattle.flash_board.specs.Kept.{outcome_at_attach}
 use Rattle.flash_board.specs.declared.record.Call.TheVariants as call
 use Rattle.flash_board.proofs.MemCalls.{before_of, kept-push, frames-push, elapses, covers}
 use Rattle.flash_board.proofs.Recorded.{replayed-noted}
@@ -28,7 +28,7 @@ returns-clause-sends c =
       words = record { geometry = refl; told = c.note.ensures.full; content = λ told. refl };
       lists = λ e f stood told.
           let was = stood (c.note.ensures.full told) in
-          let after = replayed-noted m.feed.items m.calls.items c.note.new.calls.items (call.Send c.args.peer c.copied-bytes.result true) (start m.base) (c.note.ensures.noted told) in (
+          let after = replayed-noted m.feed.items m.calls.items c.note.new.calls.items (call.Send c.args.peer c.copied-bytes.result true) (outcome_at_attach m.base) (c.note.ensures.noted told) in (
             was.0 ∙ sym (ap (λ (o : Outcome). o.events) after),
             ap (λ (l : List SentFrame). l ++ (sent_frame c.args.peer c.args.bytes.now) ∷ []) was.1 ∙ ap (λ (r : SentFrame). (before_of m).frames ++ r ∷ []) (sym same) ∙ sym (ap (λ (o : Outcome). o.frames) after),
           );

@@ -1,7 +1,7 @@
 use Rattle.std.proofs.Common.{◌≡◌, inl, inr, ap, sym, ◌∙◌, ◌+◌, ◌≤◌, subst, arith}
 use Rattle.std.specs.Prelude.{ℕ, List}
 use Rattle.script_lines.specs.Reading.{unread_of}
-use Rattle.script_lines.specs.Seen.{line_of}
+use Rattle.script_lines.specs.Seen.{script_line_of}
 use Rattle.script_board.specs.Taking.{IsAhead, HasNoLine}
 use Rattle.script_board.specs.Marks.{marked}
 use Rattle.script_board.specs.declared.ahead.Ahead.{Ahead}
@@ -46,9 +46,9 @@ returns-then-len-ge-WAITING_LOSSES-clause-took g c = (
 pub returns-clause-took : goal.returns-clause-took
 returns-clause-took g c = (
   c.in-Ok-Some.next.bytes,
-  took_line g.S.Source _ _ _ _ _ c.in-Ok-Some.ensures.reads.0 (line_of c.in-Ok-Some.next.line) c.in-Ok-Some.next.bytes c.in-Ok-Some.ensures.reads.1
+  took_line g.S.Source _ _ _ _ _ c.in-Ok-Some.ensures.reads.0 (script_line_of c.in-Ok-Some.next.line) c.in-Ok-Some.next.bytes c.in-Ok-Some.ensures.reads.1
       (at_some c.in-Ok-Some.field-0 c.in-Ok-Some.next
-      (λ (next : Ahead). IsAhead (line_of next.line) next.bytes (unread_of c.line_ahead.new.buffer.items c.line_ahead.new.ahead) (g.S.Source.tells_rest c.line_ahead.new.input) (g.S.Source.rest c.line_ahead.new.input))
+      (λ (next : Ahead). IsAhead (script_line_of next.line) next.bytes (unread_of c.line_ahead.new.buffer.items c.line_ahead.new.ahead) (g.S.Source.tells_rest c.line_ahead.new.input) (g.S.Source.rest c.line_ahead.new.input))
       c.in-Ok-Some.field-0-is c.in-Ok-Some.ensures.line)
       (unread_drop c.line_ahead.new.buffer.items c.line_ahead.new.ahead c.in-Ok-Some.next.bytes
       (at_some c.in-Ok-Some.field-0 c.in-Ok-Some.next (λ (next : Ahead). next.bytes ≤ c.line_ahead.new.ahead) c.in-Ok-Some.field-0-is c.in-Ok-Some.ensures.inside) c.in-Ok-Some.ensures.within),

@@ -2,7 +2,7 @@ use Rattle.std.proofs.Common.{◌≡◌, inl, ◌+◌, ℕ, List, [], ◌∷◌,
 use Rattle.flash_traits.specs.Losses as link
 use Rattle.script_lines.specs.Script as script
 use Rattle.script_lines.specs.Script.{ScriptLine}
-use Rattle.script_lines.specs.Seen.{line_of}
+use Rattle.script_lines.specs.Seen.{script_line_of}
 use Rattle.script_board.specs.Marks.{marked}
 use Rattle.script_board.specs.declared.board.ScriptMark.TheVariants.{Lost}
 use Rattle.script_board.specs.Taking.{events_in}
@@ -29,8 +29,8 @@ pub lines-preserved : goal.lines-preserved
 lines-preserved g c =
     let i = c.lines.invariant.took in
     let t = c.in-Ok.ensures.took in
-    let line = line_of c.in-Ok.line in
-    let is : line ≡ script.LossLater c.in-LossLater.field-0.call c.in-LossLater.field-0.how = ap line_of c.in-LossLater.is in
+    let line = script_line_of c.in-Ok.line in
+    let is : line ≡ script.LossLater c.in-LossLater.field-0.call c.in-LossLater.field-0.how = ap script_line_of c.in-LossLater.is in
     let long = waits_more line c.lines.self.waiting.items c.next_line.new.self.waiting.items c.in-Ok.ensures.waits in
     record {
       took = (
@@ -56,8 +56,8 @@ pub returns-in-LossNow-clause-took : goal.returns-in-LossNow-clause-took
 returns-in-LossNow-clause-took g c =
     let i = c.lines.invariant.took in
     let t = c.in-Ok.ensures.took in
-    let line = line_of c.in-Ok.line in
-    let is : line ≡ script.LossNow = ap line_of c.in-LossNow.is in
+    let line = script_line_of c.in-Ok.line in
+    let is : line ≡ script.LossNow = ap script_line_of c.in-LossNow.is in
     let long = waits_more line c.lines.self.waiting.items c.next_line.new.self.waiting.items c.in-Ok.ensures.waits in
     let same = ap (λ v. length v.items) c.lose_now.ensures.waits in
     let mark = c.in-Ok.ensures.unmarked ∙ c.lines.invariant.mark in (
@@ -81,8 +81,8 @@ pub returns-in-Idle-clause-took : goal.returns-in-Idle-clause-took
 returns-in-Idle-clause-took g c =
     let i = c.lines.invariant.took in
     let t = c.in-Ok.ensures.took in
-    let line = line_of c.in-Ok.line in
-    let is : line ≡ script.Idle = ap line_of c.in-Idle.is in
+    let line = script_line_of c.in-Ok.line in
+    let is : line ≡ script.Idle = ap script_line_of c.in-Idle.is in
     let long = waits_more line c.lines.self.waiting.items c.next_line.new.self.waiting.items c.in-Ok.ensures.waits in (
       i.0 ++ line ∷ [],
       i.1 + t.0,
@@ -98,8 +98,8 @@ pub returns-in-End-clause-took : goal.returns-in-End-clause-took
 returns-in-End-clause-took g c =
     let i = c.lines.invariant.took in
     let t = c.in-Ok.ensures.took in
-    let line = line_of c.in-Ok.line in
-    let is : line ≡ script.End = ap line_of c.in-End.is in
+    let line = script_line_of c.in-Ok.line in
+    let is : line ≡ script.End = ap script_line_of c.in-End.is in
     let long = waits_more line c.lines.self.waiting.items c.next_line.new.self.waiting.items c.in-Ok.ensures.waits in (
       i.0 ++ line ∷ [],
       i.1 + t.0,
@@ -113,7 +113,7 @@ returns-in-End-clause-took g c =
 
 pub returns-in-Datagram-clause-bounds : goal.returns-in-Datagram-clause-bounds
 returns-in-Datagram-clause-bounds g c = (
-  station_fits (line_of c.in-Ok.line) c.in-Datagram.station c.in-Datagram.bytes.items c.in-Ok.ensures.spells.0 (ap line_of c.in-Datagram.is) c.in-Ok.ensures.spells.1,
+  station_fits (script_line_of c.in-Ok.line) c.in-Datagram.station c.in-Datagram.bytes.items c.in-Ok.ensures.spells.0 (ap script_line_of c.in-Datagram.is) c.in-Ok.ensures.spells.1,
   c.len-len.ensures.fits,
 )
 
@@ -121,8 +121,8 @@ pub returns-in-Datagram-clause-took : goal.returns-in-Datagram-clause-took
 returns-in-Datagram-clause-took g c =
     let i = c.lines.invariant.took in
     let t = c.in-Ok.ensures.took in
-    let line = line_of c.in-Ok.line in
-    let is : line ≡ script.Datagram c.in-Datagram.station c.in-Datagram.bytes.items = ap line_of c.in-Datagram.is in
+    let line = script_line_of c.in-Ok.line in
+    let is : line ≡ script.Datagram c.in-Datagram.station c.in-Datagram.bytes.items = ap script_line_of c.in-Datagram.is in
     let long = waits_more line c.lines.self.waiting.items c.next_line.new.self.waiting.items c.in-Ok.ensures.waits in
     let copied : c.copy_from_slice.new.self ≡ c.in-Datagram.bytes.items = c.copy_from_slice.ensures.after ∙ c.as_slice.ensures.value in
     let front = take_front c.len-len.result c.copy_from_slice.new.self _ (c.len-len.ensures.value ∙ ap length (sym copied)) ∙ copied in (

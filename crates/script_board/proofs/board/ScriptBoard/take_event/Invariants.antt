@@ -5,7 +5,7 @@ use Rattle.script_lines.specs.declared.numbers.TheConstants.{SCRIPT_LINES}
 use Rattle.script_board.specs.Taking.{Took}
 use Rattle.script_board.specs.Hearing.{loses, AreLosses}
 use Rattle.script_board.specs.declared.waiting.TheConstants.{WAITING_LOSSES}
-use Rattle.script_board.specs.Boards.{unread_in, hears, OnlyScript}
+use Rattle.script_board.specs.Boards.{unread_in, reception_faults, OnlyScript}
 use Rattle.script_board.proofs.board.ScriptBoard.take_event.Given as goal
 
 abbrev pub invariant-lines : goal.invariant-lines
@@ -17,7 +17,7 @@ invariant-lines g l = record {
       × (length l.self.waiting.items ≡ length l.fn.self.waiting.items + loses lines);
   few : length l.fn.self.waiting.items ≤ WAITING_LOSSES → length l.self.waiting.items ≤ WAITING_LOSSES;
   mark : l.self.mark ≡ l.fn.self.mark;
-  hears : hears g.S.Source l.fn.self ≤ hears g.S.Source l.self;
+  hears : reception_faults g.S.Source l.fn.self ≤ reception_faults g.S.Source l.self;
   source : g.S.Source.faults l.fn.self.input.now ≤ g.S.Source.faults l.self.input.now;
   failures : slice_index l.self.faults 3 ≡ slice_index l.fn.self.faults 3;
   others : OnlyScript l.fn.self l.self;
