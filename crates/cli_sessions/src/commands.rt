@@ -335,8 +335,8 @@ fn reports_and_dumps_an_image_that_format_made(rt: HostRuntime) -> Result<(), Fa
     assert_eq!(rt; status, Status(0));
     let (status, text) = call(alloc, &["report", "a"], &mut board)?;
     assert_eq!(rt; status, Status(0));
-    let expected =
-        b"image 16384\nguard 0\ns0 inuse entries 0 torn 0 free 16380\ns1 available entries 0 torn 0 free 16380\nstate alone\n";
+    let expected = b"image 16384\nguard 0\ns0 inuse entries 0 torn 0 free 16380\n\
+            s1 available entries 0 torn 0 free 16380\nstate alone\n";
     assert_eq!(rt; text.as_slice(), expected.as_slice());
     let (status, text) = call(alloc, &["dump", "a"], &mut board)?;
     assert_eq!(rt; status, Status(0));
@@ -359,7 +359,8 @@ fn dumps_no_foreign_image_and_reports_it(rt: HostRuntime) -> Result<(), Fail> {
     let (status, text) = call(alloc, &["report", "a"], &mut board)?;
     assert_eq!(rt; status, Status(0));
     let expected =
-        b"image 16384\nguard 0\ns0 foreign 2 000E\ns1 available entries 0 torn 0 free 16380\nstate foreign\n";
+        b"image 16384\nguard 0\ns0 foreign 2 000E\ns1 available entries 0 torn 0 free 16380\n\
+            state foreign\n";
     assert_eq!(rt; text.as_slice(), expected.as_slice());
     Ok(())
 }

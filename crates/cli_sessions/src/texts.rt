@@ -77,8 +77,8 @@ fn dumped(alloc: Global, s0: &[u16], s1: &[u16], guard: &[u16]) -> Result<Vec<u8
 fn reports_a_new_image(rt: HostRuntime) -> Result<(), Fail> {
     one_text();
     let text = reported(rt.alloc(), &IN_USE, &AVAILABLE, &[])?;
-    let expected =
-        b"image 16384\nguard 0\ns0 inuse entries 0 torn 0 free 16380\ns1 available entries 0 torn 0 free 16380\nstate alone\n";
+    let expected = b"image 16384\nguard 0\ns0 inuse entries 0 torn 0 free 16380\n\
+            s1 available entries 0 torn 0 free 16380\nstate alone\n";
     assert_eq!(rt; text.as_slice(), expected.as_slice());
     Ok(())
 }
@@ -87,16 +87,16 @@ fn reports_a_new_image(rt: HostRuntime) -> Result<(), Fail> {
 fn reports_each_state(rt: HostRuntime) -> Result<(), Fail> {
     let alloc = rt.alloc();
     let alone = reported(alloc, &AVAILABLE, &IN_USE, &[0, 0])?;
-    let expected =
-        b"image 16384\nguard 2\ns0 available entries 0 torn 0 free 16380\ns1 inuse entries 0 torn 0 free 16380\nstate alone\n";
+    let expected = b"image 16384\nguard 2\ns0 available entries 0 torn 0 free 16380\n\
+            s1 inuse entries 0 torn 0 free 16380\nstate alone\n";
     assert_eq!(rt; alone.as_slice(), expected.as_slice());
     let marked = reported(alloc, &FULL, &AVAILABLE, &[])?;
-    let expected =
-        b"image 16384\nguard 0\ns0 full entries 1 torn 1 free 16360\ns1 available entries 0 torn 0 free 16380\nstate marked\n";
+    let expected = b"image 16384\nguard 0\ns0 full entries 1 torn 1 free 16360\n\
+            s1 available entries 0 torn 0 free 16380\nstate marked\n";
     assert_eq!(rt; marked.as_slice(), expected.as_slice());
     let spilled = reported(alloc, &FULL, &IN_USE, &[])?;
-    let expected =
-        b"image 16384\nguard 0\ns0 full entries 1 torn 1 free 16360\ns1 inuse entries 0 torn 0 free 16380\nstate spilled\n";
+    let expected = b"image 16384\nguard 0\ns0 full entries 1 torn 1 free 16360\n\
+            s1 inuse entries 0 torn 0 free 16380\nstate spilled\n";
     assert_eq!(rt; spilled.as_slice(), expected.as_slice());
     let voided = reported(alloc, &[0x1234, 0x5678], &IN_USE, &[0])?;
     let expected =
@@ -110,17 +110,18 @@ fn reports_foreign_words_where_they_stand(rt: HostRuntime) -> Result<(), Fail> {
     let alloc = rt.alloc();
     let sector = reported(alloc, &FOREIGN, &AVAILABLE, &[])?;
     let expected =
-        b"image 16384\nguard 0\ns0 foreign 2 000E\ns1 available entries 0 torn 0 free 16380\nstate foreign\n";
+        b"image 16384\nguard 0\ns0 foreign 2 000E\ns1 available entries 0 torn 0 free 16380\n\
+            state foreign\n";
     assert_eq!(rt; sector.as_slice(), expected.as_slice());
     // no sector is void
     let row = reported(alloc, &[0x1234], &IN_USE, &[0, 0x00FF])?;
-    let expected =
-        b"image 16384\nguard foreign 1 00FF\ns0 foreign 0 1234\ns1 inuse entries 0 torn 0 free 16380\nstate foreign\n";
+    let expected = b"image 16384\nguard foreign 1 00FF\ns0 foreign 0 1234\n\
+            s1 inuse entries 0 torn 0 free 16380\nstate foreign\n";
     assert_eq!(rt; row.as_slice(), expected.as_slice());
     // each sector by itself is right, but not beside the other
     let both = reported(alloc, &IN_USE, &IN_USE, &[])?;
-    let expected =
-        b"image 16384\nguard 0\ns0 inuse entries 0 torn 0 free 16380\ns1 inuse entries 0 torn 0 free 16380\nstate foreign\n";
+    let expected = b"image 16384\nguard 0\ns0 inuse entries 0 torn 0 free 16380\n\
+            s1 inuse entries 0 torn 0 free 16380\nstate foreign\n";
     assert_eq!(rt; both.as_slice(), expected.as_slice());
     Ok(())
 }
@@ -130,7 +131,8 @@ fn dumps_a_stored_parameter_and_the_defaults(rt: HostRuntime) -> Result<(), Fail
     let text = dumped(rt.alloc(), &VERSION_121, &AVAILABLE, &[])?;
     assert!(rt;
         text.starts_with(
-            b"image 16384 guard 0 alone\nparam FORMAT_VERSION i16 121\nparam RTL_ALT i32 1500\nparam LOG_BITMASK i32 176126\nparam FS_THR_ENABLE i8 1\n"
+            b"image 16384 guard 0 alone\nparam FORMAT_VERSION i16 121\nparam RTL_ALT i32 1500\n\
+                param LOG_BITMASK i32 176126\nparam FS_THR_ENABLE i8 1\n"
         )
     );
     let float = b"\nparam FENCE_ALT_MAX f32 42C80000\n";
@@ -140,7 +142,8 @@ fn dumps_a_stored_parameter_and_the_defaults(rt: HostRuntime) -> Result<(), Fail
     );
     assert!(rt;
         text.ends_with(
-            b"\nparam RC16_OPTION i16 0\nmission 0\nfence 0\nsha256 4e5543722d59094574e27e4bda1557b46c94e177d9248778787b2730e4257920\n"
+            b"\nparam RC16_OPTION i16 0\nmission 0\nfence 0\n\
+                sha256 4e5543722d59094574e27e4bda1557b46c94e177d9248778787b2730e4257920\n"
         )
     );
     assert_eq!(rt; text.iter().filter(|byte| **byte == b'\n').count(), 244);
@@ -157,7 +160,9 @@ fn dumps_a_mission_and_a_fence(rt: HostRuntime) -> Result<(), Fail> {
     );
     assert!(rt;
         text.ends_with(
-            b"\nparam RC16_OPTION i16 0\nmission 1\ncommand 0 16 5 01E80B004C52401C62F41705\nfence 1\nfence 0 5003 473977420 85455970 42C80000\nsha256 ccd7248904735ce63732ead5f49834b45e0549a111b53108f038adac3731a424\n"
+            b"\nparam RC16_OPTION i16 0\nmission 1\ncommand 0 16 5 01E80B004C52401C62F41705\n\
+                fence 1\nfence 0 5003 473977420 85455970 42C80000\n\
+                sha256 ccd7248904735ce63732ead5f49834b45e0549a111b53108f038adac3731a424\n"
         )
     );
     Ok(())
@@ -169,7 +174,8 @@ fn dumps_the_digest_of_zeros(rt: HostRuntime) -> Result<(), Fail> {
     assert!(rt; text.starts_with(b"image 16384 guard 1 voided\nparam FORMAT_VERSION i16 120\n"));
     assert!(rt;
         text.ends_with(
-            b"\nmission 0\nfence 0\nsha256 0299f757a85a1aad6cbe1ad2b0eda925d8df667cd04e646af8917f65cbf24537\n"
+            b"\nmission 0\nfence 0\n\
+                sha256 0299f757a85a1aad6cbe1ad2b0eda925d8df667cd04e646af8917f65cbf24537\n"
         )
     );
     Ok(())

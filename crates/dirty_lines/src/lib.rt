@@ -141,7 +141,8 @@ impl DirtyLines {
     /// Appends the lines of a change, and applies them to what is current.
     pub fn issue(&mut self, batch: &Batch) -> Result<(), Full>
         requires inside { AreInside batch.now.items }
-        ensures full { IsErr result ↔ (PENDING_LINES < length self.old.pending + length batch.now.items) }
+        ensures full { IsErr result
+            ↔ (PENDING_LINES < length self.old.pending + length batch.now.items) }
         ensures issued { OnOk result (self.new
             ≡ lines_of self.old.store (self.old.pending ++ batch.now.items)) }
         ensures unchanged { OnErr result (self.new ≡ self.old) }

@@ -62,9 +62,9 @@ HasLists m e f = m.full ≡ false → (e ≡ recorded_events m) × (f ≡ record
 -- the clauses of a board's calls, of a device in memory
 abbrev pub MemoryChanges : Memory → Memory → (Words → Words → Type 0) → (Words → Words → Type 0) →
     Type 0
-MemoryChanges old new lost done = ChangesWords (Unit {0}) (λ (m : Memory). m.sector_bytes) (λ (m : Memory).
-    m.full ≡ false) (λ (m : Memory). words_of m.image) HasLists (λ (m : Memory).
-    moment_of m.counts) Now Left old new lost done
+MemoryChanges old new lost done = ChangesWords (Unit {0}) (λ (m : Memory). m.sector_bytes)
+    (λ (m : Memory). m.full ≡ false) (λ (m : Memory). words_of m.image) HasLists
+    (λ (m : Memory). moment_of m.counts) Now Left old new lost done
 
 abbrev pub MemoryPasses : Memory → Memory → (Outcome → Outcome → Type 0) → (Outcome → Outcome →
     Type 0) → Type 0

@@ -165,8 +165,10 @@ impl Board for MemBoard {
             ⟦<MemBoard as Board>⟧.has_lists self.new e f }
         ensures moment { ⟦<MemBoard as Board>⟧.moment self.new
             ≡ ⟦<MemBoard as Board>⟧.moment self.old }
-        ensures cause { HasCause Fault.Attach (⟦<MemBoard as Board>⟧.faults self.old) (⟦<MemBoard as Board>⟧.faults self.new) result }
-        ensures counts { CountsKind Fault.Attach (⟦<MemBoard as Board>⟧.faults self.old) (⟦<MemBoard as Board>⟧.faults self.new) result }
+        ensures cause { HasCause Fault.Attach (⟦<MemBoard as Board>⟧.faults self.old)
+            (⟦<MemBoard as Board>⟧.faults self.new) result }
+        ensures counts { CountsKind Fault.Attach (⟦<MemBoard as Board>⟧.faults self.old)
+            (⟦<MemBoard as Board>⟧.faults self.new) result }
         ensures fails { IsErr result ↔ IsTrue (is_among (failing_calls self.old) (next_call
             self.old)) ⊎ ((make ≡ None) × (is_size (holdings self.old).image_size ≡ false)) }
         ensures numbers { (failing_calls self.new ≡ failing_calls self.old) × (next_call self.new
@@ -203,8 +205,10 @@ impl Board for MemBoard {
             ⟦<MemBoard as Board>⟧.tells self.new }
         ensures moment { ⟦<MemBoard as Board>⟧.moment self.new
             ≡ ⟦<MemBoard as Board>⟧.moment self.old }
-        ensures cause { HasCause Fault.Read (⟦<MemBoard as Board>⟧.faults self.old) (⟦<MemBoard as Board>⟧.faults self.new) result }
-        ensures counts { CountsKind Fault.Read (⟦<MemBoard as Board>⟧.faults self.old) (⟦<MemBoard as Board>⟧.faults self.new) result }
+        ensures cause { HasCause Fault.Read (⟦<MemBoard as Board>⟧.faults self.old)
+            (⟦<MemBoard as Board>⟧.faults self.new) result }
+        ensures counts { CountsKind Fault.Read (⟦<MemBoard as Board>⟧.faults self.old)
+            (⟦<MemBoard as Board>⟧.faults self.new) result }
         ensures fails { IsErr result ↔ IsTrue (is_among (failing_calls self.old) (next_call
             self.old)) }
         ensures numbers { (failing_calls self.new ≡ failing_calls self.old) × (next_call self.new
@@ -230,8 +234,10 @@ impl Board for MemBoard {
             (ProgramMayLeave region at word)) }
         ensures moment { ⟦<MemBoard as Board>⟧.moment self.new
             ≡ after_program (⟦<MemBoard as Board>⟧.moment self.old) }
-        ensures cause { HasCause Fault.Flash (⟦<MemBoard as Board>⟧.faults self.old) (⟦<MemBoard as Board>⟧.faults self.new) result }
-        ensures counts { CountsKind Fault.Flash (⟦<MemBoard as Board>⟧.faults self.old) (⟦<MemBoard as Board>⟧.faults self.new) result }
+        ensures cause { HasCause Fault.Flash (⟦<MemBoard as Board>⟧.faults self.old)
+            (⟦<MemBoard as Board>⟧.faults self.new) result }
+        ensures counts { CountsKind Fault.Flash (⟦<MemBoard as Board>⟧.faults self.old)
+            (⟦<MemBoard as Board>⟧.faults self.new) result }
         ensures fails { IsErr result ↔ IsTrue (is_among (failing_calls self.old) (next_call
             self.old)) }
         ensures numbers { (failing_calls self.new ≡ failing_calls self.old) × (next_call self.new
@@ -264,8 +270,10 @@ impl Board for MemBoard {
             region)) }
         ensures moment { ⟦<MemBoard as Board>⟧.moment self.new
             ≡ after_erase (⟦<MemBoard as Board>⟧.moment self.old) }
-        ensures cause { HasCause Fault.Flash (⟦<MemBoard as Board>⟧.faults self.old) (⟦<MemBoard as Board>⟧.faults self.new) result }
-        ensures counts { CountsKind Fault.Flash (⟦<MemBoard as Board>⟧.faults self.old) (⟦<MemBoard as Board>⟧.faults self.new) result }
+        ensures cause { HasCause Fault.Flash (⟦<MemBoard as Board>⟧.faults self.old)
+            (⟦<MemBoard as Board>⟧.faults self.new) result }
+        ensures counts { CountsKind Fault.Flash (⟦<MemBoard as Board>⟧.faults self.old)
+            (⟦<MemBoard as Board>⟧.faults self.new) result }
         ensures fails { IsErr result ↔ IsTrue (is_among (failing_calls self.old) (next_call
             self.old)) }
         ensures numbers { (failing_calls self.new ≡ failing_calls self.old) × (next_call self.new
@@ -308,8 +316,10 @@ impl Board for MemBoard {
             (received event into.new)))) }
         ensures moment { ⟦<MemBoard as Board>⟧.moment self.new
             ≡ after_recv (⟦<MemBoard as Board>⟧.moment self.old) }
-        ensures cause { HasCause Fault.Recv (⟦<MemBoard as Board>⟧.faults self.old) (⟦<MemBoard as Board>⟧.faults self.new) result }
-        ensures counts { CountsKind Fault.Recv (⟦<MemBoard as Board>⟧.faults self.old) (⟦<MemBoard as Board>⟧.faults self.new) result }
+        ensures cause { HasCause Fault.Recv (⟦<MemBoard as Board>⟧.faults self.old)
+            (⟦<MemBoard as Board>⟧.faults self.new) result }
+        ensures counts { CountsKind Fault.Recv (⟦<MemBoard as Board>⟧.faults self.old)
+            (⟦<MemBoard as Board>⟧.faults self.new) result }
         ensures fails { IsErr result ↔ IsTrue (is_among (failing_calls self.old) (next_call
             self.old)) }
         ensures numbers { (failing_calls self.new ≡ failing_calls self.old) × (next_call self.new
@@ -353,8 +363,10 @@ impl Board for MemBoard {
             (Sends (sent_frame peer bytes.now))) }
         ensures moment { ⟦<MemBoard as Board>⟧.moment self.new
             ≡ after_send (⟦<MemBoard as Board>⟧.moment self.old) }
-        ensures cause { HasCause Fault.Send (⟦<MemBoard as Board>⟧.faults self.old) (⟦<MemBoard as Board>⟧.faults self.new) result }
-        ensures counts { CountsKind Fault.Send (⟦<MemBoard as Board>⟧.faults self.old) (⟦<MemBoard as Board>⟧.faults self.new) result }
+        ensures cause { HasCause Fault.Send (⟦<MemBoard as Board>⟧.faults self.old)
+            (⟦<MemBoard as Board>⟧.faults self.new) result }
+        ensures counts { CountsKind Fault.Send (⟦<MemBoard as Board>⟧.faults self.old)
+            (⟦<MemBoard as Board>⟧.faults self.new) result }
         ensures fails { IsErr result ↔ IsTrue (is_among (failing_calls self.old) (next_call
             self.old)) }
         ensures numbers { (failing_calls self.new ≡ failing_calls self.old) × (next_call self.new

@@ -71,8 +71,10 @@ impl Sink for MemSink {
             ⟦<MemSink as Sink>⟧.written self.new ≡ ⟦<MemSink as Sink>⟧.written self.old ++ from.now)
             (λ _. (count : ℕ) × (⟦<MemSink as Sink>⟧.written self.new
             ≡ ⟦<MemSink as Sink>⟧.written self.old ++ take count from.now)) }
-        ensures cause { HasOneCause (⟦<MemSink as Sink>⟧.faults self.old) (⟦<MemSink as Sink>⟧.faults self.new) result }
-        ensures counts { CountsFault (⟦<MemSink as Sink>⟧.faults self.old) (⟦<MemSink as Sink>⟧.faults self.new) result }
+        ensures cause { HasOneCause (⟦<MemSink as Sink>⟧.faults self.old)
+            (⟦<MemSink as Sink>⟧.faults self.new) result }
+        ensures counts { CountsFault (⟦<MemSink as Sink>⟧.faults self.old)
+            (⟦<MemSink as Sink>⟧.faults self.new) result }
         ensures fails { IsErr result ↔ IsTrue (is_among (failing_calls self.old) (next_call
             self.old)) }
         ensures numbered { (failing_calls self.new ≡ failing_calls self.old) × (next_call self.new

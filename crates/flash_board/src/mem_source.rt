@@ -77,8 +77,10 @@ impl Source for MemSource {
             ⟦<MemSource as Source>⟧.rest self.new ≡ ⟦<MemSource as Source>⟧.rest self.old) }
         ensures end { ⟦<MemSource as Source>⟧.tells_rest self.new → IfOk result (λ count. count
             ≡ 0 → length into.new ≢ 0 → ⟦<MemSource as Source>⟧.rest self.old ≡ []) }
-        ensures cause { HasOneCause (⟦<MemSource as Source>⟧.faults self.old) (⟦<MemSource as Source>⟧.faults self.new) result }
-        ensures counts { CountsFault (⟦<MemSource as Source>⟧.faults self.old) (⟦<MemSource as Source>⟧.faults self.new) result }
+        ensures cause { HasOneCause (⟦<MemSource as Source>⟧.faults self.old)
+            (⟦<MemSource as Source>⟧.faults self.new) result }
+        ensures counts { CountsFault (⟦<MemSource as Source>⟧.faults self.old)
+            (⟦<MemSource as Source>⟧.faults self.new) result }
         ensures fails { IsErr result ↔ IsTrue (is_among (failing_calls self.old) (next_call
             self.old)) }
         ensures numbered { (failing_calls self.new ≡ failing_calls self.old) × (next_call self.new

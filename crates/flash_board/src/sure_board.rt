@@ -148,7 +148,8 @@ impl Board for SureBoard {
             ⟦<SureBoard as Board>⟧.has_lists self.new e f }
         ensures moment { ⟦<SureBoard as Board>⟧.moment self.new
             ≡ ⟦<SureBoard as Board>⟧.moment self.old }
-        ensures cause { HasCause Fault.Attach (⟦<SureBoard as Board>⟧.faults self.old) (⟦<SureBoard as Board>⟧.faults self.new) result }
+        ensures cause { HasCause Fault.Attach (⟦<SureBoard as Board>⟧.faults self.old)
+            (⟦<SureBoard as Board>⟧.faults self.new) result }
         ensures sure { IsOk result }
         ensures goes_on { ⟦<SureBoard as Board>⟧.tells self.old →
             ⟦<SureBoard as Board>⟧.tells self.new }
@@ -181,7 +182,8 @@ impl Board for SureBoard {
             ⟦<SureBoard as Board>⟧.tells self.new }
         ensures moment { ⟦<SureBoard as Board>⟧.moment self.new
             ≡ ⟦<SureBoard as Board>⟧.moment self.old }
-        ensures cause { HasCause Fault.Read (⟦<SureBoard as Board>⟧.faults self.old) (⟦<SureBoard as Board>⟧.faults self.new) result }
+        ensures cause { HasCause Fault.Read (⟦<SureBoard as Board>⟧.faults self.old)
+            (⟦<SureBoard as Board>⟧.faults self.new) result }
         ensures sure { IsOk result }
         ensures as_before { IfOk result (λ word. word
             ≡ slice_index (halfwords_in (⟦<SureBoard as Board>⟧.words self.old) region) at) }
@@ -200,7 +202,8 @@ impl Board for SureBoard {
             (ProgramMayLeave region at word)) }
         ensures moment { ⟦<SureBoard as Board>⟧.moment self.new
             ≡ after_program (⟦<SureBoard as Board>⟧.moment self.old) }
-        ensures cause { HasCause Fault.Flash (⟦<SureBoard as Board>⟧.faults self.old) (⟦<SureBoard as Board>⟧.faults self.new) result }
+        ensures cause { HasCause Fault.Flash (⟦<SureBoard as Board>⟧.faults self.old)
+            (⟦<SureBoard as Board>⟧.faults self.new) result }
         ensures sure { IsOk result }
         ensures goes_on { ⟦<SureBoard as Board>⟧.tells self.old →
             (holdings self.old).recorded < 65536 →
@@ -223,7 +226,8 @@ impl Board for SureBoard {
             (EraseMayLeave region)) }
         ensures moment { ⟦<SureBoard as Board>⟧.moment self.new
             ≡ after_erase (⟦<SureBoard as Board>⟧.moment self.old) }
-        ensures cause { HasCause Fault.Flash (⟦<SureBoard as Board>⟧.faults self.old) (⟦<SureBoard as Board>⟧.faults self.new) result }
+        ensures cause { HasCause Fault.Flash (⟦<SureBoard as Board>⟧.faults self.old)
+            (⟦<SureBoard as Board>⟧.faults self.new) result }
         ensures sure { IsOk result }
         ensures goes_on { ⟦<SureBoard as Board>⟧.tells self.old →
             (holdings self.old).recorded < 65536 →
@@ -256,7 +260,8 @@ impl Board for SureBoard {
             (received event into.new)))) }
         ensures moment { ⟦<SureBoard as Board>⟧.moment self.new
             ≡ after_recv (⟦<SureBoard as Board>⟧.moment self.old) }
-        ensures cause { HasCause Fault.Recv (⟦<SureBoard as Board>⟧.faults self.old) (⟦<SureBoard as Board>⟧.faults self.new) result }
+        ensures cause { HasCause Fault.Recv (⟦<SureBoard as Board>⟧.faults self.old)
+            (⟦<SureBoard as Board>⟧.faults self.new) result }
         ensures sure { IsOk result }
         ensures goes_on { ⟦<SureBoard as Board>⟧.tells self.old →
             (holdings self.old).recorded < 65536 →
@@ -292,7 +297,8 @@ impl Board for SureBoard {
             (Sends (sent_frame peer bytes.now))) }
         ensures moment { ⟦<SureBoard as Board>⟧.moment self.new
             ≡ after_send (⟦<SureBoard as Board>⟧.moment self.old) }
-        ensures cause { HasCause Fault.Send (⟦<SureBoard as Board>⟧.faults self.old) (⟦<SureBoard as Board>⟧.faults self.new) result }
+        ensures cause { HasCause Fault.Send (⟦<SureBoard as Board>⟧.faults self.old)
+            (⟦<SureBoard as Board>⟧.faults self.new) result }
         ensures sure { IsOk result }
         ensures goes_on { ⟦<SureBoard as Board>⟧.tells self.old →
             (holdings self.old).recorded < 65536 →

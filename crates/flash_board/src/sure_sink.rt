@@ -65,7 +65,8 @@ impl Sink for SureSink {
             ≡ ⟦<SureSink as Sink>⟧.written self.old ++ from.now)
             (λ _. (count : ℕ) × (⟦<SureSink as Sink>⟧.written self.new
             ≡ ⟦<SureSink as Sink>⟧.written self.old ++ take count from.now)) }
-        ensures cause { HasOneCause (⟦<SureSink as Sink>⟧.faults self.old) (⟦<SureSink as Sink>⟧.faults self.new) result }
+        ensures cause { HasOneCause (⟦<SureSink as Sink>⟧.faults self.old)
+            (⟦<SureSink as Sink>⟧.faults self.new) result }
         ensures sure { IsOk result }
         ensures goes_on { ⟦<SureSink as Sink>⟧.tells_written self.old →
             length (⟦<SureSink as Sink>⟧.written self.old) + length from.now

@@ -68,7 +68,8 @@ impl Source for SureSource {
             ⟦<SureSource as Source>⟧.rest self.new ≡ ⟦<SureSource as Source>⟧.rest self.old) }
         ensures end { ⟦<SureSource as Source>⟧.tells_rest self.new → IfOk result (λ count. count
             ≡ 0 → length into.new ≢ 0 → ⟦<SureSource as Source>⟧.rest self.old ≡ []) }
-        ensures cause { HasOneCause (⟦<SureSource as Source>⟧.faults self.old) (⟦<SureSource as Source>⟧.faults self.new) result }
+        ensures cause { HasOneCause (⟦<SureSource as Source>⟧.faults self.old)
+            (⟦<SureSource as Source>⟧.faults self.new) result }
         ensures sure { IsOk result }
         ensures count { IfOk result (λ count. count
             ≡ min (length into.old) (length (⟦<SureSource as Source>⟧.rest self.old))) }

@@ -3,19 +3,13 @@ ghost use Rattle.flash_traits.specs.Words.{IsSectorSize};
 ghost use Rattle.flash_traits.specs.Budget.{budget_of};
 ghost use Rattle.std.specs.Prelude.{◌≡◌};
 
-use crate::{Geometry, LINES};
+use crate::{CHUNKS, COPY_BYTES, Geometry};
 
 /// The bytes of a sector's header.
 const HEADER_BYTES: u32 = 4;
 
-/// The bytes of an entry of eight lines, as a copy of a chunk has.
-const COPY_BYTES: u32 = 66;
-
 /// The bytes of an entry of one line.
 const LINE_BYTES: u32 = 10;
-
-/// The chunks of the storage, of eight lines each.
-const CHUNKS: u32 = LINES as u32 / 8;
 
 /// The arming budget: how many lines may be written while armed, since nothing is erased then.
 pub fn budget(geometry: Geometry) -> u32

@@ -175,7 +175,8 @@ pub trait Board {
         ensures changes { ChangesWords records sector_bytes tells words has_lists moment now left
             self.old self.new (EraseMayLeave region)
             (ByResult result (Erases region) (EraseMayLeave region)) }
-        ensures covers { Covers records moment now left self.old self.new (OnWords (EraseMayLeave region)) }
+        ensures covers { Covers records moment now left self.old self.new
+            (OnWords (EraseMayLeave region)) }
         ensures moment { moment self.new ≡ after_erase (moment self.old) }
         ensures cause { HasCause Fault.Flash (faults self.old) (faults self.new) result };
 

@@ -18,7 +18,8 @@ pub use board::{Board, Event, Failed, Fault, Geometry, LogError, Mark, Region};
 pub use geometry::{is_sector_size, size_of_image};
 pub use halfwords::{program_halfword, read_halfword};
 pub use numbers::{
-    DATAGRAM_BYTES, ERASED, FRAME_BYTES, GUARD_HALFWORDS, LINES, SIGNATURE, STATIONS,
+    CHUNKS, COPY_BYTES, DATAGRAM_BYTES, ERASED, FRAME_BYTES, GUARD_HALFWORDS, LINES, SIGNATURE,
+    STATIONS,
 };
 pub use pair::program_pair;
 pub use stream::{Sink, Source};

@@ -3,8 +3,14 @@
 /// The lines of the storage, of eight bytes each.
 pub const LINES: u16 = 1_920;
 
+/// The chunks of the storage, of eight lines each.
+pub const CHUNKS: u32 = LINES as u32 / 8;
+
 /// The halfwords of the guard row.
 pub const GUARD_HALFWORDS: u32 = 8_192;
+
+/// The bytes of an entry of eight lines, as the copy of a chunk has.
+pub const COPY_BYTES: u32 = 66;
 
 /// A halfword after an erase.
 pub const ERASED: u16 = 0xFFFF;

@@ -13,7 +13,8 @@ use storage_lines::{Batch, LineWrite};
 /// The lines of each flush.
 const LINES: u16 = 8;
 
-/// The calls before the first program: the attach, and what the opening reads of an empty image of 16,384-byte sectors.
+/// The calls before the first program: the attach, and what the opening reads of an empty image of
+/// 16,384-byte sectors.
 const OPENING: u32 = 1 + 8193 + 4 + 8193 + 8192;
 
 /// What a flush took.
@@ -64,7 +65,8 @@ fn bytes_of(image: &[u8]) -> u32 {
     bytes
 }
 
-/// Flushes the lines on a board whose next call behind so many programs fails. None where the flush met that call.
+/// Flushes the lines on a board whose next call behind so many programs fails. None where the flush
+/// met that call.
 fn flushed(alloc: Global, batch: &Batch, programs: u32) -> Result<Option<Cost>>
     requires inside { AreInside batch.now.items }
     requires few { programs < 1000 }

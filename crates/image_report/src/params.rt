@@ -9,11 +9,11 @@ ghost use Rattle.image_report.specs.Steps.Writes.{Writes};
 use crate::output::write;
 use flash_traits::{Failed, Sink};
 use param_records::{Value, value};
-use param_tree::{Kind, Table, Var, name_in, vehicle_table};
+use param_tree::{Kind, PARAMETERS, Table, Var, name_in, vehicle_table};
 use printed_text::{LINE_BYTES, Line, push, push_hex, push_number};
 
 /// The rows of the vehicle's table.
-const ROWS: u16 = 240;
+const ROWS: u16 = PARAMETERS as u16;
 
 /// A row's name, without the zeros after it.
 fn push_name(line: &mut Line, row: &Var)
@@ -68,7 +68,7 @@ fn param_line(row: &Var, value: Value) -> Line
 fn write_param<K: Sink>(
     out: &mut K,
     bytes: &[u8],
-    table: &Table<240>,
+    table: &Table<PARAMETERS>,
     index: u16,
 ) -> Result<(), Failed>
     requires size { length bytes.now ≡ storage_bytes }

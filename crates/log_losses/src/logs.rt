@@ -1,12 +1,15 @@
 ghost use Rattle.std.specs.Prelude.{◌≡◌, IfOk};
 
 use byteorder::{ByteOrder, LittleEndian};
-use flash_board::{Board, LogError, Mark, MemBoard, Region};
+use flash_board::{Board, LINES, LogError, Mark, MemBoard, Region};
 use sector_log::{
     Log, Marks, Torn, append, begin_sector, finish_torn, read_head, scan, set_mark, torn_fits,
 };
 use std::alloc::Global;
 use std::test::Fail;
+
+// The bytes of the storage, eight a line.
+const STORAGE_BYTES: usize = 8 * LINES as usize;
 
 // The log of a sector in use without entries.
 const EMPTY: Log = Log {
@@ -64,7 +67,7 @@ fn a_loss_in_an_append_shows_the_old_line_until_the_last_program(
         let whole = header == 0x000C;
         assert_eq!(rt; append(&mut board, EMPTY, 3, &BYTES).is_ok(), whole);
         assert_eq!(rt; board.read(Region::S0, 2), Ok(header));
-        let mut into = vec![in alloc; 0; 15_360]?;
+        let mut into = vec![in alloc; 0; STORAGE_BYTES]?;
         assert!(rt; scan(&mut board, Region::S0, &mut into).is_ok());
         let shown = if whole { BYTES } else { [0; 8] };
         assert_eq!(rt; &into[24..32], shown.as_slice(), "call {failing} fails");
@@ -98,7 +101,7 @@ fn a_torn_entry_is_completed_where_its_halfwords_fit(rt: HostRuntime) -> Result<
     let alloc = rt.alloc();
     // the header and two halfwords are programmed
     let mut board = with_sector(alloc, &[0x5BFE, 0x5168, 0x000D, 0x0201, 0x0403])?;
-    let mut into = vec![in alloc; 0; 15_360]?;
+    let mut into = vec![in alloc; 0; STORAGE_BYTES]?;
     let Ok(log) = scan(&mut board, Region::S0, &mut into) else {
         return Err(Fail::from("scan"));
     };
@@ -131,7 +134,7 @@ fn a_torn_entry_is_completed_where_its_halfwords_fit(rt: HostRuntime) -> Result<
 // The first failing place of sector 0.
 fn failing_place(alloc: Global, words: &[u16]) -> Result<(u32, u16), Fail> {
     let mut board = with_sector(alloc, words)?;
-    let mut into = vec![in alloc; 0; 15_360]?;
+    let mut into = vec![in alloc; 0; STORAGE_BYTES]?;
     match scan(&mut board, Region::S0, &mut into) {
         Err(LogError::Word { offset, word }) => Ok((offset, word)),
         _ => Err(Fail::from("scan")),
@@ -178,7 +181,7 @@ fn an_entry_ends_inside_its_sector(rt: HostRuntime) -> Result<(), Fail> {
         words[2 + 5 * i] = 0x1DFC;
     }
     let mut board = with_sector(alloc, &words)?;
-    let mut into = vec![in alloc; 0; 15_360]?;
+    let mut into = vec![in alloc; 0; STORAGE_BYTES]?;
     let Ok(log) = scan(&mut board, Region::S0, &mut into) else {
         return Err(Fail::from("scan"));
     };
@@ -207,7 +210,7 @@ fn the_last_valid_entry_of_a_line_counts(rt: HostRuntime) -> Result<(), Fail> {
         }
     }
     let mut board = with_sector(alloc, &words)?;
-    let mut into = vec![in alloc; 0; 15_360]?;
+    let mut into = vec![in alloc; 0; STORAGE_BYTES]?;
     let Ok(log) = scan(&mut board, Region::S0, &mut into) else {
         return Err(Fail::from("scan"));
     };

@@ -223,7 +223,8 @@ abbrev pub IsParam : Use → Bool → List ℕ → ℕ → Type 0
 IsParam Unused negative part bits = bits ≡ 0
 IsParam (Whole low high width) negative part bits =
     IsPatternOfWhole (whole_in low width (number_of part)) bits
-IsParam (Signed high width) negative part bits = IsPatternOfWhole (signed negative (number_of part)) bits
+IsParam (Signed high width) negative part bits =
+    IsPatternOfWhole (signed negative (number_of part)) bits
 IsParam Pattern negative part bits = bits ≡ number_of part
 
 -- the item's parameters are those of the bytes
@@ -232,7 +233,8 @@ pub record IsUnpacked (row : Row) (negative : Bool) (bytes : List ℕ) (item : I
   pub param2 : IsParam row.param2 negative
       (part_at (stored_width row.param1) (stored_width row.param2) bytes) item.param2
   pub param3 : IsParam row.param3 negative
-      (part_at (stored_width row.param1 + stored_width row.param2) (stored_width row.param3) bytes) item.param3
+      (part_at (stored_width row.param1 + stored_width row.param2) (stored_width row.param3) bytes)
+      item.param3
   pub param4 : IsParam row.param4 negative
       (part_at (stored_width row.param1 + stored_width row.param2 + stored_width row.param3)
       (stored_width row.param4) bytes) item.param4

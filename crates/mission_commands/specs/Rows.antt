@@ -39,5 +39,5 @@ pub record IsRow (row : Row) : Type 0 where
   pub use3 : IsUse row.param3
   pub use4 : IsUse row.param4
   pub room :
-      stored_width row.param1 + stored_width row.param2 + stored_width row.param3 + stored_width row.param4
-      ≤ parameter_room row.shape
+      stored_width row.param1 + stored_width row.param2 + stored_width row.param3
+      + stored_width row.param4 ≤ parameter_room row.shape

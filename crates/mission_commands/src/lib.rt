@@ -1,7 +1,7 @@
 //! The commands of a mission: from the item of a message to what is stored, and back.
 //!
-//! Which parameters are stored and how they are tested is a table; the rules are tried in one order,
-//! and the first that an item breaks gives the answer.
+//! Which parameters are stored and how they are tested is a table; the rules are tried in one
+//! order, and the first that an item breaks gives the answer.
 #![tactic(auto)]
 
 mod commands;

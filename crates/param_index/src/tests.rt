@@ -6,7 +6,7 @@ ghost use Rattle.param_index.specs.Places.{IsIndexOf};
 
 use crate::*;
 use param_records::{MAGIC, SetError, append, end_place, format_batch, place};
-use param_tree::{Kind, vehicle_table};
+use param_tree::{Kind, PARAMETERS, vehicle_table};
 use storage_lines::{Batch, LineWrite, apply, split};
 
 fn apply_all(writes: &[LineWrite], bytes: &mut [u8])
@@ -23,8 +23,8 @@ fn apply_all(writes: &[LineWrite], bytes: &mut [u8])
 #[derive(Drop)]
 struct Storage {
     bytes: [u8; STORAGE_BYTES],
-    table: Table<240>,
-    index: Index<240>,
+    table: Table<PARAMETERS>,
+    index: Index<PARAMETERS>,
     ghost indexed: { IsIndexOf table bytes index },
 }
 

@@ -26,10 +26,10 @@ pub use laws::{a_number_or_none, asks_one_thing, one_number};
 use mav_messages::{Message, Replies, Sender, To};
 use param_index::Index;
 use param_records::SET_LINES;
-use param_tree::{Table, vehicle_table};
+use param_tree::{PARAMETERS, Table, vehicle_table};
 use replies::{reply, row_value};
 pub use requests::{is_vehicle, sets_parameter};
-use requests::{PARAMETERS, row_named, row_of};
+use requests::{ROWS, row_named, row_of};
 use setting::set_row;
 use std::marker::Model;
 use storage_lines::Batch;
@@ -44,9 +44,9 @@ const STRETCH: u16 = 8;
 /// is. Beside them, where the records stand in the storage.
 #[derive(Drop)]
 pub struct ParamState {
-    table: Table<240>,
+    table: Table<PARAMETERS>,
     next_rows: [u16; STATIONS],
-    index: Index<240>,
+    index: Index<PARAMETERS>,
 }
 
 impl Model for ParamState {
@@ -70,7 +70,7 @@ impl ParamState {
         let index = Index::empty(&table);
         ParamState {
             table,
-            next_rows: [PARAMETERS; STATIONS],
+            next_rows: [ROWS; STATIONS],
             index,
         }
     }
@@ -92,14 +92,14 @@ impl ParamState {
             → streamed bytes self.now.next_rows station
             ≡ record { next_rows = self.now.next_rows; writes = []; shown = [] } }
     {
-        self.next_rows[station as usize] < PARAMETERS
+        self.next_rows[station as usize] < ROWS
     }
 }
 
 /// Answers PARAM_REQUEST_READ: the value of a row to the station.
 fn answer_read(
-    table: &Table<240>,
-    places: &Index<240>,
+    table: &Table<PARAMETERS>,
+    places: &Index<PARAMETERS>,
     current: &[u8],
     station: u8,
     index: i16,
@@ -123,8 +123,8 @@ fn answer_read(
 
 /// Answers PARAM_SET: the value that the row then has to all stations.
 fn answer_set(
-    table: &Table<240>,
-    places: &mut Index<240>,
+    table: &Table<PARAMETERS>,
+    places: &mut Index<PARAMETERS>,
     current: &[u8],
     allowed: Option<u32>,
     station: u8,
@@ -249,7 +249,7 @@ pub fn stream(state: &mut ParamState, current: &[u8], station: u8, replies: &mut
         replies.new.items }
 {
     let next = state.next_rows[station as usize];
-    let end = PARAMETERS.min(next + STRETCH);
+    let end = ROWS.min(next + STRETCH);
     for row in next..end {
         let value = row_value(&state.table, &state.index, current, row);
         replies.push(reply(&state.table, To::Station(station), row, value));

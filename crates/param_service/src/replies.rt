@@ -8,15 +8,20 @@ ghost use Rattle.param_index.specs.Places.{IsIndexOf};
 ghost use Rattle.param_service.specs.Requests.{parameters};
 ghost use Rattle.param_service.specs.Replies.{IsPatternOf, IsReplyOf};
 
-use crate::requests::PARAMETERS;
+use crate::requests::ROWS;
 use mav_messages::{Message, Reply, To};
 use param_index::Index;
 use param_records::Value;
-use param_tree::{Table, mav_type_of};
+use param_tree::{PARAMETERS, Table, mav_type_of};
 use word_bits::bits_of;
 
 /// The value of a row.
-pub fn row_value(table: &Table<240>, places: &Index<240>, current: &[u8], row: u16) -> Value
+pub fn row_value(
+    table: &Table<PARAMETERS>,
+    places: &Index<PARAMETERS>,
+    current: &[u8],
+    row: u16,
+) -> Value
     requires rows { table.now ≡ vehicle_rows }
     requires size { length current.now ≡ STORAGE_BYTES }
     requires index { IsIndexOf vehicle_rows current.now places.now }
@@ -38,7 +43,7 @@ fn pattern_of(value: Value) -> u32
 }
 
 /// The reply that shows a row with this value: its PARAM_VALUE.
-pub fn reply(table: &Table<240>, to: To, index: u16, value: Value) -> Reply
+pub fn reply(table: &Table<PARAMETERS>, to: To, index: u16, value: Value) -> Reply
     requires rows { table.now ≡ vehicle_rows }
     requires row { index < parameters }
     ensures { IsReplyOf (record { to = to; index = index; value = value }) result }
@@ -49,7 +54,7 @@ pub fn reply(table: &Table<240>, to: To, index: u16, value: Value) -> Reply
         to,
         message: Message::ParamValue {
             param_value: pattern_of(value),
-            param_count: PARAMETERS,
+            param_count: ROWS,
             param_index: index,
             param_id,
             param_type: mav_type_of(row.kind),

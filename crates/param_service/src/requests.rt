@@ -6,10 +6,10 @@ ghost use Rattle.param_service.specs.Requests.{is_for, parameters, row_named, ro
 ghost use Rattle.param_service.specs.Requests.{sets_parameter};
 
 use mav_messages::Message;
-use param_tree::{Table, name_in};
+use param_tree::{PARAMETERS, Table, name_in};
 
-/// How many parameters the vehicle has.
-pub const PARAMETERS: u16 = 240;
+/// How many rows the table has.
+pub const ROWS: u16 = PARAMETERS as u16;
 
 /// The vehicle's system, and its component.
 const VEHICLE: u8 = 1;
@@ -32,7 +32,7 @@ pub fn sets_parameter(message: &Message) -> bool
 }
 
 /// The row with a name.
-pub fn row_named(table: &Table<240>, name: &[u8; 16]) -> Option<u16>
+pub fn row_named(table: &Table<PARAMETERS>, name: &[u8; 16]) -> Option<u16>
     requires { table.now ≡ vehicle_rows }
     ensures row { result ≡ row_named name.now }
     ensures inside { IfSome result (λ row. row < parameters) }
@@ -42,14 +42,14 @@ pub fn row_named(table: &Table<240>, name: &[u8; 16]) -> Option<u16>
 }
 
 /// The row with an index, or with a name where the index is -1.
-pub fn row_of(table: &Table<240>, index: i16, name: &[u8; 16]) -> Option<u16>
+pub fn row_of(table: &Table<PARAMETERS>, index: i16, name: &[u8; 16]) -> Option<u16>
     requires { table.now ≡ vehicle_rows }
     ensures row { result ≡ row_asked_for index name.now }
     ensures inside { IfSome result (λ row. row < parameters) }
 {
     if index == BY_NAME {
         row_named(table, name)
-    } else if index >= 0 && index < PARAMETERS as i16 {
+    } else if index >= 0 && index < ROWS as i16 {
         Some(index as u16)
     } else {
         None

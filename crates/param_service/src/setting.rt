@@ -17,7 +17,7 @@ use crate::budget::exceeds;
 use crate::replies::row_value;
 use param_index::Index;
 use param_records::{SET_LINES, Value, has_magic};
-use param_tree::{Kind, Table, Var};
+use param_tree::{Kind, PARAMETERS, Table, Var};
 use storage_lines::Batch;
 use word_bits::whole_of;
 
@@ -46,8 +46,8 @@ fn value_of(kind: Kind, bits: u32) -> Value
 /// Sets a row to the value of a pattern where it may be set and can be, with as many lines as that
 /// takes, and gives the value that it then has.
 fn set_without_limit(
-    table: &Table<240>,
-    places: &mut Index<240>,
+    table: &Table<PARAMETERS>,
+    places: &mut Index<PARAMETERS>,
     current: &[u8],
     index: u16,
     bits: u32,
@@ -82,8 +82,8 @@ fn set_without_limit(
 /// Sets a row to the value of a pattern where it may be set and can be, and where no more lines are
 /// needed than may be issued, and gives the value that it then has.
 pub fn set_row(
-    table: &Table<240>,
-    places: &mut Index<240>,
+    table: &Table<PARAMETERS>,
+    places: &mut Index<PARAMETERS>,
     current: &[u8],
     allowed: Option<u32>,
     index: u16,

@@ -10,6 +10,7 @@ ghost use Rattle.param_tree.specs.Rows.{vehicle_rows};
 
 mod rows;
 
+pub use rows::PARAMETERS;
 use std::marker::Model;
 
 /// The type of a stored value.
@@ -77,7 +78,7 @@ impl<const N: usize> Model for Table<N> {
 
 /// The vehicle's table. The names are ArduPilot's; keys, paths, kinds and defaults are this
 /// project's own.
-pub fn vehicle_table() -> Table<240>
+pub fn vehicle_table() -> Table<PARAMETERS>
     ensures rows { result ≡ vehicle_rows }
 {
     Table {

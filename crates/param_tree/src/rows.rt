@@ -8,7 +8,10 @@ use crate::{Kind, Var};
 /// A row: its name in 16 bytes, key, group element, kind and default. A row of three floats names
 /// its part: `Vec3[1]`.
 macro_rules! row {
-    ($name:literal, $key:literal, $element:literal, $kind:ident[$part:literal], $default:literal) => {
+    (
+        $name:literal, $key:literal, $element:literal, $kind:ident[$part:literal],
+        $default:literal
+    ) => {
         Var {
             name: *$name,
             key: $key,
@@ -359,12 +362,15 @@ fn put(rows: &mut [Var], at: usize, part: &[Var])
     rows[at..at + part.len()].copy_from_slice(part);
 }
 
+/// How many parameters the vehicle has.
+pub const PARAMETERS: usize = 240;
+
 /// All rows.
-pub(crate) fn vehicle_rows() -> [Var; 240]
+pub(crate) fn vehicle_rows() -> [Var; PARAMETERS]
     ensures { result ≡ vehicle_rows }
 {
     let blank = row!(b"\0\0\0\0\0\0\0\0\0\0\0\0\0\0\0\0", 0, 0, I8, 0);
-    let mut rows = [blank; 240];
+    let mut rows = [blank; PARAMETERS];
     put(&mut rows, 0, &basic_rows());
     put(&mut rows, 21, &sensor_rows());
     put(&mut rows, 44, &flight_rows());

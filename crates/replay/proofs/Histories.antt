@@ -15,7 +15,7 @@ use Rattle.script_board.specs.Printing.{frame_lines, loss_line}
 use Rattle.script_board.specs.Hearing.{loses, FewWait, HasNoLossNow, EndsWithEnd}
 use Rattle.script_board.specs.declared.waiting.TheConstants.{WAITING_LOSSES}
 use Rattle.replay.specs.Guard.{raised_over}
-use Rattle.replay.specs.Histories.{Ran, IsRun, History, history_lines, lines_taken, lines_issued, EndsSo, by_call, losses_by_call, WaitAfter, IsWhole, Ended, Replayed, CutShort}
+use Rattle.replay.specs.Histories.{Ran, IsRun, History, history_lines, lines_taken, lines_issued, EndsSo, by_call, losses_by_call, WaitAfter, IsWholeRun, Ended, Replayed, CutShort}
 use Rattle.replay.specs.Playing.{BreaksFrom, CloseEnds, RunEnds, StopsSo, BreaksSo}
 use Rattle.replay.specs.declared.Stop.{Stop}
 use Rattle.replay.specs.declared.Break.{Break}
@@ -96,7 +96,7 @@ module _ (budget : ℕ) (w v u : Words) (l0 : List ScriptLine) (t0 : List ℕ) (
   ended_more n (no_end, inr call) few broke = let uses = call.1 in ended_so false n call.0 no_end (omega (arith, uses)) few broke
 
   -- it is whole, and the last one
-  pub replayed : IsWhole budget b (events_of ls) fs u → HasNoLossNow ls → EndsWithEnd ls → FewWait u1 ls → Replayed budget w (l0 ++ ls) (t0 ++ frame_lines fs) u
+  pub replayed : IsWholeRun budget b (events_of ls) fs u → HasNoLossNow ls → EndsWithEnd ls → FewWait u1 ls → Replayed budget w (l0 ++ ls) (t0 ++ frame_lines fs) u
   replayed whole none ends few = record {
     runs = e.runs;
     words = v;
@@ -157,8 +157,8 @@ printed_then p0 p1 p2 a b first second = second ∙ ap (λ (l : List ℕ). l ++ 
 
 -- a run whose lines are all put is whole
 pub whole_run : (budget : ℕ) (node : Node) (b : List ℕ) (ls : List ScriptLine) (fs : List SentFrame) (n : ℕ) (w : Words) → StandsForRun node b (events_of ls) fs n
-    → ((c : List ℕ) (r : Run) (f : List SentFrame) → StandsAt node c r f → Stands w (after c r.issued)) → node.budget ≡ budget → IsWhole budget b (events_of ls) fs w
-whole_run budget node b ls fs n w run close is = subst (λ (m : ℕ). IsWhole m b (events_of ls) fs w) is (record { acts = run.acts; rests = node.rests; reads = run.reads; all_answers = run.at.sent; all_lines = close b _ fs run.at })
+    → ((c : List ℕ) (r : Run) (f : List SentFrame) → StandsAt node c r f → Stands w (after c r.issued)) → node.budget ≡ budget → IsWholeRun budget b (events_of ls) fs w
+whole_run budget node b ls fs n w run close is = subst (λ (m : ℕ). IsWholeRun m b (events_of ls) fs w) is (record { acts = run.acts; rests = node.rests; reads = run.reads; all_answers = run.at.sent; all_lines = close b _ fs run.at })
 
 -- a run by what its close answers
 pub closed : {T : Type 0} (budget : ℕ) (r : Result T Break) (node : Node) (before now : Words) (ls : List ScriptLine) (fs : List SentFrame) (n k : ℕ) → n + 0 ≡ k

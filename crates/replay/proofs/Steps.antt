@@ -12,7 +12,7 @@ use Rattle.script_board.specs.Taking.{events_in, events_of}
 use Rattle.script_board.specs.Printing.{frame_line, frame_lines}
 use Rattle.replay.specs.Guard.{Rises}
 use Rattle.replay.specs.Histories.{AreNext}
-use Rattle.replay.specs.Playing.{Adds, GoesOn, Breaks, BreaksFrom}
+use Rattle.replay.specs.Playing.{AddsLines, GoesOn, Breaks, BreaksFrom}
 use Rattle.replay.specs.declared.Break.{Break}
 use Rattle.replay.proofs.Causes.{worn_in}
 
@@ -34,10 +34,10 @@ next_then t0 t1 t2 a b first second before is = subst t2 (append_assoc before a 
 pub next_quiet : (t0 t1 t2 : List ScriptLine → Type 0) (a : List ScriptLine) → AreNext t0 t1 a → AreNext t1 t2 [] → AreNext t0 t2 a
 next_quiet t0 t1 t2 a first second = subst (AreNext t0 t2) (append-nil a) (next_then t0 t1 t2 a [] first second)
 
-pub adds_none : (took : List ScriptLine → Type 0) (p : List ℕ) → Adds took took p p [] []
+pub adds_none : (took : List ScriptLine → Type 0) (p : List ℕ) → AddsLines took took p p [] []
 adds_none took p = record { lines_are = next_none took; printed_are = sym (append-nil p) }
 
-pub adds_then : (t0 t1 t2 : List ScriptLine → Type 0) (p0 p1 p2 : List ℕ) (a b : List ScriptLine) (f g : List SentFrame) → Adds t0 t1 p0 p1 a f → Adds t1 t2 p1 p2 b g → Adds t0 t2 p0 p2 (a ++ b) (f ++ g)
+pub adds_then : (t0 t1 t2 : List ScriptLine → Type 0) (p0 p1 p2 : List ℕ) (a b : List ScriptLine) (f g : List SentFrame) → AddsLines t0 t1 p0 p1 a f → AddsLines t1 t2 p1 p2 b g → AddsLines t0 t2 p0 p2 (a ++ b) (f ++ g)
 adds_then t0 t1 t2 p0 p1 p2 a b f g first second = record {
   lines_are = next_then t0 t1 t2 a b first.lines_are second.lines_are;
   printed_are = second.printed_are ∙ ap (λ (l : List ℕ). l ++ frame_lines g) first.printed_are ∙ append_assoc p0 (frame_lines f) (frame_lines g)
@@ -45,7 +45,7 @@ adds_then t0 t1 t2 p0 p1 p2 a b f g first second = record {
 }
 
 -- a quiet call after it adds nothing
-pub adds_quiet : (t0 t1 t2 : List ScriptLine → Type 0) (p0 p1 p2 : List ℕ) (a : List ScriptLine) (f : List SentFrame) → Adds t0 t1 p0 p1 a f → Adds t1 t2 p1 p2 [] [] → Adds t0 t2 p0 p2 a f
+pub adds_quiet : (t0 t1 t2 : List ScriptLine → Type 0) (p0 p1 p2 : List ℕ) (a : List ScriptLine) (f : List SentFrame) → AddsLines t0 t1 p0 p1 a f → AddsLines t1 t2 p1 p2 [] [] → AddsLines t0 t2 p0 p2 a f
 adds_quiet t0 t1 t2 p0 p1 p2 a f first second = record {
   lines_are = next_quiet t0 t1 t2 a first.lines_are second.lines_are;
   printed_are = second.printed_are ∙ append-nil p1 ∙ first.printed_are;

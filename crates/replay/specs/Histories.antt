@@ -105,7 +105,7 @@ NeverMoreWait runs last = (before : ℕ) × WaitAfter 0 runs before
 
 -- The whole run over these events, from these bytes: the frames are all its answers, and the words
 -- stand for the bytes with all of its lines.
-pub record IsWhole (budget : ℕ) (b : List ℕ) (events : List Received) (frames : List SentFrame)
+pub record IsWholeRun (budget : ℕ) (b : List ℕ) (events : List Received) (frames : List SentFrame)
     (words : Words) : Type 0 where
   pub acts : List (List Act)
   pub rests : List (List ℕ)
@@ -135,7 +135,7 @@ pub record Replayed (budget : ℕ) (before : Words) (lines : List ScriptLine) (t
   pub last_frames : List SentFrame
   pub bytes : List ℕ
   pub began : Stands words bytes
-  pub whole : IsWhole budget bytes (events_of last_lines) last_frames now
+  pub whole : IsWholeRun budget bytes (events_of last_lines) last_frames now
   pub lines_are : lines ≡ lines_taken runs ++ last_lines
   pub text_is : text ≡ history_lines runs ++ frame_lines last_frames
   -- the end is the last line, and no line `x` stands in the last run

@@ -18,13 +18,13 @@ use Rattle.vehicle_node.specs.declared.Turn.{Turn}
 use Rattle.vehicle_node.specs.declared.Turn.TheVariants as turn
 use Rattle.replay.specs.Breaks.{OnStopped, OnWorn, BetweenEvents, OnRefused}
 use Rattle.replay.specs.Guard.{Rises}
-use Rattle.replay.specs.Histories.{AreNext, IsWhole, EndsSo}
+use Rattle.replay.specs.Histories.{AreNext, IsWholeRun, EndsSo}
 use Rattle.replay.specs.declared.Stop.{Stop}
 use Rattle.replay.specs.declared.Break.{Break}
 use Rattle.replay.specs.declared.Break.TheVariants.{Lost, Stopped}
 
 -- these lines of the script were taken, and these frames printed
-pub record Adds (took_before took_now : List ScriptLine → Type 0)
+pub record AddsLines (took_before took_now : List ScriptLine → Type 0)
     (printed_before printed_now : List ℕ) (lines : List ScriptLine) (frames : List SentFrame)
     : Type 0 where
   pub lines_are : AreNext took_before took_now lines
@@ -97,7 +97,7 @@ CloseEnds budget (Err how) node now = Breaks budget how node [] [] 0 now
 abbrev pub RunEnds : {T : Type 0} → ℕ → Result T Break → Words → List Received
     → List SentFrame → ℕ → Words → Type 0
 RunEnds budget (Ok t) before events frames finished now =
-    (b : List ℕ) → Stands before b → IsWhole budget b events frames now
+    (b : List ℕ) → Stands before b → IsWholeRun budget b events frames now
 RunEnds budget (Err how) before events frames finished now =
     BreaksFrom budget how before events frames finished now
 

@@ -20,7 +20,7 @@ ghost use Rattle.script_board.specs.Hearing.{FewWait};
 ghost use Rattle.replay.specs.Breaks.{OnLost, OnStopped, OnRefused, OnForeign, OnWorn, OnInput};
 ghost use Rattle.replay.specs.Breaks.{OnOutput};
 ghost use Rattle.replay.specs.Histories.{AreNext, Replayed, CutShort};
-ghost use Rattle.replay.specs.Playing.{Adds, OpenEnds, EventEnds, CloseEnds, RunEnds, TurnUses};
+ghost use Rattle.replay.specs.Playing.{AddsLines, OpenEnds, EventEnds, CloseEnds, RunEnds, TurnUses};
 ghost use Rattle.replay.specs.Playing.{PlayUses, QuietUses};
 
 mod laws;
@@ -109,7 +109,8 @@ pub trait Player {
         ensures told { told self.new → told self.old }
         ensures ends { told self.new → OpenEnds arming result (words self.old) (words self.new) }
         ensures adds { told self.new
-            → Adds (took self.old) (took self.new) (printed self.old) (printed self.new) [] [] }
+            → AddsLines (took self.old) (took self.new) (printed self.old) (printed self.new)
+            [] [] }
         ensures uses { QuietUses result (waiting self.old) (waiting self.new) }
         ensures remaining { remaining self.new ≤ remaining self.old }
         ensures lost { IfErr result
@@ -135,7 +136,7 @@ pub trait Player {
         ensures told { told self.new → told self.old }
         ensures plays { told self.new
             → (lines : List ScriptLine) × (frames : List SentFrame) × (finished : ℕ)
-            × Adds (took self.old) (took self.new) (printed self.old) (printed self.new)
+            × AddsLines (took self.old) (took self.new) (printed self.old) (printed self.new)
             lines frames
             × EventEnds arming result node.old node.new (events_of lines) frames finished
             (words self.new)
@@ -164,7 +165,8 @@ pub trait Player {
         ensures told { told self.new → told self.old }
         ensures ends { told self.new → CloseEnds arming result node (words self.new) }
         ensures adds { told self.new
-            → Adds (took self.old) (took self.new) (printed self.old) (printed self.new) [] [] }
+            → AddsLines (took self.old) (took self.new) (printed self.old) (printed self.new)
+            [] [] }
         ensures uses { QuietUses result (waiting self.old) (waiting self.new) }
         ensures remaining { remaining self.new ≤ remaining self.old }
         ensures lost { IfErr result
@@ -205,7 +207,7 @@ fn play<P: Player>(player: &mut P, node: &mut Node) -> Result<(), Break>
     ensures told { P.told player.new → P.told player.old }
     ensures plays { P.told player.new
         → (lines : List ScriptLine) × (frames : List SentFrame) × (finished : ℕ)
-        × Adds (P.took player.old) (P.took player.new)
+        × AddsLines (P.took player.old) (P.took player.new)
         (P.printed player.old) (P.printed player.new) lines frames
         × EventEnds P.arming result node.old node.new (events_of lines) frames finished
         (P.words player.new)
@@ -240,7 +242,7 @@ fn run_once<P: Player>(alloc: Global, player: &mut P) -> Result<(), Break>
     ensures told { P.told player.new → P.told player.old }
     ensures ends { P.told player.new
         → (lines : List ScriptLine) × (frames : List SentFrame) × (finished : ℕ)
-        × Adds (P.took player.old) (P.took player.new)
+        × AddsLines (P.took player.old) (P.took player.new)
         (P.printed player.old) (P.printed player.new) lines frames
         × RunEnds P.arming result (P.words player.old) (events_of lines) frames finished
         (P.words player.new)

@@ -10,7 +10,7 @@ use Rattle.script_lines.specs.Script.{ScriptLine}
 use Rattle.script_board.specs.declared.board.ScriptBoard.{ScriptBoard}
 use Rattle.replay.specs.Breaks.{OnStopped, OnForeign, OnOutput}
 use Rattle.replay.specs.Histories.{AreNext}
-use Rattle.replay.specs.Playing.{Adds}
+use Rattle.replay.specs.Playing.{AddsLines}
 use Rattle.replay.specs.declared.Break.{Break}
 use Rattle.replay.specs.declared.Break.TheVariants.{Lost, Stopped}
 use Rattle.replay.specs.declared.Stop.TheVariants as stops
@@ -95,7 +95,7 @@ module _ {S K : Type 0} {g : source.Ghosts S} {h : sink.Ghosts K} where
     )
 
     pub adds_then : (rest : List ℕ) (lines : List ScriptLine) (frames : List SentFrame) → Added (now_at {N = N} room old) new lines → Printed (now_at {N = N} room old) new frames → TellsRest new → TellsWritten new
-        → Adds (TookAt rest old) (TookAt rest new) (written_at old) (written_at new) lines frames
+        → AddsLines (TookAt rest old) (TookAt rest new) (written_at old) (written_at new) lines frames
     adds_then rest lines frames added printed tells told = record { lines_are = next_then rest lines added tells; printed_are = printed told }
 
 -- words that are no image, said of less

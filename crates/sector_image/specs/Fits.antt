@@ -2,6 +2,7 @@
 use Rattle.std.specs.Prelude.{◌≡◌, ℕ, ◌+◌, ◌-◌, ◌*◌, ◌/◌, ◌%◌, ◌≤◌, List, [], ◌++◌, length, Bool, true, false, Option, Some, None, IsSome, IfSome}
 use Rattle.std.specs.Option.{option_map, option_and_then, is_some}
 use Rattle.flash_traits.specs.declared.numbers.TheConstants.{GUARD_HALFWORDS}
+use Rattle.flash_traits.specs.Budget.{copy_bytes}
 use Rattle.flash_traits.specs.Words.{Words, IsSectorSize}
 use Rattle.flash_traits.specs.declared.board.Board.{Ghosts}
 use Rattle.flash_traits.specs.declared.board.Mark.{Mark}
@@ -110,8 +111,8 @@ pub record TwoLogRules (sector_bytes : ℕ) (kept : Kept) (log : Log) (images : 
   pub chunk : kept.completable ≡ true → IsSome log.torn
       × IfSome log.torn (λ torn. (torn.lines ≡ 8) × (torn.line % 8 ≡ 0))
   pub room :
-      66 * left_to_copy images.whole images.upper (torn_chunk kept.completable log) + 2 * log.end
-      ≤ sector_bytes
+      copy_bytes * left_to_copy images.whole images.upper (torn_chunk kept.completable log)
+      + 2 * log.end ≤ sector_bytes
 
 -- What it keeps of words that are told: both logs, the bytes of both, and of the other alone.
 pub record TwoLogWords (kept : Kept) (log : Log) (images : Bytes) (w : Words) : Type 0 where

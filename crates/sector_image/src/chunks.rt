@@ -11,7 +11,7 @@ ghost use Rattle.sector_image.specs.Fits as fits;
 use sector_log::Log;
 
 /// The chunks of the storage.
-pub(crate) const CHUNKS: usize = 240;
+pub(crate) const CHUNKS: usize = flash_traits::CHUNKS as usize;
 
 /// Whether the other sector's entries alone give a chunk.
 pub(crate) fn is_covered(whole: &[u8], upper: &[u8], chunk: usize) -> bool

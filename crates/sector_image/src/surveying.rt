@@ -22,7 +22,7 @@ use crate::chunks::torn_chunk;
 use crate::coverage::Coverage;
 use crate::logs::{bytes_at, head_at, is_completable, log_at};
 use crate::{Images, Kept, Shape, Survey, SurveyError};
-use flash_traits::{Board, Mark};
+use flash_traits::{Board, COPY_BYTES, Mark};
 use guard_row::{count, first_sector, second_sector};
 use sector_log::{Log, Marks};
 
@@ -274,7 +274,7 @@ fn survey_spilled<B: Board>(
     let finishing = torn_chunk(completable, logs.other);
     let left = Coverage::of(whole, upper).count_left(finishing) as u32;
     let sector_bytes = board.geometry().sector_bytes;
-    if 66 * left + 2 * logs.other.end > sector_bytes {
+    if COPY_BYTES * left + 2 * logs.other.end > sector_bytes {
         return Err(SurveyError::Foreign {
             region,
             offset: 0,

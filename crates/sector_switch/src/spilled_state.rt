@@ -23,13 +23,10 @@ ghost use Rattle.sector_switch.specs.Refusals.{kept_in, is_whole, OnSwitchWorn, 
 ghost use Rattle.sector_switch.specs.Steps.Calls.{OnlyPrograms};
 
 use crate::{Alone, Copied, Images, Kept, VoidError};
-use flash_traits::{Board, Fault, GUARD_HALFWORDS};
+use flash_traits::{Board, COPY_BYTES, Fault, GUARD_HALFWORDS};
 use sector_image::torn_chunk;
 use sector_log::{append, finish_torn};
 use std::marker::Model;
-
-/// The bytes of a chunk's entry: its header and eight lines.
-const COPY_BYTES: u64 = 66;
 
 /// Home is full, and the other sector takes the entries. What home has and the other hasn't is
 /// still to be copied.
@@ -229,7 +226,8 @@ fn room_in(kept: &Kept, images: &Images) -> u32
         return 0;
     };
     let left = images.count_left(torn_chunk(kept.completable, log));
-    let used = 2 * log.end as u64 + COPY_BYTES * left as u64 + COPY_BYTES;
+    let copy = COPY_BYTES as u64;
+    let used = 2 * log.end as u64 + copy * left as u64 + copy;
     (kept.sector_bytes as u64).saturating_sub(used) as u32
 }
 

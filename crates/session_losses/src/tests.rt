@@ -145,7 +145,8 @@ fn set(param_id: [u8; 16], param_value: u32, param_type: u8) -> Result<Feed, Fai
     })
 }
 
-// The filter is set to 30, the radius to 100 metres, the filter to 31, and then there are two idle turns.
+// The filter is set to 30, the radius to 100 metres, the filter to 31, and then there are two idle
+// turns.
 fn three_sets(alloc: Global) -> Result<Vec<Feed>, Fail>
     ensures { IfOk result (λ feed. IsTrue (peers_fit feed.items)) }
 {
@@ -165,7 +166,8 @@ const AFTER_SETS: [(u32, u32); 4] = [
     (0x41F8_0000, 0x42C8_0000),
 ];
 
-// Which kind of call stopped the session, where one did, and the image that it left, where the call with this number fails.
+// Where the call with this number fails: which kind of call stopped the session, where one did, and
+// the image that it left.
 fn cut_session(
     alloc: Global,
     image: &[u8],
@@ -212,7 +214,8 @@ fn sets_left(alloc: Global, image: &[u8]) -> Result<usize, Fail> {
     }
 }
 
-// The calls before the first program: the attach, and the reads of the guard row, the heads and both sectors.
+// The calls before the first program: the attach, and the reads of the guard row, the heads and
+// both sectors.
 const FIRST_PROGRAM: u32 = 1 + 8193 + 4 + 8193 + 8192;
 
 #[test]
@@ -242,8 +245,8 @@ fn each_failing_call_leaves_a_prefix(rt: HostRuntime) -> Result<(), Fail> {
     Err(Fail::from("no session was whole"))
 }
 
-// The index of the value with this number in a list that idle turns go on with, each after a heartbeat. None for
-// a heartbeat.
+// The index of the value with this number in a list that idle turns go on with, each after a
+// heartbeat. None for a heartbeat.
 fn listed(number: u32) -> Option<u16>
     requires { number < 270 }
 {

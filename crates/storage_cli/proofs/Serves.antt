@@ -22,7 +22,7 @@ use Rattle.vehicle_node.specs.Standing.{Node, StandsAt, StandsForRun, StaysWithi
 use Rattle.storage_cli.specs.declared.stop.Served.{Served}
 use Rattle.storage_cli.specs.declared.stop.Stop.{Stop}
 use Rattle.storage_cli.specs.declared.stop.Stop.TheVariants as stop
-use Rattle.replay.specs.Histories.{IsWhole}
+use Rattle.replay.specs.Histories.{IsWholeRun}
 use Rattle.storage_cli.specs.Serving.{HasToVoid, is_armed_after_events, EventsUnworn, ServeUnworn}
 use Rattle.storage_cli.specs.Steps.Guard.{WearsSince, WearsFrom}
 use Rattle.storage_cli.specs.Steps.Progress.{IsSafe, IsSafeRun, FinishesEvents, CompletesServe, EndsInTurns, WasArmedSince}
@@ -92,7 +92,7 @@ module _ {B : Type 0} (g : Ghosts B) (budget : ℕ) (a m c d : B) (node new : No
 
   -- the run, with its lines by their number
   record IsCountedTo (most : ℕ) (b : List ℕ) : Type 0 where
-    whole : IsWhole most b p.events p.frames (g.words d)
+    whole : IsWholeRun most b p.events p.frames (g.words d)
     lines : new.issued ≡ counts (length (run_of most b whole.acts).issued)
 
   counted : g.tells d → (b : List ℕ) → Stands (g.words a) b → IsCountedTo budget b
@@ -103,7 +103,7 @@ module _ {B : Type 0} (g : Ghosts B) (budget : ℕ) (a m c d : B) (node new : No
         lines = r.at.line_count;
       })
 
-  whole : g.tells d → (b : List ℕ) → Stands (g.words a) b → IsWhole budget b p.events p.frames (g.words d)
+  whole : g.tells d → (b : List ℕ) → Stands (g.words a) b → IsWholeRun budget b p.events p.frames (g.words d)
   whole t b stands = (counted t b stands).whole
 
   sent : g.tells d → new.frames ≡ counts (length p.frames)

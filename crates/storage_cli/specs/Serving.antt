@@ -13,7 +13,7 @@ use Rattle.vehicle_node.specs.Arming.{is_armed_after_all, IsArmedOnce}
 use Rattle.vehicle_node.specs.Reading.{Reads, no_rests}
 use Rattle.vehicle_node.specs.Wearing.{EventUnworn, AllUnworn, BootUnworn}
 use Rattle.flash_traits.specs.Counts.{counts}
-use Rattle.replay.specs.Histories.{IsWhole}
+use Rattle.replay.specs.Histories.{IsWholeRun}
 use Rattle.session_boards.specs.Session.{HasNoEnd, EndsOnce}
 use Rattle.storage_cli.specs.declared.status.TheConstants.{DONE, TURNS_OVER}
 use Rattle.storage_cli.specs.Texts.{foreign_line, served_line}
@@ -59,7 +59,7 @@ pub record Serves {B : Type 0} (g : Ghosts B) (budget : ℕ) (before : Words) (b
   pub over : status ≡ TURNS_OVER → HasNoEnd events × (length events ≡ turns)
   -- all frames of the run were sent, and all of its lines are in the image
   pub whole : g.tells board → (b : List ℕ) → Stands before b
-      → IsWhole budget b events frames (g.words board)
+      → IsWholeRun budget b events frames (g.words board)
   -- nowhere was a sector to be voided where the guard row was used up
   pub unworn : g.tells board → ServeUnworn g before events board
   -- where all was done the events before the end and the frames are printed; a count of 64 bits

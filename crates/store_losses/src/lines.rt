@@ -42,7 +42,8 @@ fn opened(alloc: Global, board: &mut MemBoard) -> Result<DirtyLines, Fail>
 fn flush(lines: &mut DirtyLines, board: &mut MemBoard, n: usize) -> Result<(), Fail>
     requires { Fits ⟦<MemBoard as Board>⟧ board.old lines.old.store }
     ensures fits { OnOk result (Fits ⟦<MemBoard as Board>⟧ board.new lines.new.store) }
-    ensures size { ⟦<MemBoard as Board>⟧.sector_bytes board.new ≡ ⟦<MemBoard as Board>⟧.sector_bytes board.old }
+    ensures size { ⟦<MemBoard as Board>⟧.sector_bytes board.new
+        ≡ ⟦<MemBoard as Board>⟧.sector_bytes board.old }
 {
     match lines.flush(board, n, false) {
         Ok(()) => Ok(()),

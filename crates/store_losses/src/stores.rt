@@ -64,7 +64,8 @@ fn put_line(
 ) -> Result<(), Fail>
     requires fits { Fits ⟦<MemBoard as Board>⟧ board.old store.old }
     requires line { line < LINES }
-    ensures size { ⟦<MemBoard as Board>⟧.sector_bytes board.new ≡ ⟦<MemBoard as Board>⟧.sector_bytes board.old }
+    ensures size { ⟦<MemBoard as Board>⟧.sector_bytes board.new
+        ≡ ⟦<MemBoard as Board>⟧.sector_bytes board.old }
     ensures fits { OnOk result (Fits ⟦<MemBoard as Board>⟧ board.new store.new) }
 {
     let lines = [LineWrite {

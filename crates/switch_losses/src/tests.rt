@@ -1,13 +1,17 @@
 ghost use Rattle.std.specs.Prelude.{◌≡◌, IfOk};
 
 use byteorder::{ByteOrder, LittleEndian};
-use flash_board::{Board, Event, Failed, Fault, Geometry, LogError, MemBoard, Region};
+use flash_board::{Board, Event, Failed, Fault, Geometry, LINES, LogError, MemBoard, Region};
 use sector_log::{header_of, scan};
 use sector_switch::{CopyStep, Images, RecoverError, Shape, recover, survey};
 use std::alloc::Global;
 use std::test::Fail;
 
-// An image of 16,384-byte sectors that begin with these halfwords, and of a guard row with so many zeros.
+// The bytes of the storage, eight a line.
+const STORAGE_BYTES: usize = 8 * LINES as usize;
+
+// An image of 16,384-byte sectors that begin with these halfwords, and of a guard row with so many
+// zeros.
 fn image(alloc: Global, guard: usize, s0: &[u16], s1: &[u16]) -> Result<Vec<u8>, Fail> {
     if guard > 8192 || s0.len() > 8192 || s1.len() > 8192 {
         return Err(Fail::from("image"));
@@ -135,8 +139,9 @@ fn a_guard_row_that_is_used_up_is_met_once_the_copy_is_whole(rt: HostRuntime) ->
     Ok(())
 }
 
-// What `recover` reads of an image of 16,384-byte sectors with no gap and guard count 0: the guard row and each sector
-// with the halfword that is met twice, the four halfwords of the heads, and the other sector once more where it is in use.
+// What `recover` reads of an image of 16,384-byte sectors with no gap and guard count 0: the guard
+// row and each sector with the halfword that is met twice, the four halfwords of the heads, and the
+// other sector once more where it is in use.
 const READS_BESIDE_AVAILABLE: u32 = 8193 + 4 + 8193 + 8192;
 
 const READS_SPILLED: u32 = 8193 + 4 + 8193 + 2 * 8193;
@@ -160,8 +165,8 @@ fn forty_losses_in_one_copy_take_no_room(rt: HostRuntime) -> Result<(), Fail> {
     let alloc = rt.alloc();
     let home = entry_for_each_chunk(alloc)?;
     let mut image = image(alloc, 0, &home, &[0x5BFE, 0x5168])?;
-    // The first loss falls inside the second entry. Behind it a torn last entry is there each time: both scans skip its
-    // 32 halfwords, and they are read once to see whether it can be completed.
+    // The first loss falls inside the second entry. Behind it a torn last entry is there each time:
+    // both scans skip its 32 halfwords, and they are read once to see whether it can be completed.
     let mut lost = READS_SPILLED + 51;
     for _ in 0..40 {
         let mut board = attached(alloc, &image, &[lost])?;
@@ -196,7 +201,8 @@ fn forty_losses_in_one_copy_take_no_room(rt: HostRuntime) -> Result<(), Fail> {
 fn each_loss_of_a_switch_is_recovered(rt: HostRuntime) -> Result<(), Fail> {
     let alloc = rt.alloc();
     let image = image(alloc, 0, &FULL, &AVAILABLE)?;
-    // the mark, the 34 programs of a chunk, the guard halfword, the erase, the header and the next guard halfword
+    // the mark, the 34 programs of a chunk, the guard halfword, the erase, the header and the next
+    // guard halfword
     for lost in 1..41 {
         let mut board = attached(alloc, &image, &[READS_BESIDE_AVAILABLE + lost])?;
         let mut images = Images::new(alloc)?;
@@ -269,7 +275,8 @@ fn a_switch_goes_through_all_states(rt: HostRuntime) -> Result<(), Fail> {
     Ok(())
 }
 
-// The plain reading of a sector: the offset behind its last entry, and the first halfword from there on that isn't FFFF.
+// The plain reading of a sector: the offset behind its last entry, and the first halfword from
+// there on that isn't FFFF.
 fn read_slowly(words: &[u16]) -> (usize, Option<usize>) {
     let mut end: usize = 2;
     for _ in 0..words.len() {
@@ -314,7 +321,7 @@ fn a_scan_agrees_with_a_plain_reading(rt: HostRuntime) -> Result<(), Fail> {
         sector[..words.len()].copy_from_slice(words);
         let image = image(alloc, 0, &sector, &AVAILABLE)?;
         let mut board = attached(alloc, &image, &[])?;
-        let mut bytes = vec![in alloc; 0u8; 15_360]?;
+        let mut bytes = vec![in alloc; 0u8; STORAGE_BYTES]?;
         let found = match scan(&mut board, Region::S0, &mut bytes) {
             Ok(log) => (log.end as usize, None),
             Err(LogError::Word { offset, word: _ }) => (0, Some(offset as usize)),

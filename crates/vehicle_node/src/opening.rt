@@ -14,7 +14,7 @@ use dirty_lines::{DirtyLines, PENDING_LINES};
 use mav_frames::Cutter;
 use param_convert::{Rule, convert, vehicle_rules};
 use param_records::{APPEND_LINES, FORMAT_LINES, format_batch};
-use param_tree::{Table, vehicle_table};
+use param_tree::{PARAMETERS, Table, vehicle_table};
 use storage_lines::Batch;
 use vehicle_core::Core;
 
@@ -43,7 +43,12 @@ fn issue_formatting(lines: &mut DirtyLines)
 }
 
 /// Issues the lines of one rule of conversion.
-fn issue_conversion(lines: &mut DirtyLines, table: &Table<240>, rules: &[Rule; 4], step: usize)
+fn issue_conversion(
+    lines: &mut DirtyLines,
+    table: &Table<PARAMETERS>,
+    rules: &[Rule; 4],
+    step: usize,
+)
     requires table { table.now ≡ vehicle_rows }
     requires rules { rules.now ≡ vehicle_rules }
     requires step { step < 4 }

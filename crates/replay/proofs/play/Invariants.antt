@@ -3,7 +3,7 @@ use Rattle.flash_traits.specs.Losses.{SentFrame}
 use Rattle.script_lines.specs.Script.{ScriptLine, HasNoEnd}
 use Rattle.script_board.specs.Taking.{events_of}
 use Rattle.script_board.specs.Hearing.{loses, FewWait, HasNoLossNow}
-use Rattle.replay.specs.Playing.{Adds, GoesOn}
+use Rattle.replay.specs.Playing.{AddsLines, GoesOn}
 use Rattle.replay.proofs.play.Given as goal
 
 abbrev pub invariant-events : goal.invariant-events
@@ -13,7 +13,7 @@ invariant-events g l =
       holds : p.holds l.player;
       fits : p.fits l.player l.node;
       told : p.told l.player → p.told l.fn.player;
-      plays : p.told l.player → (lines : List ScriptLine) × (frames : List SentFrame) × Adds (p.took l.fn.player) (p.took l.player) (p.printed l.fn.player) (p.printed l.player) lines frames
+      plays : p.told l.player → (lines : List ScriptLine) × (frames : List SentFrame) × AddsLines (p.took l.fn.player) (p.took l.player) (p.printed l.fn.player) (p.printed l.player) lines frames
           × GoesOn l.fn.node l.node (events_of lines) frames × (l.node.budget ≡ l.fn.node.budget)
           × HasNoLossNow lines × HasNoEnd lines × (p.waiting l.player ≡ p.waiting l.fn.player + loses lines) × FewWait (p.waiting l.fn.player) lines;
       remaining : p.remaining l.player ≤ p.remaining l.fn.player;

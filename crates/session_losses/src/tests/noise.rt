@@ -1,5 +1,5 @@
-//! Frames that are wrong in one thing, and datagrams of every size. What isn't a right frame for the
-//! vehicle changes nothing and has no answer, and the next request is answered.
+//! Frames that are wrong in one thing, and datagrams of every size. What isn't a right frame for
+//! the vehicle changes nothing and has no answer, and the next request is answered.
 ghost use Rattle.std.specs.Prelude.{IfOk, IsTrue};
 ghost use Rattle.flash_board.specs.Kept.{peers_fit};
 
@@ -262,8 +262,8 @@ fn frame_of(alloc: Global, case: &Case) -> Result<Vec<u8>, Fail> {
     Ok(frame)
 }
 
-// The frame, then a datagram of 2,048 zeros, which ends every frame that was begun, and the question
-// for the radius.
+// The frame, then a datagram of 2,048 zeros, which ends every frame that was begun, and the
+// question for the radius.
 fn asked_after(alloc: Global, frame: &[u8]) -> Result<Vec<Feed>, Fail>
     ensures { IfOk result (λ feed. IsTrue (peers_fit feed.items)) }
 {
@@ -295,7 +295,8 @@ fn a_frame_that_is_wrong_in_one_thing_changes_nothing(rt: HostRuntime) -> Result
     Ok(())
 }
 
-// How many answers a datagram has that holds so many requests and is filled with zeros up to a size.
+// How many answers a datagram has that holds so many requests and is filled with zeros up to a
+// size.
 fn answers(alloc: Global, requests: usize, size: usize) -> Result<u32, Fail> {
     let mut bytes = Vec::new(alloc);
     for _ in 0..requests {

@@ -1,7 +1,7 @@
 //! A session of parameters, a mission and a fence on 16,384-byte sectors, with each call failing in
 //! turn. What is left are the bytes after a prefix of the issued lines that has every flushed one,
-//! and the frames that were sent are a prefix of the answers. Which prefixes may be left is computed
-//! here, from what the session issues and sends where no call fails.
+//! and the frames that were sent are a prefix of the answers. Which prefixes may be left is
+//! computed here, from what the session issues and sends where no call fails.
 ghost use Rattle.std.specs.Prelude.{IsTrue};
 ghost use Rattle.flash_board.specs.Kept.{peers_fit};
 

@@ -1,5 +1,5 @@
-//! A mission and a fence replaced, with a loss at each call: what was stored is the old one, none, or
-//! the new one, of a mission also a prefix of the new one.
+//! A mission and a fence replaced, with a loss at each call: what was stored is the old one, none,
+//! or the new one, of a mission also a prefix of the new one.
 ghost use Rattle.std.specs.Prelude.{IfOk, IsTrue};
 ghost use Rattle.flash_board.specs.Kept.{peers_fit};
 

@@ -16,7 +16,7 @@ use Rattle.storage_cli.specs.declared.stop.Stop.{Stop}
 use Rattle.storage_cli.specs.declared.stop.Stop.TheVariants as stop
 use Rattle.session_boards.specs.Session.{HasNoEnd, EndsOnce}
 use Rattle.vehicle_node.specs.Runs.{Run, run_of}
-use Rattle.replay.specs.Histories.{IsWhole}
+use Rattle.replay.specs.Histories.{IsWholeRun}
 use Rattle.storage_cli.specs.Serving.{is_armed_after_events, EventsUnworn, ServeUnworn}
 
 -- what has been added since an outcome is safe, with all events finished or all but one
@@ -81,7 +81,7 @@ TellsLineCount (Err _) r = Unit {0}
 -- the whole run, whose lines are counted
 pub record IsCounted (budget : ℕ) (result : Result Served Stop) (b : List ℕ)
     (events : List Received) (frames : List SentFrame) (words : Words) : Type 0 where
-  pub whole : IsWhole budget b events frames words
+  pub whole : IsWholeRun budget b events frames words
   pub lines : TellsLineCount result (run_of budget b whole.acts)
 
 -- How a serve that was not cut off has left the board, from these words; `begun` says that the
