@@ -1,4 +1,4 @@
-// The counts that boards, sources and sinks in memory keep.
+//! The counts that boards, sources and sinks in memory keep.
 ghost use Rattle.std.specs.Prelude.{◌≡◌};
 ghost use Rattle.flash_traits.specs.Counts.{raised};
 ghost use Rattle.flash_board.specs.Numbers.{is_among};

@@ -1,4 +1,4 @@
-// The words of a device, in memory.
+//! The words of a device, in memory.
 ghost use Rattle.std.specs.Prelude.{◌≡◌, ◌<◌, ◌≤◌, ◌^◌, ◌++◌, ℕ, length, IfOk, slice_index, slice_set, replicate, bit_and, vec_capacity};
 ghost use Rattle.flash_traits.specs.Words.{Words, halfwords_in, bytes_of, programmed, erased, IsSectorRegion};
 ghost use Rattle.flash_board.specs.Rows.{HasRoomFor, half_set};

@@ -1,4 +1,4 @@
-// The bytes of a source in memory.
+//! The bytes of a source in memory.
 ghost use Rattle.std.specs.Prelude.{◌≡◌, ◌≤◌, ◌++◌, min, length, take, drop};
 
 #[derive(Drop)]

@@ -1,4 +1,4 @@
-// Makes a device in memory from an image's bytes.
+//! Makes a device in memory from an image's bytes.
 ghost use Rattle.std.specs.Prelude.{◌≡◌, ◌≢◌, ◌<◌, ◌≤◌, ◌*◌, ◌+◌, [], ℕ, List, length, IfOk, IsTrue, false};
 ghost use Rattle.flash_board.specs.Rows.{HasRoomFor};
 ghost use Rattle.flash_traits.specs.Words.{IsSectorSize, halfwords_of};

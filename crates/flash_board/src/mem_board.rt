@@ -1,4 +1,4 @@
-// A board in memory whose calls with certain numbers fail.
+//! A board in memory whose calls with certain numbers fail.
 ghost use Rattle.std.specs.Prelude.{IsTrue};
 
 use crate::counts::{Faults, fails_now};

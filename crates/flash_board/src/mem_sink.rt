@@ -1,4 +1,4 @@
-// A sink in memory whose calls with certain numbers fail.
+//! A sink in memory whose calls with certain numbers fail.
 ghost use Rattle.std.specs.Prelude.{◌≡◌};
 
 use crate::counts::fails_now;

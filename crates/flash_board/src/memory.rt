@@ -1,4 +1,4 @@
-// The device in memory: the words, the feed, and the record of calls since the last attach.
+//! The device in memory: the words, the feed, and the record of calls since the last attach.
 ghost use Rattle.std.specs.Prelude.{◌≡◌, ◌↔◌, ◌<◌, ◌≤◌, ◌≢◌, ◌^◌, ◌-◌, ◌+◌, ◌++◌, [], ◌∷◌, List, ℕ, Bool, true, false, min, length, map, take, drop, slice_get, IfOk, OnOk, OnErr, IsTrue, vec_capacity};
 ghost use Rattle.std.specs.Bool.{OnTrue, OnFalse};
 ghost use Rattle.flash_board.specs.Kept.{KeepsRecord, IsShaped, HasSpace, peers_fit, frame_of};

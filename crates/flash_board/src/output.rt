@@ -1,4 +1,4 @@
-// The bytes of a sink in memory.
+//! The bytes of a sink in memory.
 ghost use Rattle.std.specs.Prelude.{◌≡◌, ◌≤◌, ◌+◌, ◌++◌, true, false, length, vec_capacity};
 
 #[derive(Drop)]

@@ -1,4 +1,4 @@
-// What a board in memory is fed, and the calls that it has recorded.
+//! What a board in memory is fed, and the calls that it has recorded.
 use crate::Region;
 use arrayvec::ArrayVec;
 

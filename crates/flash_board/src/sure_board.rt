@@ -1,4 +1,4 @@
-// A board in memory whose calls never fail.
+//! A board in memory whose calls never fail.
 ghost use Rattle.std.specs.Prelude.{◌≡◌, IsTrue};
 ghost use Rattle.flash_traits.specs.Words.{is_size};
 

@@ -1,4 +1,4 @@
-// A sink in memory that never fails.
+//! A sink in memory that never fails.
 ghost use Rattle.std.specs.Prelude.{◌≡◌};
 
 use crate::output::Output;

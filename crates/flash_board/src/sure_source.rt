@@ -1,4 +1,4 @@
-// A source in memory that never fails.
+//! A source in memory that never fails.
 ghost use Rattle.std.specs.Prelude.{◌≡◌};
 
 use crate::input::Input;

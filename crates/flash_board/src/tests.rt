@@ -1,3 +1,4 @@
+//! Boards, sources and sinks in memory: what they give and keep, and what a failing call leaves.
 ghost use Rattle.std.specs.Prelude.{◌≡◌, OnOk};
 
 use super::*;

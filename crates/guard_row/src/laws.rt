@@ -1,4 +1,4 @@
-// The laws of guard rows and their counts.
+//! The laws of guard rows and their counts.
 ghost use Rattle.guard_row.specs.Laws.{OneOfBoth, HomeOrVoid};
 
 /// Each list of halfwords is a guard row with one count or has one first failing place, and never

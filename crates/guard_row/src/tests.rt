@@ -1,3 +1,5 @@
+//! What worked counts say of home and of a void sector.
+
 use super::*;
 use flash_traits::Region;
 

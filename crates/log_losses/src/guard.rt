@@ -1,3 +1,4 @@
+//! The guard row where calls fail: a step of its count, and the halfword that is named as foreign.
 ghost use Rattle.std.specs.Prelude.{◌≡◌, IfOk};
 
 use flash_board::{Board, Fault, MemBoard, Region};

@@ -1,3 +1,4 @@
+//! Sector logs where calls fail: cut appends, torn entries, and the places that are named.
 ghost use Rattle.std.specs.Prelude.{◌≡◌, IfOk};
 
 use byteorder::{ByteOrder, LittleEndian};

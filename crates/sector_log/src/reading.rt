@@ -1,4 +1,4 @@
-// The scan that reads a sector's log.
+//! The scan that reads a sector's log.
 ghost use Rattle.std.specs.Prelude.{◌≡◌, ◌∷◌, ◌^◌, ◌+◌, ◌*◌, ◌/◌, ◌<◌, ◌≤◌, List, ℕ, length, take, drop, slice_index, All, Option, IfOk, OnOk, OnErr, IfErr, IfSome, MatchOption};
 ghost use Rattle.flash_traits.specs.Words.{halfwords_in, region_length, IsSectorRegion, IsSectorSize, bytes_of};
 ghost use Rattle.flash_traits.specs.Causes.{Rose};

@@ -1,4 +1,4 @@
-// Whether a torn entry can be completed.
+//! Whether a torn entry can be completed.
 ghost use Rattle.std.specs.Prelude.{◌≡◌, ◌+◌, ◌*◌, ◌/◌, ◌<◌, ◌≤◌, ◌==◌, List, [], ◌∷◌, ◌++◌, ℕ, length, slice_index, bit_and, IfOk, IfErr, IfSome, IsSome};
 ghost use Rattle.flash_traits.specs.declared.board.Fault.TheVariants.{Read};
 ghost use Rattle.flash_traits.specs.declared.board.Mark.{Mark};

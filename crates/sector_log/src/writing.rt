@@ -1,4 +1,4 @@
-// Entries that are appended, and torn ones that are completed.
+//! Entries that are appended, and torn ones that are completed.
 ghost use Rattle.std.specs.Prelude.{◌≡◌, ◌+◌, ◌*◌, ◌/◌, ◌<◌, ◌≤◌, ℕ, length, IfOk, OnOk, IfErr, IsSome, IfSome};
 ghost use Rattle.flash_traits.specs.declared.board.Fault.TheVariants.{Flash};
 ghost use Rattle.flash_traits.specs.declared.board.Mark.TheVariants.{InUse};

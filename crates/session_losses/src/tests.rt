@@ -1,3 +1,4 @@
+//! Sessions of frames with each call failing in turn: what is left, and what was sent.
 ghost use Rattle.std.specs.Prelude.{◌≡◌, ◌<◌, ◌∷◌, [], IfOk, OnOk, IsTrue};
 ghost use Rattle.flash_board.specs.Kept.{peers_fit};
 

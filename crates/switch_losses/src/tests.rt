@@ -1,3 +1,4 @@
+//! Surveys, recoveries and switches over images of each state, with a loss at each program.
 ghost use Rattle.std.specs.Prelude.{◌≡◌, IfOk};
 
 use byteorder::{ByteOrder, LittleEndian};

@@ -1,3 +1,5 @@
+//! The board over a file and a socket: words in the file, eight stations, and a ninth.
+
 use crate::file_board::FileBoard;
 use crate::link::Link;
 use crate::places::Places;
