@@ -2,7 +2,7 @@
 #![tactic(auto)]
 
 ghost use Rattle.std.specs.Prelude.{◌≡◌, ◌≤◌, ◌<◌, IfOk};
-ghost use Rattle.dirty_lines.specs.Lines.{AreInside};
+ghost use Rattle.storage_lines.specs.Bytes.{AreInside};
 
 use anyhow::{Result, bail};
 use dirty_lines::DirtyLines;

@@ -7,10 +7,6 @@ use Rattle.hex.specs.Hex.{encode_upper}
 abbrev pub with_newline : List ℕ → List ℕ
 with_newline text = text ++ 0x0A ∷ []
 
--- `image 16384`, the bytes of a sector
-abbrev pub size_text : ℕ → List ℕ
-size_text sector_bytes = codes "image " ++ decimal sector_bytes
-
 -- a halfword as four upper-case hexadecimal digits, those of its high byte first
 abbrev pub word_text : ℕ → List ℕ
 word_text word = encode_upper (to_be_bytes w16 word)

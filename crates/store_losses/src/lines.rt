@@ -2,7 +2,7 @@
 ghost use Rattle.std.specs.Prelude.{◌≡◌, ◌+◌, ◌≤◌, length, IfOk, OnOk};
 ghost use Rattle.block_store.specs.Store.{Fits};
 ghost use Rattle.storage_lines.specs.declared.lines.TheConstants.{LINES};
-ghost use Rattle.dirty_lines.specs.Lines.{AreInside};
+ghost use Rattle.storage_lines.specs.Bytes.{AreInside};
 
 use block_store::PutError;
 use dirty_lines::{DirtyLines, Full, PENDING_LINES};

@@ -33,7 +33,7 @@ use Rattle.vehicle_core.specs.Vehicle.{Vehicle, Asked, Parameters, Missions, Ord
 use Rattle.vehicle_core.specs.Acts.{Act, Said, Beat, Stream, Did, did, heard_as, nothing, by_parameters, beaten}
 use Rattle.vehicle_node.specs.Frames.{Machine, Delivery, deliveries, counted, counted_all}
 use Rattle.vehicle_node.specs.Runs.{Run, did_in, take_act, act_done}
-use Rattle.vehicle_laws.specs.Uploads.{uploads_at, says, Opens, OpensNone, command_in, said_in}
+use Rattle.vehicle_laws.specs.Uploads.{uploads_at, says, OpensUpload, OpensNone, command_in, said_in}
 use Rattle.vehicle_laws.specs.Fitting.{SettingFits, AskedFits, ActFits}
 use Rattle.vehicle_laws.proofs.Keeping.{keeps_none, keeps_empties}
 use Rattle.vehicle_laws.proofs.Effects.{Begun, NotBegun, is_next, first_next, Effect, cond_none, unchanged, effect}
@@ -81,7 +81,7 @@ missions_at r = uploads_at Mission r
 pub record ActBegun (budget : ℕ) (b : List ℕ) (r : Run) (act : Act) (writes : List LineWrite) (now : Uploads) : Type 0 where
   pub station : ℕ
   pub count : ℕ
-  pub opens : Opens budget Mission b r act station count
+  pub opens : OpensUpload budget Mission b r act station count
   pub writes_are : writes ≡ begin_writes (after b r.issued)
   pub upload : Upload
   pub now_is : now ≡ Open upload

@@ -27,7 +27,7 @@ use Rattle.mission_service.specs.Service.{Told, From, Taken as TakenItem, tells,
 use Rattle.vehicle_core.specs.Vehicle.{Asked, Missions, tells_of_missions, allowed_of, Content as VehicleContent, Parameter, Alive, OfMissions, Acknowledged, Told as VehicleTold}
 use Rattle.vehicle_core.specs.Acts.{Act, Said, did}
 use Rattle.vehicle_node.specs.Runs.{Run, did_in}
-use Rattle.vehicle_laws.specs.Uploads.{run_over, says, Opens, OpensNone, UploadGoesOn, commands_from, command_in}
+use Rattle.vehicle_laws.specs.Uploads.{run_over, says, OpensUpload, OpensNone, UploadGoesOn, commands_from, command_in}
 use Rattle.mission_service.specs.Asked.{RequestFits, GivenFits}
 use Rattle.vehicle_laws.specs.Fitting.{ActFits, AllFit}
 use Rattle.vehicle_laws.specs.Laws.{LawOfUploads}
@@ -209,7 +209,7 @@ law_of_uploads budget b acts last u f fit ends =
       since = x.since;
       split = x.split;
       upload = record {
-        opens = subst (λ (n : ℕ). Opens budget Mission b (run_over budget b x.before) x.opening u.owner n) (sym count_is) (subst (λ (n : ℕ). Opens budget Mission b (run_over budget b x.before) x.opening n x.count) (sym owner) x.opens);
+        opens = subst (λ (n : ℕ). OpensUpload budget Mission b (run_over budget b x.before) x.opening u.owner n) (sym count_is) (subst (λ (n : ℕ). OpensUpload budget Mission b (run_over budget b x.before) x.opening n x.count) (sym owner) x.opens);
         goes_on = goes;
         fit = all_fit;
       };

@@ -23,7 +23,7 @@ use Rattle.mission_service.specs.Service.{Told, From, Taken as TakenItem, tells,
 use Rattle.vehicle_core.specs.Vehicle.{allowed_of}
 use Rattle.vehicle_core.specs.Acts.{Act, did}
 use Rattle.vehicle_node.specs.Runs.{Run, did_in}
-use Rattle.vehicle_laws.specs.Uploads.{run_over, says, Opens, UploadGoesOn, fence_items_from, fence_item_in}
+use Rattle.vehicle_laws.specs.Uploads.{run_over, says, OpensUpload, UploadGoesOn, fence_items_from, fence_item_in}
 use Rattle.mission_service.specs.Asked.{RequestFits, GivenFits}
 use Rattle.vehicle_laws.specs.Fitting.{ActFits, AllFit}
 use Rattle.vehicle_laws.specs.Laws.{LawOfFenceUploads}
@@ -171,7 +171,7 @@ law_of_fence_uploads budget b acts last u size fit ends =
       since = x.since;
       split = x.split;
       upload = record {
-        opens = subst (λ (n : ℕ). Opens budget Fence b (run_over budget b x.before) x.opening u.owner n) (sym count_is) (subst (λ (n : ℕ). Opens budget Fence b (run_over budget b x.before) x.opening n x.count) (sym owner) x.opens);
+        opens = subst (λ (n : ℕ). OpensUpload budget Fence b (run_over budget b x.before) x.opening u.owner n) (sym count_is) (subst (λ (n : ℕ). OpensUpload budget Fence b (run_over budget b x.before) x.opening n x.count) (sym owner) x.opens);
         goes_on = goes;
         fit = all_fit;
       };

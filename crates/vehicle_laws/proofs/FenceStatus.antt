@@ -17,7 +17,7 @@ use Rattle.mission_service.specs.declared.replies.Content.TheVariants.{Next, Ans
 use Rattle.vehicle_core.specs.Vehicle.{Vehicle, Asked, Parameters, Missions, Orders, is_heard, tells_of_missions, allowed_of}
 use Rattle.vehicle_core.specs.Acts.{Act, Said, Beat, Stream, Did, did, heard_as, nothing, by_parameters, beaten}
 use Rattle.vehicle_node.specs.Runs.{Run, did_in, act_done, start}
-use Rattle.vehicle_laws.specs.Uploads.{run_over, uploads_at, says, Opens, OpensNone, UploadGoesOn, fence_items_from, fence_item_in, said_in}
+use Rattle.vehicle_laws.specs.Uploads.{run_over, uploads_at, says, OpensUpload, OpensNone, UploadGoesOn, fence_items_from, fence_item_in, said_in}
 use Rattle.vehicle_laws.specs.Fitting.{AskedFits, ActFits, AllFit}
 use Rattle.vehicle_laws.proofs.Effects.{cond_none}
 use Rattle.vehicle_laws.proofs.ActEffects.{asked_of, from_station, not_opened, vehicle_after}
@@ -37,7 +37,7 @@ item_given station seq act = said_in (fence_item_in seq) station act
 pub record ActOpens (budget : ℕ) (b : List ℕ) (r : Run) (act : Act) (now : Uploads) : Type 0 where
   pub station : ℕ
   pub count : ℕ
-  pub opens : Opens budget Fence b r act station count
+  pub opens : OpensUpload budget Fence b r act station count
   pub becomes : Becomes station count 0 [] now
   pub some : 0 < count
 
@@ -176,7 +176,7 @@ pub record OpenSince (budget : ℕ) (b : List ℕ) (done : List Act) : Type 0 wh
   pub station : ℕ
   pub count : ℕ
   pub split : done ≡ before ++ opening ∷ since
-  pub opens : Opens budget Fence b (run_over budget b before) opening station count
+  pub opens : OpensUpload budget Fence b (run_over budget b before) opening station count
   pub goes : UploadGoesOn budget Fence b (run_over budget b (before ++ opening ∷ [])) since
   pub ongoing : Ongoing (run_over budget b done) station count (fence_items_from station 0 since)
 

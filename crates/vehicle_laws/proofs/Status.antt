@@ -10,7 +10,7 @@ use Rattle.mission_service.specs.Requests.{Request, Begin}
 use Rattle.vehicle_core.specs.Vehicle.{Asked, Missions}
 use Rattle.vehicle_core.specs.Acts.{Act, Said, Beat, Stream}
 use Rattle.vehicle_node.specs.Runs.{Run, did_in, act_done, all_acts, start}
-use Rattle.vehicle_laws.specs.Uploads.{run_over, says, Opens, OpensNone, UploadGoesOn, given_from, commands_from, command_in}
+use Rattle.vehicle_laws.specs.Uploads.{run_over, says, OpensUpload, OpensNone, UploadGoesOn, given_from, commands_from, command_in}
 use Rattle.vehicle_laws.specs.Fitting.{ActFits, AllFit}
 use Rattle.vehicle_laws.specs.Laws.{LawOfMissions}
 use Rattle.mission_records.proofs.Totals.{all_writes}
@@ -48,7 +48,7 @@ pub record OpenSince (budget : ℕ) (b : List ℕ) (done : List Act) : Type 0 wh
   pub station : ℕ
   pub count : ℕ
   pub split : done ≡ before ++ opening ∷ since
-  pub opens : Opens budget Mission b (run_over budget b before) opening station count
+  pub opens : OpensUpload budget Mission b (run_over budget b before) opening station count
   pub goes : UploadGoesOn budget Mission b (run_over budget b (before ++ opening ∷ [])) since
   pub one_line : IsTotalInOneLine (after b (start b).issued) → IsTotalInOneLine (after b (run_over budget b before).issued)
   pub ongoing : Ongoing b (run_over budget b before) (run_over budget b done) station count (commands_from station 0 since)
@@ -183,7 +183,7 @@ count_said (Said s heard) = count_asked heard.asked
 count_said _ = 0
 
 -- The opening of an upload begins it.
-pub opened_here : (budget : ℕ) (b : List ℕ) (r : Run) (act : Act) (station count : ℕ) → IsFormatted (after b r.issued) → ActFits act → Opens budget Mission b r act station count → Ongoing b r (act_done budget b r act) station count []
+pub opened_here : (budget : ℕ) (b : List ℕ) (r : Run) (act : Act) (station count : ℕ) → IsFormatted (after b r.issued) → ActFits act → OpensUpload budget Mission b r act station count → Ongoing b r (act_done budget b r act) station count []
 opened_here budget b r act station count f fits o = elim (act_effect budget b r act f fits) [
   | inl x ↦
       let both : says x.station x.opens.v2 x.opens.sender x.opens.number (Begin Mission x.count) ≡ says station o.v2 o.sender o.number (Begin Mission count) = sym x.opens.is ∙ o.is in

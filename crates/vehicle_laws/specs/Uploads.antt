@@ -40,7 +40,7 @@ IsTold budget b r act station sender number content = (did_in budget b r act).to
     (record { target = sender; number = number; content = content }) ∷ []
 
 -- Here the COUNT of a station opens an upload of the type: its first item is asked for.
-pub record Opens (budget : ℕ) (t : MissionType) (b : List ℕ) (r : Run) (act : Act)
+pub record OpensUpload (budget : ℕ) (t : MissionType) (b : List ℕ) (r : Run) (act : Act)
     (station count : ℕ) : Type 0 where
   pub v2 : Bool
   pub sender : Target
@@ -50,7 +50,7 @@ pub record Opens (budget : ℕ) (t : MissionType) (b : List ℕ) (r : Run) (act 
 
 -- the act opens no upload of the type
 abbrev pub OpensNone : ℕ → MissionType → List ℕ → Run → Act → Type 0
-OpensNone budget t b r act = (station count : ℕ) → ¬ Opens budget t b r act station count
+OpensNone budget t b r act = (station count : ℕ) → ¬ OpensUpload budget t b r act station count
 
 -- Before each of these acts an upload of the type is open, and none of them opens another: they
 -- belong to one upload, which the last one may end.
@@ -63,7 +63,7 @@ UploadGoesOn budget t b r (act ∷ acts) = IsOpen t r × OpensNone budget t b r 
 -- these acts belong to it.
 pub record IsUpload (budget : ℕ) (t : MissionType) (b : List ℕ) (before : List Act) (opening : Act)
     (since : List Act) (station count : ℕ) : Type 0 where
-  pub opens : Opens budget t b (run_over budget b before) opening station count
+  pub opens : OpensUpload budget t b (run_over budget b before) opening station count
   pub goes_on : UploadGoesOn budget t b (run_over budget b (before ++ opening ∷ [])) since
   pub fit : AllFit (before ++ opening ∷ since)
 

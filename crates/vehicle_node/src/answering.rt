@@ -7,7 +7,7 @@ ghost use Rattle.param_service.specs.Requests as parameters;
 ghost use Rattle.mav_frames.specs.Cut.{IsFrame};
 ghost use Rattle.mav_frames.specs.Frames.{IsReadFrom};
 ghost use Rattle.block_store.specs.Store as store;
-ghost use Rattle.dirty_lines.specs.Lines.{AreInside};
+ghost use Rattle.storage_lines.specs.Bytes.{AreInside};
 ghost use Rattle.mission_service.specs.Replies.{target_of};
 ghost use Rattle.vehicle_core.specs.Vehicle.{Asked, Asks, Told};
 ghost use Rattle.vehicle_core.specs.Acts.{Beat, Said, Stream, heard_as};

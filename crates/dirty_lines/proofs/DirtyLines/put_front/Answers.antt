@@ -9,7 +9,8 @@ use Rattle.block_store.specs.Refusals.{OnWorn, IsWorn}
 use Rattle.block_store.proofs.StoreLaws.{fits_whole}
 use Rattle.block_store.specs.Store.{Fits, AreOneEntry, durable_of, is_spilled, raise, room_of}
 use Rattle.flash_traits.specs.Calls.{Changes}
-use Rattle.dirty_lines.specs.Lines.{Lines, AreInside, lines_of}
+use Rattle.dirty_lines.specs.Lines.{Lines, lines_of}
+use Rattle.storage_lines.specs.Bytes.{AreInside}
 use Rattle.dirty_lines.specs.Entries.{IsNext}
 use Rattle.dirty_lines.specs.Losses.{MayPutFirst, MayPutNext, NextExceeds, IsWornForNext}
 use Rattle.dirty_lines.specs.Steps.Flushing.{HasPutEntries, Refuses}

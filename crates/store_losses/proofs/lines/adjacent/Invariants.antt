@@ -1,5 +1,5 @@
 use Rattle.std.proofs.Common.{◌≡◌, length}
-use Rattle.dirty_lines.specs.Lines.{AreInside}
+use Rattle.storage_lines.specs.Bytes.{AreInside}
 use Rattle.store_losses.proofs.lines.adjacent.Given as goal
 
 abbrev pub invariant-loop-at : goal.invariant-loop-at
