@@ -697,6 +697,8 @@ class AsAUser(unittest.TestCase):
 
 
 if __name__ == "__main__":
+    # a shell has what it runs in the background ignore SIGINT, and a server would inherit that
+    signal.signal(signal.SIGINT, signal.default_int_handler)
     if len(sys.argv) != 2:
         sys.exit(__doc__)
     PROGRAM = os.path.abspath(sys.argv[1])

@@ -20,7 +20,7 @@ NAME = "vehicle_program"
 FOLDER = os.path.join(TOP, "crates", NAME)
 PROGRAM = os.path.join(FOLDER, "out", NAME)
 STAMP = PROGRAM + ".sources"
-TAKES = "from nothing one to two and a half hours on four processors"
+TAKES = "from nothing one to two hours on four processors"
 # `rt try` wants a limit of time; this one is three years
 NO_LIMIT = "99999999"
 # `report` of a file that is no image ends with this status, which none of rt's own is
