@@ -3,7 +3,7 @@
 #![tactic(auto)]
 
 ghost use Rattle.std.specs.Prelude.{◌≡◌, ◌⊎◌, ◌<◌, ◌≤◌, ◌+◌, [], All, length, take, List, ℕ, true};
-ghost use Rattle.std.specs.Prelude.{false, Option, None, IsFalse, IfSome};
+ghost use Rattle.std.specs.Prelude.{◌↔◌, false, Option, None, IsFalse, IsTrue, IfSome, slice_index};
 ghost use Rattle.storage_lines.specs.declared.lines.TheConstants.{STORAGE_BYTES, LINES};
 ghost use Rattle.storage_lines.specs.declared.lines.TheConstants.{BATCH_LINES};
 ghost use Rattle.storage_lines.specs.Lines.{after};
@@ -300,7 +300,9 @@ impl Core {
     /// Whether a list goes to the station: it was heard, and values of its list are left.
     pub fn streams(&self, station: u8) -> bool
         requires { station < STATIONS }
-        ensures { IsFalse result → (budget : ℕ) (bytes : List ℕ) →
+        ensures left { IsTrue result ↔ IsTrue (is_heard self.now.vehicle station)
+            × (slice_index self.now.vehicle.next_rows station < parameters.parameters) }
+        ensures idle { IsFalse result → (budget : ℕ) (bytes : List ℕ) →
             did budget bytes self.now.vehicle (Stream station) ≡ nothing self.now.vehicle }
     {
         let heard = self.heard(station);

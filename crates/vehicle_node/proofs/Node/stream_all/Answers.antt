@@ -41,7 +41,7 @@ loop-station-preserved g c =
                 (keeps_then b OfAnswer OfAnswer board mid_board (Ok tt) last (λ k is. is) i.keeps e.keeps);
           }
       | else-streams w ↦
-          let nothing_said = did_nothing c.self.inside mid (Stream n) c.self.view_is (c.streams.ensures w.if-streams.false) in
+          let nothing_said = did_nothing c.self.inside mid (Stream n) c.self.view_is (c.streams.ensures.idle w.if-streams.false) in
           record {
             done = subst (λ (s : Node). ActsDone b old board (take (n + 1) streams) (Ok tt) s c.if-streams.board) (sym w.self-is)
                 (subst (λ (l : g.row.B.Denot). ActsDone b old board (take (n + 1) streams) (Ok tt) mid l) (sym w.board-is)
