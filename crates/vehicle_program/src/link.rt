@@ -15,7 +15,7 @@ use std::time::{Clock, Duration, Instant};
 /// The datagram that ends a run.
 const END: [u8; 4] = *b"END\n";
 
-/// A silence of so many milliseconds gives an idle turn.
+/// The milliseconds from one idle turn to the next.
 const IDLE_WAIT: u64 = 1000;
 
 /// The wait after an event that sent a whole stretch of a list, in milliseconds.
@@ -42,8 +42,8 @@ pub(crate) struct Link {
     /// How long the socket waits for a datagram.
     wait: Duration,
     places: Places,
-    /// When the last datagram of a station came, or the last silence ended.
-    last: Instant,
+    /// When the last idle turn came, or the socket was bound.
+    idle: Instant,
     /// The frames that were sent to each station since the last reception.
     frames: [u8; PEERS],
 }
@@ -58,29 +58,29 @@ impl Link {
             socket,
             wait,
             places: Places::new(),
-            last: Instant::now(rt)?,
+            idle: Instant::now(rt)?,
             frames: [0; PEERS],
         })
     }
 
     /// Waits for an event.
     ///
-    /// An idle turn comes after a second without a datagram of the stations. After an event that
-    /// sent a stretch of frames to one station a list may go on, so a silence of a millisecond
-    /// gives a datagram without bytes of that station, which asks for nothing.
+    /// An idle turn comes once a second by the clock, whatever is heard meanwhile. After an event
+    /// that sent a stretch of frames to one station a list may go on, so a silence of a millisecond
+    /// gives a datagram without bytes of that station, which asks for nothing; so do many datagrams
+    /// of strangers, of the first station.
     pub(crate) fn receive<R: Clock>(&mut self, rt: &R, into: &mut [u8]) -> io::Result<Event>
         requires { length into.old ≡ DATAGRAM_BYTES }
         ensures { IfOk result IsEventInRange }
     {
         let listing = self.listing();
         self.frames = [0; PEERS];
-        let (wait, silence) = match listing {
-            Some(peer) => (LIST_WAIT, Event::Datagram { peer, len: 0 }),
-            None => (IDLE_WAIT, Event::Idle),
-        };
-        match self.hear_within(rt, Duration::from_millis(wait), into)? {
+        match self.hear_within(rt, listing.is_some(), into)? {
             Some(event) => Ok(event),
-            None => Ok(silence),
+            None => Ok(Event::Datagram {
+                peer: listing.unwrap_or(0),
+                len: 0,
+            }),
         }
     }
 
@@ -110,30 +110,45 @@ impl Link {
         None
     }
 
-    // Waits so long for an event, and drops the datagrams of strangers meanwhile.
+    // Waits for an event, and drops the datagrams of strangers meanwhile, but not for long where a
+    // list may go on.
     fn hear_within<R: Clock>(
         &mut self,
         rt: &R,
-        wait: Duration,
+        is_listing: bool,
         into: &mut [u8],
     ) -> io::Result<Option<Event>>
         requires { length into.old ≡ DATAGRAM_BYTES }
         ensures { IfOk result (λ event. IfSome event IsEventInRange) }
     {
-        let mut left = wait;
         for _ in 0..DROPS {
-            match self.hear(rt, left, into)? {
+            let Some(left) = self.until_idle(rt)? else {
+                return Ok(Some(Event::Idle));
+            };
+            let wait = if is_listing {
+                Duration::from_millis(LIST_WAIT)
+            } else {
+                left
+            };
+            match self.hear(rt, wait, into)? {
                 Heard::Event(event) => return Ok(Some(event)),
-                Heard::Silence => return Ok(None),
-                Heard::Stranger => {}
+                Heard::Stranger | Heard::Silence => {}
             }
-            left = wait.saturating_sub(self.last.elapsed(rt)?);
-            if left < Duration::from_millis(LIST_WAIT) {
+            if is_listing {
                 break;
             }
         }
-        self.last = Instant::now(rt)?;
         Ok(None)
+    }
+
+    // The time until the next idle turn. There is none where it is due; the next second begins then.
+    fn until_idle<R: Clock>(&mut self, rt: &R) -> io::Result<Option<Duration>> {
+        let left = Duration::from_millis(IDLE_WAIT).saturating_sub(self.idle.elapsed(rt)?);
+        if left < Duration::from_millis(LIST_WAIT) {
+            self.idle = Instant::now(rt)?;
+            return Ok(None);
+        }
+        Ok(Some(left))
     }
 
     // Waits so long for a datagram.
@@ -147,7 +162,7 @@ impl Link {
         }
         let (len, from) = match self.socket.recv_from(into) {
             Ok(heard) => heard,
-            Err(e) => return self.unheard(rt, e),
+            Err(e) => return unheard(e),
         };
         if &into[..len] == END.as_slice() {
             return Ok(Heard::Event(Event::End));
@@ -156,24 +171,20 @@ impl Link {
         let Some(peer) = self.places.number_of(from, now) else {
             return Ok(Heard::Stranger);
         };
-        self.last = now;
         Ok(Heard::Event(Event::Datagram {
             peer,
             len: len as u16,
         }))
     }
+}
 
-    // What it means that no datagram came. After a signal the wait goes on.
-    fn unheard<R: Clock>(&mut self, rt: &R, error: io::Error) -> io::Result<Heard>
-        ensures { IfOk result IsHeardInRange }
-    {
-        match error.kind() {
-            ErrorKind::WouldBlock | ErrorKind::TimedOut => {
-                self.last = Instant::now(rt)?;
-                Ok(Heard::Silence)
-            }
-            ErrorKind::Interrupted => Ok(Heard::Stranger),
-            _ => Err(error),
-        }
+// What it means that no datagram came. After a signal the wait goes on.
+fn unheard(error: io::Error) -> io::Result<Heard>
+    ensures { IfOk result IsHeardInRange }
+{
+    match error.kind() {
+        ErrorKind::WouldBlock | ErrorKind::TimedOut => Ok(Heard::Silence),
+        ErrorKind::Interrupted => Ok(Heard::Stranger),
+        _ => Err(error),
     }
 }
