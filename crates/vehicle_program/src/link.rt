@@ -121,6 +121,7 @@ impl Link {
         requires { length into.old ≡ DATAGRAM_BYTES }
         ensures { IfOk result (λ event. IfSome event IsEventInRange) }
     {
+        let mut is_silent = false;
         for _ in 0..DROPS {
             let Some(left) = self.until_idle(rt)? else {
                 return Ok(Some(Event::Idle));
@@ -128,17 +129,31 @@ impl Link {
             let wait = if is_listing {
                 Duration::from_millis(LIST_WAIT)
             } else {
-                left
+                self.wait_within(left, is_silent)
             };
             match self.hear(rt, wait, into)? {
                 Heard::Event(event) => return Ok(Some(event)),
-                Heard::Stranger | Heard::Silence => {}
+                Heard::Stranger => {}
+                Heard::Silence => is_silent = true,
             }
             if is_listing {
                 break;
             }
         }
         Ok(None)
+    }
+
+    // How long the socket is to wait where so much time is left. While datagrams come, the wait that
+    // it has is kept as long as it is no longer, so that it is told another one a few times a second
+    // and not at each datagram.
+    fn wait_within(&self, left: Duration, is_silent: bool) -> Duration {
+        if is_silent {
+            left
+        } else if self.wait <= left {
+            self.wait
+        } else {
+            left / 2
+        }
     }
 
     // The time until the next idle turn. There is none where it is due; the next second begins then.
