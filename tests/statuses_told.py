@@ -99,7 +99,9 @@ class StatusesTold(unittest.TestCase):
         with socket.socket(socket.AF_INET, socket.SOCK_DGRAM) as other:
             other.bind(("127.0.0.1", 0))
             port = other.getsockname()[1]
-            self.ends(["serve", self.image, f"--port={port}"], 13, ATTACH, f"port {port} of 127.0.0.1 is taken")
+            self.ends(["serve", self.image, f"--port={port}"], 13, ATTACH,
+                      f"port {port} of 127.0.0.1 is taken; --port names another, and where a ground station listens "
+                      f"there, ./serve IMAGE --station 127.0.0.1:{port} serves that station")
 
     def test_an_image_that_another_server_has_is_described(self):
         self.blank()

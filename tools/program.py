@@ -154,12 +154,13 @@ def die_with_parent():
     ctypes.CDLL(None).prctl(PR_SET_PDEATHSIG, signal.SIGKILL)
 
 
-def tell_when_bound(port):
-    """Says once that the port is served, in a thread that nobody waits for."""
+def tell_when_bound(port, do_then):
+    """Says once that the port is served, and does what is done then, in a thread that nobody waits for."""
     def look():
         while not is_bound(port):
             time.sleep(0.1)
         say(f"serves on 127.0.0.1:{port}; tools/station.py end --port {port} ends it")
+        do_then()
 
     try:
         if not is_bound(port):

@@ -67,7 +67,8 @@ def why_not_bound(port):
             probe.bind(("127.0.0.1", port))
         except OSError as error:
             if error.errno == errno.EADDRINUSE:
-                return f"port {port} of 127.0.0.1 is taken; --port names another"
+                return (f"port {port} of 127.0.0.1 is taken; --port names another, and where a ground station listens "
+                        f"there, ./serve IMAGE --station 127.0.0.1:{port} serves that station")
             return f"port {port} of 127.0.0.1: {error.strerror}"
     return None
 
