@@ -1,7 +1,7 @@
 /* Sends requests to a UDP port of 127.0.0.1, so many in flight, until so many are answered, and prints the seconds that
  * this took: client PORT OWN_PORT IN_FLIGHT COUNT FILE. Each line of the file is a request in hexadecimal; they are sent
  * in turn. It speaks from one port of its own, since the server knows eight stations, and waits in the kernel. The
- * HEARTBEAT of an idle second is no answer. */
+ * HEARTBEAT of an idle turn is no answer. */
 #include <arpa/inet.h>
 #include <stdio.h>
 #include <stdlib.h>

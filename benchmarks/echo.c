@@ -1,4 +1,4 @@
-/* A bare UDP echo on 127.0.0.1, the floor of a round trip: echo PORT. Like the server it wakes after a silent second. */
+/* A bare UDP echo on 127.0.0.1, the floor of a round trip: echo PORT. It wakes after a silent second. */
 #include <arpa/inet.h>
 #include <stdio.h>
 #include <stdlib.h>

@@ -30,7 +30,7 @@ def ask(station, request, seconds=30):
 
 
 def hear(station, seconds=5):
-    """The next frame but HEARTBEAT, which comes at each idle second."""
+    """The next frame but HEARTBEAT, which comes once a second."""
     end = time.monotonic() + seconds
     while (left := end - time.monotonic()) > 0:
         station.settimeout(left)
