@@ -48,7 +48,7 @@ LONGEST, SHORTEST = 2.0, 0.8  # seconds between two HEARTBEATs of the vehicle
 PHASE = 4  # seconds of each part of a session
 SO_TIMESTAMPNS = 35  # of Linux; Python 3.8 has no name for it
 ARMED, NOT_ARMED = 129, 1  # base_mode
-NO_SPACE_FOR_TWO, CANCELLED = 14, 15  # MAV_MISSION_RESULT: denied, and operation cancelled
+DENIED, CANCELLED = 14, 15  # MAV_MISSION_RESULT
 IDLE_TURNS = 8  # the last of them closes an upload
 RATE = 6000  # datagrams of a stranger in a second
 
@@ -137,10 +137,10 @@ class Station:
                 return heard
         raise TimeoutError("no answer")
 
-    def beats(self, begin, end):
-        """When the vehicle's HEARTBEATs came in this time."""
+    def beats(self, begin):
+        """When the vehicle's HEARTBEATs came since then."""
         return [when for when, found in list(self.frames)
-                if found and found["message"] == mavlink.HEARTBEAT and begin < when < end]
+                if found and found["message"] == mavlink.HEARTBEAT and when > begin]
 
 
 class Flood:
@@ -251,6 +251,7 @@ class Alive(unittest.TestCase):
         self.addCleanup(folder.cleanup)
         self.folder = folder.name
         self.image = os.path.join(self.folder, "vehicle.img")
+        self.notes = []
 
     def served(self):
         """A server of this test's image, as `with self.served() as vehicle`."""
@@ -274,16 +275,18 @@ class Alive(unittest.TestCase):
         self.assertEqual((status, said), (0, b""))
         return int(re.fullmatch(rb"served (\d+) events \d+ frames\n", printed)[1])
 
-    def is_alive(self, station, begin, end, title):
-        """The station heard the vehicle all the time, and not too often."""
-        beats = station.beats(begin, end)
+    def is_alive(self, station, begin, title):
+        """The station heard the vehicle from then until now, all the time and not too often."""
+        end = time.time()
+        # what came before that is noted once a later one is
+        self.assertTrue(becomes(lambda: station.beats(end)), title)
+        beats = station.beats(begin)
         apart = [after - before for before, after in zip(beats, beats[1:])]
         self.assertGreater(len(apart), 1, title)
-        print(f"{title}: {len(beats)} HEARTBEATs, {min(apart):.3f} to {max(apart):.3f} seconds apart")
+        self.notes.append(f"{title}: {len(beats)} HEARTBEATs, {min(apart):.3f} to {max(apart):.3f} seconds apart")
         self.assertGreaterEqual(min(apart), SHORTEST, title)
         self.assertLessEqual(max(apart), LONGEST, title)
         self.assertLessEqual(beats[0] - begin, LONGEST, title)
-        self.assertLessEqual(end - beats[-1], LONGEST, title)
 
     # what a station does in a session
 
@@ -360,10 +363,8 @@ class Alive(unittest.TestCase):
                     with flood:
                         time.sleep(PHASE)
             self.poured(flood)
-            time.sleep(1.5)
-            end = time.time()
             for station in stations:
-                self.is_alive(station, begin, end, f"a station that speaks each {station.each} s, {len(each)} at once"
+                self.is_alive(station, begin, f"a station that speaks each {station.each} s, {len(each)} at once"
                               + (", flooded all the time" if is_flooded else ""))
                 self.assertNotIn(None, [found for _, found in station.frames])
             self.assertGreater(self.ended(vehicle), flood.sent // 2)
@@ -388,29 +389,29 @@ class Alive(unittest.TestCase):
     # an upload that doesn't go on
 
     def begin_upload(self, station, kind):
-        """Begins an upload, of which one item is taken, and gives the place of what is heard then."""
+        """Begins an upload, of which one item is taken."""
         item = Item(16, 3, x=473977420, y=85455970, z=10.0) if kind == MISSION else Item(5003, 0, (10.0, 0.0, 0.0, 0.0))
         station.ask(asked_for(0), functools.partial(mavlink.mission_count, 3, kind))
         station.ask(asked_for(1), functools.partial(mavlink.mission_item, 0, item, kind))
-        return len(station.frames)
 
-    def closes(self, station, place):
-        """An upload is asked for again at each idle turn, and the eighth one closes it, about a second after another."""
-        self.assertTrue(station.hear(closed_by(CANCELLED), place, 20))
-        time.sleep(1.5)
+    def closes(self, station):
+        """The upload that was begun is asked for again at each idle turn, and the eighth one closes it."""
+        self.assertTrue(station.hear(closed_by(CANCELLED), seconds=20))
+        self.assertTrue(becomes(lambda end=time.time(): len(station.beats(end)) > 2))
         frames = list(station.frames)
-        # the last request of the item came before this place, and the vehicle's clock doesn't begin anew at it
-        began = frames[place - 1][0]
-        turns = frames[place:]
-        said = [(found["message"], next_step(found) and next_step(found)[1]) for _, found in turns]
-        turn = [(mavlink.HEARTBEAT, None), (mavlink.MISSION_REQUEST_INT, 1)]
-        last = [(mavlink.HEARTBEAT, None), (mavlink.MISSION_ACK, CANCELLED)]
-        self.assertEqual(said[:2 * IDLE_TURNS], turn * (IDLE_TURNS - 1) + last)
-        self.assertEqual(set(said[2 * IDLE_TURNS:]), {(mavlink.HEARTBEAT, None)})
-        for told, asked in zip(turns[:2 * IDLE_TURNS:2], turns[1:2 * IDLE_TURNS:2]):
-            self.assertLess(asked[0] - told[0], SHORTEST)
-        lived = turns[2 * IDLE_TURNS - 1][0] - began
-        print(f"an upload whose station fell silent was closed after {lived:.2f} seconds")
+        said = [next_step(found) for _, found in frames]
+        # the item was taken when the next one was asked for first
+        taken = said.index((mavlink.MISSION_REQUEST_INT, 1))
+        # what comes right behind a HEARTBEAT is said at the same turn
+        turns = [place + 1 for place in range(taken, len(frames) - 1)
+                 if frames[place][1]["message"] == mavlink.HEARTBEAT]
+        self.assertEqual([said[place] for place in turns[:IDLE_TURNS]],
+                         [(mavlink.MISSION_REQUEST_INT, 1)] * (IDLE_TURNS - 1) + [(mavlink.MISSION_ACK, CANCELLED)])
+        for place in turns[:IDLE_TURNS]:
+            self.assertLess(frames[place][0] - frames[place - 1][0], SHORTEST)
+        self.assertEqual(set(said[turns[IDLE_TURNS - 1] + 1:]), {None})
+        lived = frames[turns[IDLE_TURNS - 1]][0] - frames[taken][0]
+        self.notes.append(f"an upload whose station fell silent was closed after {lived:.2f} seconds")
         # from the first idle turn, which may come at once, to the eighth
         self.assertGreater(lived, (IDLE_TURNS - 1) * 0.98)
         self.assertLess(lived, IDLE_TURNS + LONGEST)
@@ -422,12 +423,12 @@ class Alive(unittest.TestCase):
             other, silent = self.heard(vehicle, 1.0), self.heard(vehicle)
             self.heard(vehicle, 0.9)
             begin = time.time()
-            place = self.begin_upload(silent, MISSION)
+            self.begin_upload(silent, MISSION)
             time.sleep(3.3)
-            self.assertTrue(other.ask(closed_by(NO_SPACE_FOR_TWO), for_two))
-            self.closes(silent, place)
+            self.assertTrue(other.ask(closed_by(DENIED), for_two))
+            self.closes(silent)
             self.assertTrue(other.ask(asked_for(0), for_two))
-            self.is_alive(other, begin, time.time(), "a station that speaks each 1.0 s beside an upload")
+            self.is_alive(other, begin, "a station that speaks each 1.0 s beside an upload")
             self.ended(vehicle)
 
     # strangers
@@ -440,18 +441,17 @@ class Alive(unittest.TestCase):
             with Flood(vehicle.port, RATE, *noise) as ninth, Flood(vehicle.port, RATE, *noise) as tenth:
                 time.sleep(0.5)
                 begin, lost = time.time(), lost_at(vehicle.port)
-                place = self.begin_upload(silent, FENCE)
-                self.closes(silent, place)
-                end, lost = time.time(), lost_at(vehicle.port) - lost
+                self.begin_upload(silent, FENCE)
+                self.closes(silent)
+                lost = (lost_at(vehicle.port) - lost) / (time.time() - begin)
+                for station in (*speaking[::3], silent):
+                    self.is_alive(station, begin, "a station of eight, while a ninth and a tenth address flood")
             for flood in (ninth, tenth):
                 # either alone has more in a second than one call drops
                 self.assertGreater(flood.sent, 4096 * flood.seconds)
                 self.assertFalse(flood.has_heard())
-            sent, seconds = ninth.sent + tenth.sent, ninth.seconds
-            print(f"strangers sent {sent / seconds:.0f} datagrams a second; the socket had no room for "
-                  f"{lost / (end - begin):.0f} of them")
-            for station in (*speaking[::3], silent):
-                self.is_alive(station, begin, end, "a station of eight, while a ninth and a tenth address flood")
+            sent = (ninth.sent + tenth.sent) / ninth.seconds
+            self.notes.append(f"strangers sent {sent:.0f} datagrams a second; the socket had no room for {lost:.0f}")
             # the end would be lost too where the socket is still full
             time.sleep(1)
             self.ended(vehicle)
@@ -482,7 +482,7 @@ class Alive(unittest.TestCase):
         self.assertTrue(station.hear(lambda found: fields(found, mavlink.HEARTBEAT)), title)
         begin = time.time()
         time.sleep(seconds)
-        self.is_alive(station, begin, time.time(), title)
+        self.is_alive(station, begin, title)
         self.assertEqual({found["version"] for _, found in station.frames}, {2}, title)
         station.each = 1.0
         self.assertEqual(station.ask(value, functools.partial(mavlink.request_read, 1)), ("RTL_ALT", 1500.0), title)
@@ -543,8 +543,7 @@ class Alive(unittest.TestCase):
                 self.assertTrue(station.hear(lambda found: fields(found, mavlink.HEARTBEAT), place, 8))
             time.sleep(3)
             for station in (first, second):
-                self.is_alive(station, max(begin, station.beats(begin, time.time())[0] - 1), time.time(),
-                              "a station over a bridge, the server started anew")
+                self.is_alive(station, station.beats(begin)[0] - 1, "a station over a bridge, the server started anew")
             bridge.send_signal(signal.SIGINT)
             bridge.communicate(timeout=30)
             self.assertEqual(bridge.returncode, 130)
@@ -581,13 +580,18 @@ class Alive(unittest.TestCase):
 
     def test_the_other_words_of_serve_are_the_programs(self):
         port = str(server.free_port())
-        for words, status, printed in ((["--port", "0"], 1, b"error 1 words\n"), (["--turns", "x"], 1, b"error 1 words\n"),
-                                       (["--port", port, "--turns=1"], 8, b"error 8 turns 1\n")):
-            station = self.station()
+        taken = self.station().socket.getsockname()[1]
+        for words, status, printed, told in (
+                (["--port", "0"], 1, b"error 1 words\n", "these words are no command"),
+                (["--turns", "x"], 1, b"error 1 words\n", "these words are no command"),
+                ([f"--port={taken}"], 13, b"error 13 attach\n", f"--station 127.0.0.1:{taken} serves that station"),
+                (["--port", port, "--turns=1"], 8, b"error 8 turns 1\n", "")):
+            listening = self.station().socket.getsockname()[1]
             wrapper, said = self.run_beside(sys.executable, "-c", SERVE_IT, PROGRAM, *words, "--station",
-                                            f"127.0.0.1:{station.socket.getsockname()[1]}", "--", self.image)
+                                            f"127.0.0.1:{listening}", "--", self.image)
             out, _ = wrapper.communicate(timeout=30)
             self.assertEqual((wrapper.returncode, out), (status, printed), self.content(said))
+            self.assertIn(told, self.content(said))
 
 
 def run_one(test):
@@ -604,9 +608,9 @@ def run_at_once(suite):
         done = list(pool.map(run_one, tests))
     for test, (result, seconds) in zip(tests, done):
         wrong = result.failures + result.errors
-        print(f"{test} ... {'FAILED' if wrong else 'ok'}, {seconds:.1f} seconds")
-        for _, text in wrong:
-            print(text)
+        print(f"{test.id().rpartition('.')[2]} ... {'FAILED' if wrong else 'ok'}, {seconds:.1f} seconds")
+        for text in (*test.notes, *(text for _, text in wrong)):
+            print(f"  {text}")
     failed = sum(not result.wasSuccessful() for result, _ in done)
     return len(tests) - failed, failed
 

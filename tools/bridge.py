@@ -97,8 +97,8 @@ class Way:
             return
         if last is not None and not self.is_told_quiet:
             self.is_told_quiet = True
-            say(f"no vehicle is heard at {HERE}:{self.server[1]} for {HERE}:{self.station[1]}: nothing serves there, or "
-                f"its {PLACES} places are taken; it is asked again")
+            say(f"no vehicle is heard at {HERE}:{self.server[1]} for {HERE}:{self.station[1]}: nothing serves there, "
+                f"or its {PLACES} places are taken; it is asked again")
         self.said = now
         self.send(mavlink.heartbeat(version=2), self.server)
 
