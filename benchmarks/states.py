@@ -1,6 +1,7 @@
 """Images of a vehicle in each state that a switch of sectors passes through, built from the bytes of its storage.
 
-The formats are those of docs/FORMATS.md. All images have the largest size.
+A module of measure.py, which calls it; it isn't called by itself. The formats are those of docs/FORMATS.md. All images
+have the largest size.
 """
 import struct
 

@@ -28,6 +28,7 @@ import unittest
 TOP = os.path.realpath(os.path.join(os.path.dirname(os.path.abspath(__file__)), ".."))
 sys.path.insert(0, os.path.join(TOP, "tools"))
 sys.dont_write_bytecode = True
+import counted  # noqa: E402
 import mavlink  # noqa: E402
 import server  # noqa: E402
 from mavlink import FENCE, MISSION  # noqa: E402
@@ -618,9 +619,7 @@ def run_at_once(suite):
 if __name__ == "__main__":
     # a shell has what it runs in the background ignore SIGINT, and a server would inherit that
     signal.signal(signal.SIGINT, signal.default_int_handler)
-    if len(sys.argv) != 2:
-        sys.exit(__doc__)
-    PROGRAM = os.path.abspath(sys.argv[1])
+    PROGRAM = counted.program_named(__doc__)
     well, badly = run_at_once(unittest.defaultTestLoader.loadTestsFromTestCase(Alive))
-    print(f"{well} passed, {badly} failed")
+    print(counted.line_of(well, badly, 0))
     sys.exit(1 if badly or not well else 0)

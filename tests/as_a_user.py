@@ -24,6 +24,7 @@ TOP = os.path.join(os.path.dirname(os.path.abspath(__file__)), "..")
 sys.path.insert(0, os.path.join(TOP, "tools"))
 sys.path.insert(0, os.path.join(TOP, "tests"))
 sys.dont_write_bytecode = True
+import counted  # noqa: E402
 import disk_states  # noqa: E402
 import image  # noqa: E402
 import mavlink  # noqa: E402
@@ -728,10 +729,5 @@ class AsAUser(unittest.TestCase):
 if __name__ == "__main__":
     # a shell has what it runs in the background ignore SIGINT, and a server would inherit that
     signal.signal(signal.SIGINT, signal.default_int_handler)
-    if len(sys.argv) != 2:
-        sys.exit(__doc__)
-    PROGRAM = os.path.abspath(sys.argv[1])
-    result = unittest.main(argv=sys.argv[:1], exit=False, verbosity=2).result
-    failed = len(result.failures) + len(result.errors)
-    print(f"{result.testsRun - failed} passed, {failed} failed")
-    sys.exit(1 if failed or not result.testsRun else 0)
+    PROGRAM = counted.program_named(__doc__)
+    counted.passes()

@@ -1,5 +1,5 @@
 #!/usr/bin/env python3
-"""Looks up each clause that docs/CAUSES.md names: `tests/causes.py` says which are not there.
+"""Looks up each clause that docs/CAUSES.md names, and says which are not there: tests/causes.py
 
 Under a heading with a crate's name stands a line that begins with functions in backticks, and under it what they
 answer; each other word in backticks is the name of a clause of each of these functions, or CRATE::LAW.
@@ -10,6 +10,10 @@ import re
 import sys
 
 TOP = os.path.join(os.path.dirname(os.path.abspath(__file__)), "..")
+sys.path.insert(0, os.path.join(TOP, "tools"))
+sys.dont_write_bytecode = True
+import program  # noqa: E402
+
 TYPES = {"Alone", "Marked", "Spilled", "Copied", "Voided", "Erased"}
 
 
@@ -58,7 +62,10 @@ def missing(document):
                     yield f"{number}: {crate} {function} has no clause {word}"
 
 
-def main():
+def main(words):
+    program.usage(words, __doc__)
+    if words:
+        program.refuse(__doc__)
     with open(os.path.join(TOP, "docs", "CAUSES.md"), encoding="utf-8") as document:
         lines = list(missing(document.read()))
     for line in lines:
@@ -68,4 +75,4 @@ def main():
 
 
 if __name__ == "__main__":
-    sys.exit(main())
+    sys.exit(main(sys.argv[1:]))

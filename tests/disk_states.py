@@ -1,10 +1,11 @@
 """What a disk may hold when the power goes: every state of a session's image, held against docs/FORMATS.md.
 
-A session that crosses borders of pages and makes a switch runs under strace. The system keeps written pages of 4,096
-bytes in memory and may put any of them onto the disk at any time until a synchronization. So a disk may hold, of each
-page that was written since the last synchronization, any version, in any mixture. Each such state must stand for the
-storage bytes of some moment since the last synchronization, for an independent reader of the format and for the
-command `dump`. And no frame goes out, and no event is waited for, while a written page isn't synchronized.
+A module of as_a_user.py, which calls it; it isn't called by itself. A session that crosses borders of pages and makes a
+switch runs under strace. The system keeps written pages of 4,096 bytes in memory and may put any of them onto the disk
+at any time until a synchronization. So a disk may hold, of each page that was written since the last synchronization,
+any version, in any mixture. Each such state must stand for the storage bytes of some moment since the last
+synchronization, for an independent reader of the format and for the command `dump`. And no frame goes out, and no event
+is waited for, while a written page isn't synchronized.
 """
 import itertools
 import os

@@ -5,7 +5,8 @@ Quotes are word for word what the sources say (tools/quotes.py). Each link leads
 docs/MAP.md each file is there and has the functions that are named with it, and in docs/DEFINITIONS.md each crate has
 its definitions. docs/MAP.md and docs/PROVED.md name each crate, and in its README each function has the clauses that
 stand beside it in parentheses. Wherever a document names a clause, a law or a wrong body of a crate, the crate has it.
-All name one kit, and it is told where the kit of this machine is another one. The sizes in docs/PROVED.md are those of
+All name one kit, and it is told where the kit of this machine is another one. The commands that the wrappers and
+docs/USING.md list are those of crates/command_line. The sizes in docs/PROVED.md are those of
 the sources to a tenth, and the longest chain in docs/MAP.md is a longest one.
 """
 import os
@@ -39,6 +40,11 @@ PLACE = re.compile(rf"`({NAME}(?:/[\w./]+)?)`")
 KIT = re.compile(r"\brattle-kit-\w+")
 SIZES = re.compile(r"about ([\d,]+) lines of code with contracts and tests, ([\d,]+) of definitions and ([\d,]+) of "
                    r"proofs: ([\d,]+) functions with ([\d,]+) clauses, and ([\d,]+) wrong bodies")
+# a command in the code, which picks it by its first word, and its words there, in ./zuddrin and in docs/USING.md
+PICKED = re.compile(r'^    if first == "(\w+)" \{$', re.M)
+VARIANT = re.compile(r"^    /// `(\w+) ([^`]+)`: .*\n    [A-Z]\w* \{$", re.M)
+CALLED = re.compile(r"^    zuddrin (\w+) (\S+(?: \S+)*)  ", re.M)
+LISTED = re.compile(r"^\| `(\w+) ([^`]+)` \| ", re.M)
 CHAIN = re.compile(r"The longest chain of crates is ((?:\w+, )+\w+)\.")
 
 
@@ -171,6 +177,14 @@ class Documents(unittest.TestCase):
             if set(kit) != named["README.md"]:
                 print(f"README.md says that {named['README.md'].pop()} proved all; the kit here is {' '.join(kit)}")
 
+    def test_the_commands_are_those_of_the_program(self):
+        code = sources.text_of("crates/command_line/src/lib.rt")
+        self.assertEqual(PICKED.findall(code), list(program.COMMANDS))
+        self.assertEqual(dict(VARIANT.findall(code)), program.COMMANDS)
+        self.assertEqual(dict(CALLED.findall(sources.text_of("zuddrin"))), program.COMMANDS)
+        table = sources.text_of("docs/USING.md").split("\n## Words and statuses\n")[1].split("\n## ")[0]
+        self.assertEqual(dict(LISTED.findall(table)), program.COMMANDS)
+
     def test_the_sizes_are_so(self):
         told = SIZES.search(prose("docs/PROVED.md"))
         for (name, size), text in zip(sources.sizes().items(), told.groups()):
@@ -186,4 +200,5 @@ class Documents(unittest.TestCase):
 
 
 if __name__ == "__main__":
+    program.usage(sys.argv[1:], __doc__)
     unittest.main()

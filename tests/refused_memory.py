@@ -18,7 +18,10 @@ import subprocess
 import sys
 
 TOP = os.path.join(os.path.dirname(os.path.abspath(__file__)), "..")
-COMMANDS = ("serve", "replay", "dump", "report", "format", "gen")
+sys.path.insert(0, os.path.join(TOP, "tools"))
+sys.dont_write_bytecode = True
+import program  # noqa: E402
+
 RESULT = re.compile(r"^test memory::(\w+)_with_memory \.\.\. (ok|FAILED)(?:\n +error: \"(not begun|status 2)\")?", re.M)
 
 
@@ -29,22 +32,22 @@ def outcomes(number):
                           stdin=subprocess.DEVNULL, stdout=subprocess.PIPE, stderr=subprocess.STDOUT)
     found = {name: "done" if passed == "ok" else cause or "WRONG"
              for name, passed, cause in RESULT.findall(done.stdout)}
-    if sorted(found) != sorted(COMMANDS):
+    if sorted(found) != sorted(program.COMMANDS):
         print(done.stdout, file=sys.stderr)
         sys.exit(2)
     return found
 
 
 def main(words):
+    program.usage(words, __doc__)
     if len(words) > 2 or not all(word.isdigit() and int(word) for word in words):
-        print(__doc__, file=sys.stderr)
-        return 64
+        program.refuse(__doc__)
     first = int(words[0]) if words else 1
     last = int(words[1]) if len(words) > 1 else sys.maxsize
     wrong = False
     for number in range(first, last + 1):
         found = outcomes(number)
-        print(f"{number:3}", *(f"{name}: {found[name]:10}" for name in COMMANDS), flush=True)
+        print(f"{number:3}", *(f"{name}: {found[name]:10}" for name in program.COMMANDS), flush=True)
         wrong = wrong or "WRONG" in found.values()
         if set(found.values()) == {"done"}:
             break

@@ -1,12 +1,12 @@
 #!/usr/bin/env python3
-"""Holds the files, frames and words of tools/station.py against what other ground stations and MAVLink have.
+"""Holds the files, frames and words of a ground station against those of others: tests/station_files.py
 
-Files and numbers here are written in the forms that MAVLink's, ArduPilot's and QGroundControl's documents show, and by
+What tools/station.py reads, writes and sends is compared with files and numbers in the forms that MAVLink's,
+ArduPilot's and QGroundControl's documents show, with frames by tests/mavlink_described.py, and with what was written by
 hand. No vehicle is needed. The last line counts what passed and what failed.
 """
 import json
 import os
-import re
 import struct
 import sys
 import unittest
@@ -14,8 +14,10 @@ import unittest
 TOP = os.path.join(os.path.dirname(os.path.abspath(__file__)), "..")
 sys.path.insert(0, os.path.join(TOP, "tools"))
 sys.dont_write_bytecode = True
+import counted  # noqa: E402
 import decimals  # noqa: E402
 import mavlink  # noqa: E402
+import mavlink_described as described  # noqa: E402
 import mission_items  # noqa: E402
 import missions  # noqa: E402
 import parameter_files  # noqa: E402
@@ -131,33 +133,6 @@ GUIDE_PLAN = """{
     "version": 1
 }
 """
-# messages as MAVLink's common message set describes them: id, CRC_EXTRA, length in version 1, fields in the order of
-# their bytes, and the extensions
-TARGET = "uint8_t target_system, uint8_t target_component"
-TYPE = "uint8_t mission_type"
-MESSAGES = {
-    "HEARTBEAT": (0, 50, 9, "uint32_t custom_mode, uint8_t type, uint8_t autopilot, uint8_t base_mode, "
-                  "uint8_t system_status, uint8_t mavlink_version", ""),
-    "PARAM_REQUEST_READ": (20, 214, 20, f"int16_t param_index, {TARGET}, char param_id[16]", ""),
-    "PARAM_REQUEST_LIST": (21, 159, 2, TARGET, ""),
-    "PARAM_VALUE": (22, 220, 25, "float param_value, uint16_t param_count, uint16_t param_index, char param_id[16], "
-                    "uint8_t param_type", ""),
-    "PARAM_SET": (23, 168, 23, f"float param_value, {TARGET}, char param_id[16], uint8_t param_type", ""),
-    "MISSION_REQUEST": (40, 230, 4, f"uint16_t seq, {TARGET}", TYPE),
-    "MISSION_REQUEST_LIST": (43, 132, 2, TARGET, TYPE),
-    "MISSION_COUNT": (44, 221, 4, f"uint16_t count, {TARGET}", TYPE),
-    "MISSION_CLEAR_ALL": (45, 232, 2, TARGET, TYPE),
-    "MISSION_ACK": (47, 153, 3, f"{TARGET}, uint8_t type", TYPE),
-    "MISSION_REQUEST_INT": (51, 196, 4, f"uint16_t seq, {TARGET}", TYPE),
-    "MISSION_ITEM_INT": (73, 38, 37, "float param1, float param2, float param3, float param4, int32_t x, int32_t y, "
-                         f"float z, uint16_t seq, uint16_t command, {TARGET}, uint8_t frame, uint8_t current, "
-                         "uint8_t autocontinue", TYPE),
-    "COMMAND_LONG": (76, 152, 33, "float param1, float param2, float param3, float param4, float param5, "
-                     f"float param6, float param7, uint16_t command, {TARGET}, uint8_t confirmation", ""),
-    "COMMAND_ACK": (77, 143, 3, "uint16_t command, uint8_t result",
-                    f"uint8_t progress, int32_t result_param2, {TARGET}"),
-}
-WIDTHS = {"float": 4, "uint32_t": 4, "int32_t": 4, "uint16_t": 2, "int16_t": 2, "uint8_t": 1, "char": 1}
 # MAV_MISSION_RESULT of an item, and the word that the text has for it
 RESULT_WORDS = {
     1: "error", 2: "frame", 3: "command", 4: "space", 5: "make no fence", 6: "parameter 1", 7: "parameter 2",
@@ -171,34 +146,39 @@ def pattern(value):
     return f"{struct.unpack('<I', struct.pack('<f', value))[0]:08X}"
 
 
-def fields_in(described):
-    """Type, name and array length of each described field."""
-    return [(kind, name, int(size or 0)) for kind, name, size in re.findall(r"(\w+) (\w+)(?:\[(\d+)\])?", described)]
-
-
-def length_of(described):
-    return sum(WIDTHS[kind] * (size or 1) for kind, _, size in fields_in(described))
-
-
-def extra_of(name, described):
-    """CRC_EXTRA of a message, by MAVLink's rule over its description."""
-    text = (name + " ").encode()
-    for kind, field, size in fields_in(described):
-        text += f"{kind} {field} ".encode() + (bytes([size]) if size else b"")
-    found = mavlink.crc(text)
-    return found & 0xFF ^ found >> 8
-
-
 class Frames(unittest.TestCase):
     def test_messages_are_those_of_the_common_message_set(self):
-        self.assertEqual({layout.name for layout in mavlink.LAYOUTS.values()}, set(MESSAGES))
-        for name, (number, extra, length, described, extended) in MESSAGES.items():
-            with self.subTest(name):
-                layout = mavlink.LAYOUTS[number]
-                self.assertEqual((layout.name, layout.extra, layout.length), (name, extra, length))
-                self.assertEqual(layout.names, [field for _, field, _ in fields_in(described + ", " + extended)])
-                self.assertEqual(struct.calcsize(layout.whole_form), length_of(described) + length_of(extended))
-                self.assertEqual((length_of(described), extra_of(name, described)), (length, extra))
+        self.assertEqual({layout.name for layout in mavlink.LAYOUTS.values()},
+                         set(described.MESSAGES) - described.NOT_SPOKEN)
+        for number, layout in mavlink.LAYOUTS.items():
+            with self.subTest(layout.name):
+                message = described.MESSAGES[layout.name]
+                known = [field for field in message.fields if field.name not in described.NOT_KNOWN]
+                self.assertEqual((number, layout.extra), (message.number, message.extra))
+                self.assertEqual(layout.length, message.length(1))
+                self.assertEqual(layout.names, [field.name for field in known])
+                self.assertEqual(struct.calcsize(layout.whole_form), sum(field.length for field in known))
+
+    def test_frames_are_those_of_the_description(self):
+        """Frames that tools/mavlink.py makes are read apart from it, and it reads those that are made apart from it."""
+        for version in (1, 2):
+            for number, layout in mavlink.LAYOUTS.items():
+                with self.subTest(f"{layout.name}, version {version}"):
+                    message = described.MESSAGES[layout.name]
+                    spoken = message.base + (message.extensions if version == 2 else ())
+                    given = {field.name: b"FENCE_RADIUS" if field.type == "char" else 1 + place
+                             for place, field in enumerate(spoken) if field.name not in described.NOT_KNOWN}
+                    made = mavlink.frame_of(number, 77, version, **given)
+                    found = described.read(made)
+                    self.assertEqual((found.version, found.sequence, found.sender, found.name),
+                                     (version, 77, mavlink.STATION, layout.name))
+                    wanted = {name: value.ljust(16, b"\0") if name == "param_id" else value
+                              for name, value in given.items()}
+                    zero = {field.name: 0 for field in message.fields}
+                    self.assertEqual(found.fields, {**zero, **wanted})
+                    self.assertEqual(described.frame(layout.name, version, 77, mavlink.STATION, **given), made)
+                    again = mavlink.fields_of(mavlink.read_frame(made))
+                    self.assertEqual({name: again[name] for name in wanted}, wanted)
 
     def test_an_item_has_its_bytes(self):
         item = Item(16, 3, (5.0, 0.0, 0.0, 0.0), 473977420, 85455970, 30.48)
@@ -474,7 +454,5 @@ class Words(unittest.TestCase):
 
 
 if __name__ == "__main__":
-    result = unittest.main(argv=sys.argv[:1], exit=False).result
-    failed = len(result.failures) + len(result.errors)
-    print(f"{result.testsRun - failed} passed, {failed} failed")
-    sys.exit(1 if failed or not result.testsRun else 0)
+    counted.no_words(__doc__)
+    counted.passes(verbosity=1)

@@ -3,8 +3,11 @@
 
 The program prints its one line on standard output and nothing on standard error; ./zuddrin and ./serve say on standard
 error what the status may mean, from what they can see (tools/statuses.py). Each cause is made here in a folder of its
-own. What needs a right that isn't there is skipped. The last line counts what passed and what failed.
+own. What needs a right that isn't there is skipped. And each script says how it is called, and a word that is no
+command is answered, before anything is built or run. The last line counts what passed and what failed.
 """
+import ast
+import io
 import os
 import re
 import shutil
@@ -18,6 +21,7 @@ import unittest
 TOP = os.path.realpath(os.path.join(os.path.dirname(os.path.abspath(__file__)), ".."))
 sys.path.insert(0, os.path.join(TOP, "tools"))
 sys.dont_write_bytecode = True
+import counted  # noqa: E402
 import image  # noqa: E402
 import mavlink  # noqa: E402
 import program  # noqa: E402
@@ -27,6 +31,9 @@ import statuses  # noqa: E402
 PROGRAM = ""
 NOBODY = 65534
 ATTACH = b"error 13 attach\n"
+SCRIPTS = ["test", "zuddrin"] + [os.path.join(folder, name) for folder in ("tools", "tests", "benchmarks")
+                                 for name in sorted(os.listdir(os.path.join(TOP, folder)))
+                                 if os.access(os.path.join(TOP, folder, name), os.X_OK) and name.endswith(".py")]
 
 
 def told_to_nobody(words, status):
@@ -43,6 +50,74 @@ def told_to_nobody(words, status):
         text = pipe.read().decode()
     os.waitpid(child, 0)
     return text
+
+
+def called(script, *words):
+    """What a script says that finds no other program, so none that proves, builds or runs: status, output, errors."""
+    with tempfile.TemporaryDirectory() as empty:
+        done = subprocess.run([sys.executable, os.path.join(TOP, script), *words], capture_output=True, text=True,
+                              timeout=20, check=False, env={"PATH": empty}, stdin=subprocess.DEVNULL)
+    return done.returncode, done.stdout, done.stderr
+
+
+class Calls(unittest.TestCase):
+    """How scripts are called, for which nothing is built."""
+
+    def test_each_script_says_how_it_is_called(self):
+        self.assertIn(os.path.join("tests", "as_a_user.py"), SCRIPTS)
+        for script in SCRIPTS:
+            with open(os.path.join(TOP, script), encoding="utf-8") as file:
+                first = ast.get_docstring(ast.parse(file.read())).split("\n")[0]
+            for word in ("--help", "-h"):
+                with self.subTest(f"{script} {word}"):
+                    status, said, errors = called(script, word)
+                    self.assertEqual((status, errors), (0, ""))
+                    # argparse breaks lines otherwise
+                    self.assertIn(first.split(": ")[0], " ".join(said.split()))
+
+    def test_words_that_a_script_does_not_have_are_refused(self):
+        for script in ("test", "tools/quotes.py", "tests/refused_memory.py", "tests/station_files.py",
+                       "tests/as_a_user.py", "tests/replayed.py", "tests/statuses_told.py", "tests/causes.py",
+                       "tests/frames_outside.py", "tests/with_pymavlink.py"):
+            with self.subTest(script):
+                status, said, errors = called(script, "one", "two", "three")
+                self.assertEqual((status, said), (64, ""))
+                self.assertIn(os.path.basename(script), errors)
+
+    def test_a_word_that_is_no_command_is_answered_at_once(self):
+        known = "serve, replay, format, dump, report, gen"
+        for words, told in ((["servee", "a.img"], f"there is no command servee: {known}"),
+                            (["Dump", "a.img"], f"there is no command Dump: {known}"),
+                            (["help", "serve"], f"there is no command help: {known}"),
+                            ([], f"no command is named: {known}"),
+                            (["dump"], "dump needs more words: dump IMAGE"),
+                            (["gen"], "gen needs more words: gen N")):
+            with self.subTest(words):
+                self.assertEqual(called("zuddrin", *words), (1, "", f"zuddrin: {told}\n"))
+        self.assertEqual(called("zuddrin", "help"), called("zuddrin", "--help"))
+
+    def test_a_test_counts_once_however_many_of_its_parts_fail(self):
+        class Some(unittest.TestCase):
+            def test_with_parts_that_fail(self):
+                for part in range(3):
+                    with self.subTest(part):
+                        self.assertGreater(part, 7)
+
+            def test_that_passes(self):
+                pass
+
+            def test_that_is_skipped(self):
+                self.skipTest("why not")
+
+            @unittest.expectedFailure
+            def test_that_should_not_pass(self):
+                pass
+
+        runner = unittest.TextTestRunner(stream=io.StringIO(), resultclass=counted.Counts)
+        counts = runner.run(unittest.defaultTestLoader.loadTestsFromTestCase(Some)).counts()
+        self.assertEqual(counts, (1, 2, 1))
+        self.assertEqual(counted.line_of(*counts), "1 passed, 2 failed, 1 skipped")
+        self.assertEqual(counted.line_of(7, 0, 0), "7 passed, 0 failed")
 
 
 class StatusesTold(unittest.TestCase):
@@ -174,10 +249,5 @@ class StatusesTold(unittest.TestCase):
 
 
 if __name__ == "__main__":
-    if len(sys.argv) != 2:
-        sys.exit(__doc__)
-    PROGRAM = os.path.abspath(sys.argv[1])
-    result = unittest.main(argv=sys.argv[:1], exit=False, verbosity=2).result
-    failed = len(result.failures) + len(result.errors)
-    print(f"{result.testsRun - failed} passed, {failed} failed")
-    sys.exit(1 if failed or not result.testsRun else 0)
+    PROGRAM = counted.program_named(__doc__)
+    counted.passes()

@@ -20,7 +20,16 @@ NAME = "vehicle_program"
 FOLDER = os.path.join(TOP, "crates", NAME)
 PROGRAM = os.path.join(FOLDER, "out", NAME)
 STAMP = PROGRAM + ".sources"
-TAKES = "from nothing one to two hours on four processors"
+TAKES = "from nothing about an hour on four processors"
+# each command of the program, and the words that it takes
+COMMANDS = {
+    "serve": "IMAGE [--port P] [--turns N]",
+    "replay": "IMAGE",
+    "format": "IMAGE [--sector S]",
+    "dump": "IMAGE",
+    "report": "IMAGE",
+    "gen": "N",
+}
 # `rt try` wants a limit of time; this one is three years
 NO_LIMIT = "99999999"
 # `report` of a file that is no image ends with this status, which none of rt's own is
@@ -31,6 +40,20 @@ PR_SET_PDEATHSIG = 1
 def say(text):
     """Says something of the wrapper's own."""
     print(f"zuddrin: {text}", file=sys.stderr, flush=True)
+
+
+def usage(words, text):
+    """Where the words ask how a script is called, prints its head and ends well, before anything is done."""
+    asked = words[:words.index("--")] if "--" in words else words
+    if "--help" in asked or "-h" in asked:
+        sys.stdout.write(text.strip() + "\n")
+        sys.exit(0)
+
+
+def refuse(text):
+    """Where the words don't fit, prints the text of a script's head on standard error and ends as sysexits.h says."""
+    sys.stderr.write(text.strip() + "\n")
+    sys.exit(64)
 
 
 def crates():

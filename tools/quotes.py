@@ -16,6 +16,7 @@ import sys
 
 sys.path.insert(0, os.path.dirname(os.path.realpath(__file__)))
 sys.dont_write_bytecode = True
+import program  # noqa: E402
 import sources  # noqa: E402
 
 QUOTE = re.compile(r"<!-- quote (\S+) ([^\n]+?) -->\n(.*?)<!-- end -->", re.S)
@@ -73,9 +74,9 @@ def compare(document, write):
 
 
 def main(words):
+    program.usage(words, __doc__)
     if words not in ([], ["--write"]):
-        print(__doc__, file=sys.stderr)
-        return 64
+        program.refuse(__doc__)
     return 0 if all([compare(document, bool(words)) for document in documents()]) else 1
 
 

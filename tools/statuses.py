@@ -7,8 +7,7 @@ import socket
 import image
 import program
 
-COMMANDS = ("serve IMAGE [--port P] [--turns N], replay IMAGE, format IMAGE [--sector S], "
-            "dump IMAGE, report IMAGE or gen N")
+FORMS = [f"{name} {words}" for name, words in program.COMMANDS.items()]
 LENGTHS = ", ".join(f"{image.image_bytes(size):,}" for size in image.SECTOR_SIZES)
 
 
@@ -106,7 +105,7 @@ def meaning(words, status):
     if status == 13 and name:
         return why_not_attached(words, name)
     return {
-        1: f"these words are no command: {COMMANDS}",
+        1: f"these words are no command: {', '.join(FORMS[:-1])} or {FORMS[-1]}",
         2: "there was no memory",
         3: f"{name} isn't an image that a vehicle left; ./zuddrin report shows what each region holds",
         4: full,
