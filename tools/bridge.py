@@ -147,8 +147,8 @@ def carry(server, stations):
 def main(words):
     """Carries as the words say."""
     parser = argparse.ArgumentParser(
-        description="Carries datagrams between a server of the vehicle, which runs already, and ground stations that "
-                    "listen at a port of this machine.",
+        description="Carries datagrams between a vehicle's server and ground stations that listen at a port of this "
+                    "machine. The server runs already.",
         epilog="./serve IMAGE --station HOST:PORT serves and carries at once. An interrupt ends the bridge.")
     add_stations(parser, required=True)
     parser.add_argument("--port", type=port_number, default=14550, help="UDP port of the server (14550)")
