@@ -1,14 +1,16 @@
 -- What contracts see of a store.
-use Rattle.std.specs.Prelude.{◌≡◌, ◌≤◌, ℕ, ◌+◌, ◌-◌, ◌*◌, List, [], ◌∷◌, length, Bool, true, false}
+use Rattle.std.specs.Prelude.{◌≡◌, ◌≤◌, ℕ, ◌+◌, ◌-◌, ◌*◌, List, [], ◌∷◌, length, Bool, true, false, None}
 use Rattle.std.specs.Prelude.{if◌then◌else◌, nat_lt, IsTrue}
 use Rattle.std.specs.Option.{option_map_or}
-use Rattle.flash_traits.specs.Budget.{budget_of, header_bytes, copy_bytes, line_bytes, chunks}
+use Rattle.flash_traits.specs.Budget.{budget_of, header_bytes, copy_bytes, line_bytes}
 use Rattle.flash_traits.specs.declared.board.Board.{Ghosts}
 use Rattle.storage_lines.specs.declared.lines.LineWrite.{LineWrite}
 use Rattle.storage_lines.specs.declared.lines.TheConstants.{LINES}
 use Rattle.sector_log.specs.declared.log.Log.{Log}
 use Rattle.sector_image.specs.declared.kept.Kept.{Kept}
+use Rattle.sector_log.specs.Bytes.{value_of}
 use Rattle.sector_image.specs.Images.{Bytes}
+use Rattle.sector_image.specs.Room.{left_to_copy}
 use Rattle.sector_image.specs.Fits as fits
 use Rattle.sector_switch.specs.States as states
 use Rattle.sector_image.specs.Fits.{FitsAlone, FitsSpilled}
@@ -149,11 +151,16 @@ Voids armed store writes = (armed ≡ false) × IsTrue (lacks_room store writes)
 abbrev pub raise : Bool → Store → List LineWrite → ℕ
 raise armed store writes = if armed then 0 else (if lacks_room store writes then 2 else 0)
 
+-- the chunks of some bytes that a switch copies to a sector without entries
+abbrev pub left_from_zeros : List ℕ → ℕ
+left_from_zeros whole = left_to_copy whole (value_of []) None
+
 -- The bytes that a switch leaves free at least: those of a sector without its header and an entry
--- of 66 bytes for each chunk of the storage, and of a spilled store without what is written and for
--- each chunk that is left to copy.
+-- of 66 bytes for each chunk that isn't all zeros, and of a spilled store without what is written
+-- and for each chunk that is left to copy.
 abbrev pub switch_leaves_in : StoreState → Bytes → ℕ
-switch_leaves_in (Alone kept) bytes = kept.sector_bytes - (header_bytes + copy_bytes * chunks)
+switch_leaves_in (Alone kept) bytes =
+    kept.sector_bytes - (header_bytes + copy_bytes * left_from_zeros bytes.whole)
 switch_leaves_in (Spilled kept) bytes = kept.sector_bytes - states.taken_of kept bytes
 switch_leaves_in Spent bytes = 0
 

@@ -11,6 +11,7 @@ ghost use Rattle.flash_traits.specs.declared.board.Fault.TheVariants.{Read, Flas
 ghost use Rattle.flash_traits.specs.Losses.{ByResult};
 ghost use Rattle.flash_traits.specs.Calls.{Changes, ErasesNothing};
 ghost use Rattle.flash_traits.specs.Causes.{Rose};
+ghost use Rattle.flash_traits.specs.Counts.{raised_by};
 ghost use Rattle.storage_lines.specs.declared.lines.TheConstants.{STORAGE_BYTES};
 ghost use Rattle.storage_lines.specs.Lines.{after};
 ghost use Rattle.sector_image.specs.FirstBad.{FirstBad};
@@ -207,6 +208,8 @@ impl BlockStore {
         ensures fault { IfErr result (λ e. OnOpenFault e (λ kind. (kind ≡ Read ⊎ kind ≡ Flash)
             × Rose (B.faults board.old kind) (B.faults board.new kind))) }
         ensures counts { (k : Fault) → B.faults board.old k ≤ B.faults board.new k }
+        ensures erases_once { (B.moment board.new).erases
+            ≤ raised_by 1 (B.moment board.old).erases }
     {
         let mut images = Images::new(alloc)?;
         let alone = recover(board, &mut images)?;
@@ -317,6 +320,8 @@ impl BlockStore {
         ensures fault { IfErr result (λ e. OnFault e (λ kind. (kind ≡ Read ⊎ kind ≡ Flash)
             × Rose (B.faults board.old kind) (B.faults board.new kind))) }
         ensures counts { (k : Fault) → B.faults board.old k ≤ B.faults board.new k }
+        ensures erases_once { (B.moment board.new).erases
+            ≤ raised_by 1 (B.moment board.old).erases }
     {
         if armed && self.is_full(2 + 8 * lines.len() as u32) {
             return Err(PutError::NoRoom { room: self.room() });
@@ -362,6 +367,8 @@ impl BlockStore {
         ensures fault { IfErr result (λ e. OnFault e (λ kind. (kind ≡ Read ⊎ kind ≡ Flash)
             × Rose (B.faults board.old kind) (B.faults board.new kind))) }
         ensures counts { (k : Fault) → B.faults board.old k ≤ B.faults board.new k }
+        ensures erases_once { (B.moment board.new).erases
+            ≤ raised_by 1 (B.moment board.old).erases }
     {
         match replace(&mut self.state, State::Spent) {
             State::Alone(alone) => {

@@ -5,10 +5,12 @@ ghost use Rattle.flash_traits.specs.declared.board.Fault.{Fault};
 ghost use Rattle.flash_traits.specs.declared.board.Fault.TheVariants.{Flash};
 ghost use Rattle.flash_traits.specs.Calls.{Changes, ErasesNothing};
 ghost use Rattle.flash_traits.specs.Causes.{HasCause, Rose};
+ghost use Rattle.flash_traits.specs.Counts.{raised_by};
 ghost use Rattle.flash_traits.specs.Budget.{header_bytes, copy_bytes, chunks};
 ghost use Rattle.sector_image.specs.Losses.{KeepsBytes};
 ghost use Rattle.sector_image.specs.Fits.{FitsAlone, FitsSpilled, free_of, left_chunks};
 ghost use Rattle.sector_switch.specs.States.{taken_of, marked_from, spilled_from};
+ghost use Rattle.block_store.specs.Store.{left_from_zeros};
 ghost use Rattle.block_store.specs.Refusals.{OnWorn, IsWornWith};
 ghost use Rattle.block_store.specs.Steps.Calls.{OnlyPrograms, FindsRoom};
 
@@ -26,7 +28,9 @@ pub(crate) fn spill<B: Board>(
     ensures whole { images.new.whole ≡ images.old.whole }
     ensures fits { IfOk result (λ spilled. FitsSpilled B.Board board.new spilled images.new) }
     ensures kept { IfOk result (λ spilled. spilled ≡ spilled_from (marked_from alone)) }
-    ensures left { IfOk result (λ spilled. left_chunks spilled images.new ≤ chunks) }
+    ensures most { IfOk result (λ spilled. left_chunks spilled images.new ≤ chunks) }
+    ensures left { IfOk result (λ spilled. left_chunks spilled images.new
+        ≡ left_from_zeros images.old.whole) }
     ensures changes { Changes B.Board board.old board.new (KeepsBytes 0) (KeepsBytes 0) }
     ensures calls { OnlyPrograms B.Board board.old result board.new }
 {
@@ -54,6 +58,7 @@ pub(crate) fn switch<B: Board>(
     ensures worn_copied { IfErr result (λ e. OnWorn e
         (λ count. IsWornWith B.Board board.new images.new (free_of spilled))) }
     ensures used_up { spilled.guard ≡ GUARD_HALFWORDS → IfOk result (λ _. ⊥) }
+    ensures erases_once { (B.moment board.new).erases ≤ raised_by 1 (B.moment board.old).erases }
     ensures calls { FindsRoom B.Board board.old result board.new }
 {
     let alone = spilled.switch(board, images)?;
@@ -69,8 +74,8 @@ pub(crate) fn turn<B: Board>(
     requires fits { FitsAlone B.Board board.old alone images.old }
     ensures whole { images.new.whole ≡ images.old.whole }
     ensures fits { IfOk result (λ next. FitsAlone B.Board board.new next images.new) }
-    ensures free { IfOk result (λ next. alone.sector_bytes - (header_bytes + copy_bytes * chunks)
-        ≤ free_of next) }
+    ensures free { IfOk result (λ next. alone.sector_bytes
+        - (header_bytes + copy_bytes * left_from_zeros images.old.whole) ≤ free_of next) }
     ensures room { IfOk result (λ next. copy_bytes ≤ free_of next) }
     ensures guard { IfOk result (λ next. next.guard ≡ alone.guard + 2) }
     ensures changes { Changes B.Board board.old board.new (KeepsBytes 2) (KeepsBytes 2) }
@@ -79,6 +84,7 @@ pub(crate) fn turn<B: Board>(
     ensures worn_copied { IfErr result (λ e. OnWorn e
         (λ count. IsWornWith B.Board board.new images.new (free_of alone))) }
     ensures used_up { alone.guard ≡ GUARD_HALFWORDS → IfOk result (λ _. ⊥) }
+    ensures erases_once { (B.moment board.new).erases ≤ raised_by 1 (B.moment board.old).erases }
     ensures calls { FindsRoom B.Board board.old result board.new }
 {
     let spilled = spill(alone, board, images)?;

@@ -7,6 +7,7 @@ ghost use Rattle.flash_traits.specs.declared.board.Fault.TheVariants.{Read, Flas
 ghost use Rattle.flash_traits.specs.Losses.{ByResult};
 ghost use Rattle.flash_traits.specs.Calls.{Changes, ErasesNothing};
 ghost use Rattle.flash_traits.specs.Causes.{HasCause, Rose};
+ghost use Rattle.flash_traits.specs.Counts.{raised_by};
 ghost use Rattle.flash_traits.specs.Values.{put};
 ghost use Rattle.flash_traits.specs.Budget.{header_bytes, copy_bytes};
 ghost use Rattle.sector_log.specs.Appends.{AreWholeLines};
@@ -98,6 +99,7 @@ fn free_home<B: Board>(
         (λ count. IsWornWith B.Board board.new images.new (home_free_in (state_of state)))) }
     ensures used_up { IsTrue (lacks_in (state_of state) size)
         → guard_in (state_of state) ≡ GUARD_HALFWORDS → IfOk result (λ _. ⊥) }
+    ensures erases_once { (B.moment board.new).erases ≤ raised_by 1 (B.moment board.old).erases }
     ensures calls { FindsRoom B.Board board.old result board.new }
 {
     match state {
@@ -229,6 +231,7 @@ pub(crate) fn put_unarmed<B: Board>(
         (λ count. IsWornWith B.Board board.new images.new (home_free_in (state_of state)))) }
     ensures used_up { IsTrue (lacks_in (state_of state) (2 + length bytes.now))
         → guard_in (state_of state) ≡ GUARD_HALFWORDS → IfOk result (λ _. ⊥) }
+    ensures erases_once { (B.moment board.new).erases ≤ raised_by 1 (B.moment board.old).erases }
     ensures calls { FindsRoom B.Board board.old result board.new }
 {
     let home = free_home(state, board, images, 2 + bytes.len() as u32)?;

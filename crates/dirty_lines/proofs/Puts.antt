@@ -1,11 +1,12 @@
 -- What puts of entries do to the words, and what losses inside them leave.
-use Rattle.std.proofs.Common.{◌≡◌, ◌⊎◌, inl, inr, ℕ, ◌+◌, ◌-◌, ◌*◌, ◌<◌, ◌≤◌, List, [], ◌∷◌, ◌++◌, length, Bool, true, false, refl, sym, ◌∙◌, ap, subst, arith, length-append, ltb-true, if◌then◌else◌}
-use Rattle.std.specs.Prelude.{IsTrue, IsFalse, Result, Ok, Err, IsErr, OnErr}
+use Rattle.std.proofs.Common.{◌≡◌, ◌⊎◌, inl, inr, ℕ, ◌+◌, ◌-◌, ◌*◌, ◌<◌, ◌≤◌, List, [], ◌∷◌, ◌++◌, length, Bool, true, false, refl, sym, ◌∙◌, ap, subst, arith, length-append, ltb-true, ltb-false, nat_lt, if◌then◌else◌}
+use Rattle.std.specs.Prelude.{IsTrue, IsFalse, Result, Ok, Err, IsErr, OnOk, OnErr}
 use Rattle.flash_traits.specs.declared.numbers.TheConstants.{GUARD_HALFWORDS}
 use Rattle.flash_traits.specs.Budget.{line_bytes}
 use Rattle.flash_traits.specs.Words.{Words}
 use Rattle.flash_traits.specs.Losses.{Outcome, ByResult}
 use Rattle.flash_traits.specs.Calls.{Changes, ErasesNothing}
+use Rattle.flash_traits.specs.Counts.{raised_by}
 use Rattle.flash_traits.specs.declared.board.Board.{Ghosts}
 use Rattle.flash_traits.specs.declared.board.Fault.{Fault}
 use Rattle.flash_traits.proofs.Moments.{chained_words, first_words, started_words, chained_erases_nothing}
@@ -17,7 +18,7 @@ use Rattle.sector_image.specs.Fits as fits
 use Rattle.sector_image.specs.Images.{Bytes}
 use Rattle.sector_image.proofs.ImageLaws.{one_value}
 use Rattle.sector_image.proofs.Standing.{raises_none, raises_then}
-use Rattle.block_store.specs.Store.{StoreState, Alone, Spilled, Spent, Store, Fits, FitsState, durable_of, guard_of, guard_ahead, free_of, free_in, spare_of, room_of, room_in, home_free, home_free_in, is_alone, is_spilled, is_spent, in_one_sector, in_both_sectors, has_failed, entry_bytes, lacks_in, lacks_room, Voids, raise}
+use Rattle.block_store.specs.Store.{StoreState, Alone, Spilled, Spent, Store, Fits, FitsState, durable_of, guard_of, guard_ahead, free_of, free_in, spare_of, room_of, switch_leaves, room_in, home_free, home_free_in, is_alone, is_spilled, is_spent, in_one_sector, in_both_sectors, has_failed, entry_bytes, lacks_in, lacks_room, Voids, raise}
 use Rattle.block_store.specs.Refusals.{OnWorn, IsWornWith}
 use Rattle.block_store.specs.declared.PutError.{PutError}
 use Rattle.block_store.specs.declared.PutError.TheVariants as put_error
@@ -175,6 +176,17 @@ settled_then : (armed : Bool) (xs ys : List (List LineWrite)) (mid new : Store) 
 settled_then armed xs [] mid new first keeps second is some = keeps is (first is (omega (arith, some, length-append xs [])))
 settled_then armed xs (y ∷ ys) mid new first keeps second is some = second is (omega arith)
 
+pub then_raised : (start mid last m n all : ℕ) → all ≡ m + n → mid ≤ raised_by m start → last ≤ raised_by n mid → last ≤ raised_by all start
+then_raised start mid last m n all is first second = omega (arith, is, first, second)
+
+below_test : (m n : ℕ) (b : Bool) → nat_lt m n ≡ b → (m < n → ⊥) → n ≤ m
+below_test m n true e never = absurd (never (ltb-true m n e))
+below_test m n false e never = ltb-false m n e
+
+-- what isn't below is at least as much
+not_below : (m n : ℕ) → (m < n → ⊥) → n ≤ m
+not_below m n never = below_test m n (nat_lt m n) refl never
+
 module _ {B : Type 0} (g : Ghosts B) (reads : (b : B) (o : Outcome) → g.now b o → g.tells b × (o.words ≡ g.words b)) where
   -- a put that is refused
   pub changes_refused : {a b : B} (store : Store) (pending entry behind : List LineWrite) (most : ℕ) → Fits g a store → pending ≡ entry ++ behind → IsLongest entry behind → most ≤ 2
@@ -222,6 +234,7 @@ module _ {B : Type 0} (g : Ghosts B) (reads : (b : B) (o : Outcome) → g.now b 
     settled = settled_then armed xs ys mid.store new.store first.settled second.alone second.settled;
     changes = changes_then xs ys old.pending mid.pending first.wrote.cut first.changes second.changes;
     erases = λ is. chained_erases_nothing g (first.erases is) (second.erases is);
+    erased = then_raised (g.moment a).erases (g.moment b).erases (g.moment c).erases (length xs) (length ys) (length (xs ++ ys)) (length-append xs ys) first.erased second.erased;
     counts = λ k. omega (arith, first.counts k, second.counts k);
   }
 
@@ -234,6 +247,7 @@ module _ {B : Type 0} (g : Ghosts B) (reads : (b : B) (o : Outcome) → g.now b 
     settled = λ is some. absurd (omega (arith, some));
     changes = started_words g reads a (MayPutFirst lines.pending) (PutsLines 0 []) (λ t. record { bytes = λ b is. is; guard = raises_none 0 (g.words a).guard (g.words a).guard refl });
     erases = λ is. record { erases = refl };
+    erased = omega arith;
     counts = λ k. omega arith;
   }
 
@@ -245,10 +259,12 @@ module _ {B : Type 0} (g : Ghosts B) (reads : (b : B) (o : Outcome) → g.now b 
       → (armed ≡ true → spare_of store ≤ spare_of next + line_bytes * length entry)
       → (IsFalse (lacks_room store entry) → IsTrue (is_alone next)) → (armed ≡ true → IsTrue (lacks_room store entry) → IsTrue (is_spilled next))
       → (Voids armed store entry → guard_of store ≡ GUARD_HALFWORDS → ⊥)
+      → (armed ≡ false → IsTrue (lacks_room store entry) → switch_leaves store ≤ room_of next + entry_bytes entry)
+      → (armed ≡ true → IsTrue (is_spilled store) → room_of store < entry_bytes entry → ⊥)
       → Changes g a b (MayPutLines (raise armed store entry) entry) (PutsLines (raise armed store entry) entry)
-      → (raise armed store entry ≡ 0 → ErasesNothing g a b) → ((k : Fault) → g.faults a k ≤ g.faults b k)
+      → (raise armed store entry ≡ 0 → ErasesNothing g a b) → (g.moment b).erases ≤ raised_by 1 (g.moment a).erases → ((k : Fault) → g.faults a k ≤ g.faults b k)
       → HasPutEntries g armed (entry ∷ []) (lines_of store items) (lines_of next rest) a b
-  one_put {a} {b} armed entry behind items rest store next was whole longest rest_is fits durable alone guard ahead free spare stays spills used_up changes erases counts =
+  one_put {a} {b} armed entry behind items rest store next was whole longest rest_is fits durable alone guard ahead free spare stays spills used_up copied exceeds changes erases erased counts =
       let most : raise armed store entry ≤ 2 = raise_most armed store entry in
       let one : joined (entry ∷ []) ≡ entry = joined_one entry in
       record {
@@ -271,6 +287,8 @@ module _ {B : Type 0} (g : Ghosts B) (reads : (b : B) (o : Outcome) → g.now b 
               alone = alone;
               stays = stays;
               spills = spills;
+              copied = copied;
+              within = λ is spilled. not_below (room_of store) (entry_bytes entry) (λ lt. exceeds is spilled lt);
             },
             refl,
           );
@@ -281,6 +299,7 @@ module _ {B : Type 0} (g : Ghosts B) (reads : (b : B) (o : Outcome) → g.now b 
         settled = λ is some. alone is;
         changes = changes_put store items entry behind (raise armed store entry) was whole longest most changes;
         erases = λ is. erases (ap (λ (b : Bool). raise b store entry) is);
+        erased = erased;
         counts = counts;
       }
 
@@ -298,6 +317,11 @@ module _ {B : Type 0} (g : Ghosts B) (reads : (b : B) (o : Outcome) → g.now b 
     fitted = λ one_put. first_taken armed old mid first.entries (λ none. (first.still none).0) first.fitted taken;
     fewest = fewest_more n first.entries entry first.fewest (omega (arith, first.rest, some));
   }
+
+-- what would hold at Ok
+pub not_ok : {T E : Type 0} (r : Result T E) (P : Type 0) → IsErr r → OnOk r P
+not_ok (Ok v) P err = absurd (cc)
+not_ok (Err e) P err = tt
 
 -- what holds whatever the answer
 pub on_err : {T E : Type 0} (r : Result T E) (P : Type 0) → P → OnErr r P

@@ -10,7 +10,8 @@ use Rattle.sector_image.specs.Losses.{RaisesGuard}
 use Rattle.sector_image.specs.declared.kept.Kept.{Kept}
 use Rattle.sector_switch.specs.States.{FitsCopied}
 use Rattle.sector_image.specs.Fits.{free_of}
-use Rattle.block_store.specs.Store.{Store, entry_bytes, Voids}
+use Rattle.block_store.specs.Store.{Store, entry_bytes, guard_of, home_free, Voids}
+use Rattle.block_store.specs.Refusals.{IsWornWith}
 use Rattle.dirty_lines.specs.Lines.{Lines}
 use Rattle.dirty_lines.specs.Entries.{CutIntoEntries, IsLongest, joined}
 
@@ -65,3 +66,10 @@ abbrev pub IsWornForNext : {B : Type 0} → Ghosts B → B → Lines → Type 0
 IsWornForNext g b lines =
     (kept : Kept) × FitsCopied g b kept lines.store.bytes × (kept.guard ≡ GUARD_HALFWORDS)
     × NextExceeds (free_of kept) lines.pending
+
+-- A sector is to be voided for the next entry of these lines, of this store, and the guard row is
+-- used up. The image is spilled with every chunk copied, and home has the free bytes of the store.
+abbrev pub IsWornAt : {B : Type 0} → Ghosts B → B → Bool → Store → Lines → Type 0
+IsWornAt g b armed store lines =
+    NextVoids armed store lines.pending × (guard_of store ≡ GUARD_HALFWORDS)
+    × IsWornWith g b lines.store.bytes (home_free store)

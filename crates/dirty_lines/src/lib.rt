@@ -8,6 +8,7 @@ ghost use Rattle.flash_traits.specs.declared.board.Fault.TheVariants.{Read, Flas
 ghost use Rattle.flash_traits.specs.Losses.{ByResult};
 ghost use Rattle.flash_traits.specs.Calls.{Changes, ErasesNothing};
 ghost use Rattle.flash_traits.specs.Causes.{Rose};
+ghost use Rattle.flash_traits.specs.Counts.{raised_by};
 ghost use Rattle.storage_lines.specs.declared.lines.LineWrite.{LineWrite};
 ghost use Rattle.storage_lines.specs.declared.lines.TheConstants.{STORAGE_BYTES};
 ghost use Rattle.sector_image.specs.FirstBad.{FirstBad};
@@ -15,12 +16,13 @@ ghost use Rattle.sector_image.specs.Stands.{Stands, IsReadAs, is_alone as reads_
 ghost use Rattle.sector_image.specs.Losses.{KeepsBytes};
 ghost use Rattle.sector_switch.specs.States.{CanServe, HomeAfter};
 ghost use Rattle.block_store.specs.declared.PutError.TheVariants.{NoRoom};
-ghost use Rattle.block_store.specs.Store.{Fits, durable_of, is_alone, is_spilled, is_spent, guard_of, guard_ahead, room_of, home_free, switch_leaves, OnHome};
+ghost use Rattle.block_store.specs.Store.{Store, Fits, durable_of, is_alone, is_spilled, is_spent, guard_of, guard_ahead, room_of, home_free, switch_leaves, OnHome};
 ghost use Rattle.block_store.specs.Refusals.{OnMemory, OnOpenFault, OnOpenForeign, OnOpenWorn, OnFault, OnWorn, OnNoRoom, OnSpending, OpenLeavesAlone, IsWorn, IsWornWith};
 ghost use Rattle.dirty_lines.specs.Lines.{Lines, lines_of, current_of};
 ghost use Rattle.storage_lines.specs.Bytes.{AreInside};
-ghost use Rattle.dirty_lines.specs.Entries.{Wrote, IsFewest, joined};
-ghost use Rattle.dirty_lines.specs.Losses.{PutsFirst, MayPutFirst, MayPutNext, NextExceeds, NextVoids, IsWornForNext};
+ghost use Rattle.dirty_lines.specs.Entries.{Wrote, IsFewest, CutIntoEntries, joined};
+ghost use Rattle.dirty_lines.specs.Wearing.{NoneWears};
+ghost use Rattle.dirty_lines.specs.Losses.{PutsFirst, MayPutFirst, MayPutNext, NextExceeds, NextVoids, IsWornForNext, IsWornAt};
 ghost use Rattle.dirty_lines.specs.Steps.Flushing.{HasPutEntries, IsHeld, Refuses};
 
 mod runs;
@@ -107,6 +109,8 @@ impl DirtyLines {
         ensures fault { IfErr result (λ e. OnOpenFault e (λ kind. (kind ≡ Read ⊎ kind ≡ Flash)
             × Rose (B.faults board.old kind) (B.faults board.new kind))) }
         ensures counts { (k : Fault) → B.faults board.old k ≤ B.faults board.new k }
+        ensures erases_once { (B.moment board.new).erases
+            ≤ raised_by 1 (B.moment board.old).erases }
     {
         let (Ok(pending), Ok(mut current)) = (
             HeapCircularBuffer::with_capacity(alloc, PENDING_LINES),
@@ -179,6 +183,12 @@ impl DirtyLines {
             (ByResult result (PutsFirst 0 self.old.pending self.new.pending)
             (MayPutNext self.old.pending self.new.pending)) }
         ensures erases { armed ≡ true → ErasesNothing B.Board board.old board.new }
+        ensures erased { (entries : List (List LineWrite))
+            × CutIntoEntries entries self.new.pending self.old.pending
+            × OnOk result ((B.moment board.new).erases
+            ≤ raised_by (length entries) (B.moment board.old).erases)
+            × OnErr result ((B.moment board.new).erases
+            ≤ raised_by (length entries + 1) (B.moment board.old).erases) }
 
         // exactly where the store is armed and spilled and the next entry's bytes exceed the room
         ensures no_room { IfErr result (λ e. OnNoRoom e (λ room. (armed ≡ true)
@@ -198,6 +208,10 @@ impl DirtyLines {
         ensures worn_next { IfErr result (λ e. OnWorn e
             (λ count. IsWornForNext B.Board board.new self.new
             ⊎ (IsTrue (is_spilled self.old.store) × (self.new.pending ≡ self.old.pending)))) }
+        ensures worn_due { IfErr result (λ e. OnWorn e (λ count. (entries : List (List LineWrite))
+            × (last : Store) × CutIntoEntries entries self.new.pending self.old.pending
+            × NoneWears armed entries self.old.store last
+            × IsWornAt B.Board board.new armed last self.new)) }
         ensures used_up { NextVoids armed self.old.store self.old.pending
             → guard_of self.old.store ≡ GUARD_HALFWORDS → 0 < n → IfOk result (λ _. ⊥) }
 
@@ -226,6 +240,7 @@ impl DirtyLines {
             (MayPutFirst self.old.pending)
             (MayPutNext self.old.pending self.old.pending)) }
         ensures erases { armed ≡ true → ErasesNothing B.Board board.old board.new }
+        ensures erased { (B.moment board.new).erases ≤ raised_by 1 (B.moment board.old).erases }
         ensures no_room { IfErr result (λ e. OnNoRoom e (λ room. (armed ≡ true)
             × Fits B.Board board.new self.new.store × IsTrue (is_spilled self.new.store)
             × (room ≡ room_of self.new.store) × NextExceeds room self.new.pending)) }
@@ -238,6 +253,8 @@ impl DirtyLines {
         ensures worn_next { IfErr result (λ e. OnWorn e
             (λ count. IsWornForNext B.Board board.new self.new
             ⊎ IsTrue (is_spilled self.old.store))) }
+        ensures worn_due { IfErr result (λ e. OnWorn e
+            (λ count. IsWornAt B.Board board.new armed self.old.store self.new)) }
         ensures spent { IfErr result (λ e. OnSpending e (IsTrue (is_spent self.new.store))) }
         ensures fault { IfErr result (λ e. OnFault e (λ kind. (kind ≡ Read ⊎ kind ≡ Flash)
             × Rose (B.faults board.old kind) (B.faults board.new kind))) }
@@ -280,6 +297,8 @@ impl DirtyLines {
         ensures fault { IfErr result (λ e. OnFault e (λ kind. (kind ≡ Read ⊎ kind ≡ Flash)
             × Rose (B.faults board.old kind) (B.faults board.new kind))) }
         ensures counts { (k : Fault) → B.faults board.old k ≤ B.faults board.new k }
+        ensures erases_once { (B.moment board.new).erases
+            ≤ raised_by 1 (B.moment board.old).erases }
     {
         self.store.compact(board)
     }

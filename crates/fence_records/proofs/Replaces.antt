@@ -11,12 +11,12 @@ use Rattle.storage_lines.specs.declared.lines.TheConstants.{STORAGE_BYTES}
 use Rattle.fence_records.specs.declared.TheConstants.{FENCE_BYTES}
 use Rattle.storage_lines.specs.declared.lines.LineWrite.{LineWrite}
 use Rattle.storage_lines.specs.Lines.{after}
-use Rattle.storage_lines.proofs.ApartLemmas.{each_change}
+use Rattle.storage_lines.proofs.ApartLemmas.{whole_changes, each_change}
 use Rattle.fence_records.specs.declared.items.FenceItem.{FenceItem}
 use Rattle.fence_records.specs.Fence.{Figure, Polygon, Round, ReturnPoint, record_of, items_of, fence_version}
 use Rattle.fence_records.specs.Write.{fence_area, encoded, without_fence, with_fence, fence_writes}
 use Rattle.fence_records.specs.Lists.{fence_of, figures_in, figures_of, figure_writes, replace_writes, clear_fence_writes, is_return_point, FencesAreReplaced, FencesInSteps}
-use Rattle.fence_records.proofs.Steps.{Begins, area_begins, clearing_begins, step_of, step_begins, whole_writes, written_begins}
+use Rattle.fence_records.proofs.Steps.{Begins, area_begins, clearing_begins, cleared_head, length-cleared, step_of, step_begins, whole_writes, written_begins}
 use Rattle.fence_records.proofs.Rereads.{reread, figures_back, no_figure, kept_figures}
 use Rattle.fence_records.proofs.Cutting.{figures_hold}
 
@@ -138,5 +138,8 @@ replaces bytes items ws j size h =
       ]
     ]
 
+cleared : (bytes : List ℕ) → length bytes ≡ STORAGE_BYTES → fence_of (after bytes (clear_fence_writes bytes)) ≡ []
+cleared bytes size = ap fence_of (whole_changes bytes (without_fence bytes) size (length-cleared bytes ∙ size)) ∙ begins_none (without_fence bytes) (cleared_head bytes size)
+
 pub fences_in_steps : FencesInSteps
-fences_in_steps = record { clears = clears; replaces = replaces }
+fences_in_steps = record { cleared = cleared; clears = clears; replaces = replaces }

@@ -153,7 +153,7 @@ clearing_begins border b now size m = elim (cases_lt 492 border) [
       sym (m.back (place_of Fence i) (omega (arith, low)) (omega (arith, inside)))))
 ]
 
-cleared_head : (b : List ℕ) → length b ≡ STORAGE_BYTES → Begins (without_fence b) (fence_version ++ 99 ∷ [])
+pub cleared_head : (b : List ℕ) → length b ≡ STORAGE_BYTES → Begins (without_fence b) (fence_version ++ 99 ∷ [])
 cleared_head b size i less = put_first (fence_version ++ 99 ∷ []) b i size (omega arith) less
 
 behind_head : (new b : List ℕ) → length b ≡ STORAGE_BYTES → length new ≤ FENCE_BYTES → Begins (with_records new b) (fence_version ++ 99 ∷ [])

@@ -169,8 +169,10 @@ FencesAreReplaced = (bytes : List ℕ) (items : List FenceItem) (ws : List LineW
     → replace_writes bytes items ≡ Ok ws → fence_of (after bytes ws) ≡ items
 
 -- After each number of the lines that clear a fence or write one it is the old fence, none, or the
--- new one.
+-- new one; after all that clear it, it is none.
 pub record FencesInSteps : Type 0 where
+  pub cleared : (bytes : List ℕ) → length bytes ≡ STORAGE_BYTES
+      → fence_of (after bytes (clear_fence_writes bytes)) ≡ []
   pub clears : (bytes : List ℕ) (j : ℕ) → length bytes ≡ STORAGE_BYTES
       → (fence_of (after bytes (take j (clear_fence_writes bytes))) ≡ fence_of bytes)
       ⊎ (fence_of (after bytes (take j (clear_fence_writes bytes))) ≡ [])

@@ -52,7 +52,7 @@ impl MemSink {
 }
 
 impl Sink for MemSink {
-    ghost use Rattle.std.specs.Prelude.{◌≡◌, ◌↔◌, ◌≤◌, ◌+◌, ◌++◌, ℕ, true, length, take, IsOk, IsErr, IsTrue, OnErr, MatchResult, Ok, Err};
+    ghost use Rattle.std.specs.Prelude.{◌≡◌, ◌↔◌, ◌≤◌, ◌<◌, ◌+◌, ◌++◌, ℕ, true, length, take, IsOk, IsErr, IsTrue, OnOk, OnErr, MatchResult, Ok, Err};
     ghost use Rattle.flash_traits.specs.Causes.{HasOneCause};
     ghost use Rattle.flash_board.specs.OfMemSink.{failing_calls, next_call, capacity_of};
     ghost use Rattle.flash_board.specs.Numbers.{is_among, CountsFault};
@@ -86,6 +86,11 @@ impl Sink for MemSink {
             ⟦<MemSink as Sink>⟧.tells_written self.new }
         ensures stops { (⟦<MemSink as Sink>⟧.tells_written self.new → ⊥) →
             ⟦<MemSink as Sink>⟧.written self.new ≡ ⟦<MemSink as Sink>⟧.written self.old }
+        ensures tells_on { OnErr result (⟦<MemSink as Sink>⟧.tells_written self.old →
+            ⟦<MemSink as Sink>⟧.tells_written self.new) }
+        ensures ends { OnOk result (capacity_of self.old
+            < length (⟦<MemSink as Sink>⟧.written self.old) + length from.now →
+            ⟦<MemSink as Sink>⟧.tells_written self.new → ⊥) }
         ensures room { capacity_of self.new ≡ capacity_of self.old }
     {
         if fails_now(&self.fails, &mut self.number) {

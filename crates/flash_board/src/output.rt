@@ -1,5 +1,5 @@
 //! The bytes of a sink in memory.
-ghost use Rattle.std.specs.Prelude.{◌≡◌, ◌≤◌, ◌+◌, ◌++◌, true, false, length, vec_capacity};
+ghost use Rattle.std.specs.Prelude.{◌≡◌, ◌≤◌, ◌<◌, ◌+◌, ◌++◌, true, false, length, vec_capacity};
 
 #[derive(Drop)]
 pub(crate) struct Output {
@@ -19,6 +19,8 @@ impl Output {
         ensures goes_on { self.old.told ≡ true →
             length self.old.kept.items + length from.now ≤ self.old.room → self.new.told ≡ true }
         ensures stops { self.new.told ≡ false → self.new.kept.items ≡ self.old.kept.items }
+        ensures ends { self.old.room < length self.old.kept.items + length from.now →
+            self.new.told ≡ false }
         ensures room { self.new.room ≡ self.old.room }
     {
         if self.told && from.len() <= self.room - self.kept.len() {

@@ -47,7 +47,7 @@ impl SureSink {
 }
 
 impl Sink for SureSink {
-    ghost use Rattle.std.specs.Prelude.{◌≡◌, ◌↔◌, ◌≤◌, ◌+◌, ◌++◌, ℕ, true, length, take, IsOk, IsErr, IsTrue, OnErr, MatchResult, Ok, Err};
+    ghost use Rattle.std.specs.Prelude.{◌≡◌, ◌↔◌, ◌≤◌, ◌<◌, ◌+◌, ◌++◌, ℕ, true, length, take, IsOk, IsErr, IsTrue, OnOk, OnErr, MatchResult, Ok, Err};
     ghost use Rattle.flash_traits.specs.Causes.{HasOneCause};
     ghost use Rattle.flash_board.specs.OfSureSink.{capacity_of};
 
@@ -74,6 +74,9 @@ impl Sink for SureSink {
             ⟦<SureSink as Sink>⟧.tells_written self.new }
         ensures stops { (⟦<SureSink as Sink>⟧.tells_written self.new → ⊥) →
             ⟦<SureSink as Sink>⟧.written self.new ≡ ⟦<SureSink as Sink>⟧.written self.old }
+        ensures ends { OnOk result (capacity_of self.old
+            < length (⟦<SureSink as Sink>⟧.written self.old) + length from.now →
+            ⟦<SureSink as Sink>⟧.tells_written self.new → ⊥) }
         ensures room { capacity_of self.new ≡ capacity_of self.old }
     {
         self.output.write(from);

@@ -102,27 +102,6 @@ new_fits rows rule table has =
     let element = fits.element in
     record { key = omega (arith, of.key); element = omega (arith, of.element) }
 
--- the same records, or one more
-adds_none : (rule : Rule) (old now : List ℕ) → take 4 (logical_of Param now) ≡ take 4 (logical_of Param old) → IsLow now → records_in_storage now ≡ records_in_storage old → KeepsOtherAreas old now → AddsOne rule old now
-adds_none rule old now front low same areas = record {
-  front = front;
-  low = low;
-  added = inl same;
-  others = λ row other. ap (λ (rs : List Record). value_in_records rs row) same;
-  areas = areas;
-}
-
-adds_one : (rule : Rule) (value old now : List ℕ) → take 4 (logical_of Param now) ≡ take 4 (logical_of Param old) → IsLow now → HasAdded rule value old now → KeepsOtherAreas old now → AddsOne rule old now
-adds_one rule value old now front low added areas = record {
-  front = front;
-  low = low;
-  added = inr (value, added);
-  others = λ row other.
-      ap (λ (rs : List Record). value_in_records rs row) added
-      ∙ ap (λ (o : Option (List ℕ)). option_map_or (value_from row.kind row.part) o (value_of_number row.kind row.default)) (value_push row.key row.element row.kind (records_in_storage old) (new_record rule value) (other_record rule row value other));
-  areas = areas;
-}
-
 -- the rows of the new record read the old value
 rows_read : (rule : Rule) (value old now : List ℕ) → value_in rule.new_key rule.new_element rule.kind (records_in_storage old) ≡ None → HasAdded rule value old now → HasConverted rule value old now
 rows_read rule value old now absent added = record {
@@ -136,6 +115,29 @@ rows_read rule value old now absent added = record {
       ap (λ (rs : List Record). value_in_records rs row) added
       ∙ ap (λ (o : Option (List ℕ)). option_map_or (value_from row.kind row.part) o (value_of_number row.kind row.default))
       (value_first 4 row.key row.element row.kind (records_in_storage old) [] (new_record rule value) (no_place row.key row.element row.kind (records_in_storage old) none) (own_record rule row value of));
+}
+
+-- the same records, or one more
+adds_none : (rows : List Var) (rule : Rule) (old now : List ℕ) → take 4 (logical_of Param now) ≡ take 4 (logical_of Param old) → IsLow now → records_in_storage now ≡ records_in_storage old → KeepsOtherAreas old now → AddsOne rows rule old now
+adds_none rows rule old now front low same areas = record {
+  front = front;
+  low = low;
+  added = inl same;
+  own = λ row is. inl (ap (λ (rs : List Record). value_in_records rs row) same);
+  others = λ row other. ap (λ (rs : List Record). value_in_records rs row) same;
+  areas = areas;
+}
+
+adds_one : (rows : List Var) (rule : Rule) (value old now : List ℕ) → Converts rows (records_in_storage old) rule value → take 4 (logical_of Param now) ≡ take 4 (logical_of Param old) → IsLow now → HasAdded rule value old now → KeepsOtherAreas old now → AddsOne rows rule old now
+adds_one rows rule value old now c front low added areas = record {
+  front = front;
+  low = low;
+  added = inr (value, c, added);
+  own = λ row is. inr (value, c, (rows_read rule value old now c.absent added).rows row is);
+  others = λ row other.
+      ap (λ (rs : List Record). value_in_records rs row) added
+      ∙ ap (λ (o : Option (List ℕ)). option_map_or (value_from row.kind row.part) o (value_of_number row.kind row.default)) (value_push row.key row.element row.kind (records_in_storage old) (new_record rule value) (other_record rule row value other));
+  areas = areas;
 }
 
 -- a rule that makes a record
@@ -162,8 +164,8 @@ makes_one bytes rows rule value size low table has c =
     let last = end + length (encoding r) in
     record {
       each = λ j h. elim (done.each j h) [
-        | inl same ↦ adds_none rule bytes (after bytes (take j ws)) (front_is (logical_of Param (after bytes (take j ws))) rs end same ∙ sym front) (kept j h) (records_are (logical_of Param (after bytes (take j ws))) rs end same) (areas j h)
-        | inr more ↦ adds_one rule value bytes (after bytes (take j ws)) (front_is (logical_of Param (after bytes (take j ws))) (rs ++ r ∷ []) last more ∙ sym front) (kept j h) (records_are (logical_of Param (after bytes (take j ws))) (rs ++ r ∷ []) last more) (areas j h)
+        | inl same ↦ adds_none rows rule bytes (after bytes (take j ws)) (front_is (logical_of Param (after bytes (take j ws))) rs end same ∙ sym front) (kept j h) (records_are (logical_of Param (after bytes (take j ws))) rs end same) (areas j h)
+        | inr more ↦ adds_one rows rule value bytes (after bytes (take j ws)) c (front_is (logical_of Param (after bytes (take j ws))) (rs ++ r ∷ []) last more ∙ sym front) (kept j h) (records_are (logical_of Param (after bytes (take j ws))) (rs ++ r ∷ []) last more) (areas j h)
       ];
       whole = λ other d.
           let both : Some other ≡ Some value = sym d.old ∙ c.old in
@@ -175,7 +177,7 @@ makes_one bytes rows rule value size low table has c =
 -- and one that makes none
 makes_none : (bytes : List ℕ) (rows : List Var) (rule : Rule) → IsLow bytes → ((value : List ℕ) → Converts rows (records_in_storage bytes) rule value → ⊥) → IsConversion rows rule bytes []
 makes_none bytes rows rule low never = record {
-  each = prefix_nil (AddsOne rule bytes) bytes (adds_none rule bytes bytes refl low refl (λ area apart. refl));
+  each = prefix_nil (AddsOne rows rule bytes) bytes (adds_none rows rule bytes bytes refl low refl (λ area apart. refl));
   whole = λ value c. absurd (never value c);
 }
 

@@ -19,14 +19,19 @@ abbrev pub HasAdded : Rule → List ℕ → List ℕ → List ℕ → Type 0
 HasAdded rule value old now =
     records_in_storage now ≡ records_in_storage old ++ new_record rule value ∷ []
 
--- After a prefix of the rule's writes: the new record is absent or whole, and stands after all old
--- ones. Every row of another record has its old value, and no other area changes. The parameter
--- storage has bytes, and begins as it did.
-pub record AddsOne (rule : Rule) (old now : List ℕ) : Type 0 where
+-- After a prefix of the rule's writes: the new record is absent, or whole with the old record's
+-- value, and stands after all old ones; its rows have their old values or that one. Every row of
+-- another record has its old value, and no other area changes. The parameter storage has bytes, and
+-- begins as it did.
+pub record AddsOne (rows : List Var) (rule : Rule) (old now : List ℕ) : Type 0 where
   pub front : take 4 (logical_of Param now) ≡ take 4 (logical_of Param old)
   pub low : IsBytes (logical_of Param now)
   pub added : (records_in_storage now ≡ records_in_storage old)
-      ⊎ ((value : List ℕ) × HasAdded rule value old now)
+      ⊎ ((value : List ℕ) × Converts rows (records_in_storage old) rule value
+      × HasAdded rule value old now)
+  pub own : (row : Var) → IsTrue (is_new_row rule row) → (params_of now row ≡ params_of old row)
+      ⊎ ((value : List ℕ) × Converts rows (records_in_storage old) rule value
+      × (params_of now row ≡ value_from row.kind row.part value))
   pub others : (row : Var) → ¬ IsTrue (is_new_row rule row) → params_of now row ≡ params_of old row
   pub areas : KeepsOtherAreas old now
 
@@ -40,7 +45,7 @@ pub record HasConverted (rule : Rule) (value old now : List ℕ) : Type 0 where
 -- makes a record.
 pub record IsConversion (rows : List Var) (rule : Rule) (old : List ℕ) (writes : List LineWrite)
     : Type 0 where
-  pub each : (j : ℕ) → j ≤ length writes → AddsOne rule old (after old (take j writes))
+  pub each : (j : ℕ) → j ≤ length writes → AddsOne rows rule old (after old (take j writes))
   pub whole : (value : List ℕ) → Converts rows (records_in_storage old) rule value
       → HasConverted rule value old (after old writes)
 

@@ -39,6 +39,8 @@ impl Images {
     pub fn new(alloc: Global) -> Result<Images, AllocError>
         ensures whole { IfOk result (λ images. All (λ byte. byte ≡ 0) images.whole) }
         ensures upper { IfOk result (λ images. All (λ byte. byte ≡ 0) images.upper) }
+        ensures size { IfOk result (λ images. (length images.whole ≡ storage_bytes)
+            × (length images.upper ≡ storage_bytes)) }
     {
         let whole = zeros(alloc, STORAGE_BYTES)?;
         let upper = zeros(alloc, STORAGE_BYTES)?;
@@ -51,7 +53,8 @@ impl Images {
 
     /// The bytes of the image.
     pub fn whole(&self) -> &[u8]
-        ensures { result.now ≡ self.now.whole }
+        ensures bytes { result.now ≡ self.now.whole }
+        ensures size { length result.now ≡ storage_bytes }
     {
         &self.whole
     }

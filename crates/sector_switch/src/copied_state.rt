@@ -91,6 +91,8 @@ impl Copied {
             × (self.guard ≡ GUARD_HALFWORDS) × (board.new ≡ board.old))) }
         ensures used_up { self.guard ≡ GUARD_HALFWORDS → IfOk result (λ _. ⊥) }
         ensures changes { Changes B.Board board.old board.new (KeepsBytes 2) (KeepsBytes 2) }
+        ensures erases_once { (B.moment board.new).erases
+            ≤ raised_by 1 (B.moment board.old).erases }
         ensures programs { (B.moment board.new).programs ≤ raised_by 4
             (B.moment board.old).programs }
         ensures fault { IfErr result (λ e. OnVoidFault e (λ kind. (kind ≡ Flash)

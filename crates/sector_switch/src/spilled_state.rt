@@ -163,6 +163,8 @@ impl Spilled {
         ensures free { IfOk result
             (λ alone. self.sector_bytes - taken_of self images.old ≤ free_of alone) }
         ensures changes { Changes B.Board board.old board.new (KeepsBytes 2) (KeepsBytes 2) }
+        ensures erases_once { (B.moment board.new).erases
+            ≤ raised_by 1 (B.moment board.old).erases }
         ensures programs { (B.moment board.new).programs
             ≤ raised_by (34 * left_in self images.old + 4) (B.moment board.old).programs }
 

@@ -53,6 +53,8 @@ impl Voided {
             FitsVoided B.Board board.old self images → FitsAlone B.Board board.new alone images) }
         ensures kept { IfOk result (λ alone. alone ≡ alone_from self) }
         ensures changes { Changes B.Board board.old board.new (KeepsBytes 1) (KeepsBytes 1) }
+        ensures erases_once { (B.moment board.new).erases
+            ≤ raised_by 1 (B.moment board.old).erases }
         ensures programs { (B.moment board.new).programs ≤ raised_by 3
             (B.moment board.old).programs }
         ensures cause { HasCause Flash (B.faults board.old) (B.faults board.new) result }

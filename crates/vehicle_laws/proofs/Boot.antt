@@ -46,7 +46,7 @@ use Rattle.vehicle_laws.specs.Laws.{StartsFormatted, BootFormatsInSteps}
 use Rattle.vehicle_laws.proofs.FenceSteps.{same_fence}
 
 -- What each rule keeps holds after each prefix of the lines of several rules.
-rules_prefix : (P : List ℕ → Type 0) (Q : Rule → Type 0) → ((rule : Rule) (old now : List ℕ) → Q rule → P old → AddsOne rule old now → P now)
+rules_prefix : (P : List ℕ → Type 0) (Q : Rule → Type 0) → ((rule : Rule) (old now : List ℕ) → Q rule → P old → AddsOne vehicle_rows rule old now → P now)
     → (rules : List Rule) (b : List ℕ) → All (HasRows vehicle_rows) rules → All Q rules → length b ≡ STORAGE_BYTES → IsBytes (logical_of Param b) → P b
     → EachPrefix P b (boot_steps (map convert_step rules) b)
 rules_prefix P Q keep [] b has q size low p = prefix_nil P b p
@@ -84,7 +84,7 @@ boot_unformatted b j size other =
 
 -- A property of the bytes holds after each prefix of boot's lines, where the rules keep it and the
 -- formatting has it.
-boot_prefix : (P : List ℕ → Type 0) (Q : Rule → Type 0) → ((rule : Rule) (old now : List ℕ) → Q rule → P old → AddsOne rule old now → P now) → All Q vehicle_rules
+boot_prefix : (P : List ℕ → Type 0) (Q : Rule → Type 0) → ((rule : Rule) (old now : List ℕ) → Q rule → P old → AddsOne vehicle_rows rule old now → P now) → All Q vehicle_rules
     → (b : List ℕ) → length b ≡ STORAGE_BYTES → IsBytes (logical_of Param b) → P b → (¬ HasMagic b → EachPrefix P b (writes_of b formatting)) → EachPrefix P b (boot b)
 boot_prefix P Q keep q b size low p formatted =
     let E : List LineWrite → Type 0 = λ ws. EachPrefix P b ws in
@@ -134,7 +134,7 @@ fence_not_param e = cc
 abbrev mission_in : List ℕ → Value → List Command
 mission_in area value = commands_in (cond (bytes_eq (take 4 area) version) (min CAPACITY (count_of value)) 0) area
 
-rule_leaves_mission : (b : List ℕ) (rule : Rule) (old now : List ℕ) → IsNoTotal rule → mission_of old ≡ mission_of b → AddsOne rule old now → mission_of now ≡ mission_of b
+rule_leaves_mission : (b : List ℕ) (rule : Rule) (old now : List ℕ) → IsNoTotal rule → mission_of old ≡ mission_of b → AddsOne vehicle_rows rule old now → mission_of now ≡ mission_of b
 rule_leaves_mission b rule old now apart p adds =
     let area : mission_area now ≡ mission_area old = adds.areas Mission mission_not_param in
     let total : params_of now total_row ≡ params_of old total_row = adds.others total_row (λ is. (let clash : true ≡ false = sym is ∙ apart in cc)) in

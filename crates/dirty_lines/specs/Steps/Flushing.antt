@@ -4,6 +4,7 @@ use Rattle.flash_traits.specs.declared.numbers.TheConstants.{GUARD_HALFWORDS}
 use Rattle.flash_traits.specs.declared.board.Board.{Ghosts}
 use Rattle.flash_traits.specs.declared.board.Fault.{Fault}
 use Rattle.flash_traits.specs.Calls.{Changes, ErasesNothing}
+use Rattle.flash_traits.specs.Counts.{raised_by}
 use Rattle.storage_lines.specs.declared.lines.LineWrite.{LineWrite}
 use Rattle.block_store.specs.Store.{Fits, durable_of, guard_of, room_of, is_alone, is_spilled, is_spent}
 use Rattle.block_store.specs.Losses.{PutsLines}
@@ -23,6 +24,7 @@ pub record HasPutEntries {B : Type 0} (g : Ghosts B) (armed : Bool)
   pub changes : Changes g before now (MayPutFirst old.pending)
       (PutsLines (2 * length entries) (joined entries))
   pub erases : armed ≡ true → ErasesNothing g before now
+  pub erased : (g.moment now).erases ≤ raised_by (length entries) (g.moment before).erases
   pub counts : (k : Fault) → g.faults before k ≤ g.faults now k
 
 -- The first entry is refused: the store is armed and spilled and the entry exceeds the room, or a

@@ -1,12 +1,15 @@
-use Rattle.std.proofs.Common.{◌≡◌, ◌⊎◌, List, length, sym, ap, subst, arith, rules}
+use Rattle.std.proofs.Common.{◌≡◌, ◌⊎◌, ◌+◌, refl, List, length, sym, ap, subst, arith, rules}
 use Rattle.std.specs.Prelude.{IsTrue}
 use Rattle.flash_traits.specs.Calls.{Changes}
 use Rattle.storage_lines.specs.declared.lines.LineWrite.{LineWrite}
-use Rattle.block_store.specs.Store.{is_spilled}
+use Rattle.block_store.specs.Store.{Store, is_spilled}
+use Rattle.block_store.proofs.StoreLaws.{fits_whole}
+use Rattle.dirty_lines.specs.Entries.{CutIntoEntries}
+use Rattle.dirty_lines.specs.Wearing.{NoneWears}
 use Rattle.block_store.specs.Refusals.{OnWorn}
-use Rattle.dirty_lines.specs.Losses.{PutsFirst, MayPutFirst, MayPutNext, IsWornForNext}
+use Rattle.dirty_lines.specs.Losses.{PutsFirst, MayPutFirst, MayPutNext, IsWornForNext, IsWornAt}
 use Rattle.dirty_lines.proofs.Cuts.{few_left, no_entries}
-use Rattle.dirty_lines.proofs.Puts.{changes_first, changes_stop, left_first, left_more, by_refusal, worn_both, worn_stop}
+use Rattle.dirty_lines.proofs.Puts.{changes_first, changes_stop, left_first, left_more, by_refusal, worn_both, worn_stop, then_raised, not_ok, on_err}
 use Rattle.dirty_lines.proofs.DirtyLines.flush.Goals as goal
 
 pub loop-left-init : goal.loop-left-init
@@ -75,3 +78,29 @@ pub returns-after-loop-left-clause-changes : goal.returns-after-loop-left-clause
 returns-after-loop-left-clause-changes g c =
     let i = c.loop-left.invariant in
     changes_first g.B.Board g.met.B.Board.reads i.entries c.args.self.now.pending c.loop-left.self.pending i.put.wrote.cut i.put.changes
+
+pub returns-in_err-put_front-clause-worn_due : goal.returns-in_err-put_front-clause-worn_due
+returns-in_err-put_front-clause-worn_due g c =
+    let i = c.loop-left.invariant in
+    let old = c.args.self.now in
+    let mid = c.loop-left.self in
+    let new = c.put_front.new.self in
+    let e = c.in_err-put_front.field-0.0 in
+    let R : Type 0 = (entries : List (List LineWrite)) × (last : Store) × CutIntoEntries entries new.pending old.pending × NoneWears c.args.armed entries old.store last × IsWornAt g.B.Board c.put_front.new.board c.args.armed last new in
+    let told : OnWorn e (λ _. R) =
+    worn_both e _ _ (λ _. R) c.in_err-put_front.ensures.worn c.in_err-put_front.ensures.worn_due
+    (λ count worn due. (
+      i.entries,
+      mid.store,
+      subst (λ (l : List LineWrite). CutIntoEntries i.entries l old.pending) (sym c.in_err-put_front.ensures.held.pending) i.put.wrote.cut,
+      i.put.wrote.each (fits_whole g.B.Board c.loop-left.board mid.store i.put.fits),
+      due,
+    )) in
+    search rules
+
+pub returns-in_err-put_front-clause-erased : goal.returns-in_err-put_front-clause-erased
+returns-in_err-put_front-clause-erased g c =
+    let i = c.loop-left.invariant in
+    let more = then_raised (g.B.Board.moment c.args.board.now).erases (g.B.Board.moment c.loop-left.board).erases (g.B.Board.moment c.put_front.new.board).erases (length i.entries) 1 (length i.entries + 1) refl i.put.erased c.put_front.ensures.erased in
+    let cut = subst (λ (l : List LineWrite). CutIntoEntries i.entries l c.args.self.now.pending) (sym c.in_err-put_front.ensures.held.pending) i.put.wrote.cut in
+    (i.entries, cut, not_ok c.from_residual.result _ c.from_residual.ensures.0, on_err c.from_residual.result _ more)

@@ -12,7 +12,7 @@ use Rattle.flash_traits.specs.Calls.{Changes}
 use Rattle.dirty_lines.specs.Lines.{Lines, lines_of}
 use Rattle.storage_lines.specs.Bytes.{AreInside}
 use Rattle.dirty_lines.specs.Entries.{IsNext}
-use Rattle.dirty_lines.specs.Losses.{MayPutFirst, MayPutNext, NextExceeds, IsWornForNext}
+use Rattle.dirty_lines.specs.Losses.{MayPutFirst, MayPutNext, NextExceeds, IsWornForNext, IsWornAt}
 use Rattle.dirty_lines.specs.Steps.Flushing.{HasPutEntries, Refuses}
 use Rattle.dirty_lines.proofs.RunLemmas.{entry_of, rest_is, inside_right}
 use Rattle.dirty_lines.proofs.Puts.{worn_both, worn_for_next, one_put, exceeds_this, not_refused, changes_refused, raise_most, on_err}
@@ -70,7 +70,7 @@ returns-clause-put g c =
       omega (arith, count, next.longest.some),
       subst (λ (l : Lines). HasPutEntries g.B.Board c.args.armed (entry ∷ []) l (lines_of c.put.new.self c.truncate_front.new.self.items) c.args.board.now c.put.new.board) c.self.view_is
           (one_put g.B.Board g.met.B.Board.reads c.args.armed entry next.behind items c.truncate_front.new.self.items store c.put.new.self fits next.whole next.longest rest
-          put.fits put.put put.alone put.guard put.ahead put.free put.spare put.stays put.spills (λ voids guard. put.used_up voids guard) put.changes put.erases c.put.ensures.counts),
+          put.fits put.put put.alone put.guard put.ahead put.free put.spare put.stays put.spills (λ voids guard. put.used_up voids guard) put.copied (λ is spilled exceeds. (put.too_large is spilled exceeds).1) put.changes put.erases put.erases_once c.put.ensures.counts),
     )
 
 pub returns-clause-taken : goal.returns-clause-taken
@@ -118,4 +118,17 @@ returns-in_err-put-clause-worn_next g c =
     worn_both e _ _ (λ _. W ⊎ IsTrue (is_spilled c.args.self.now.store)) c.in_err-put.ensures.worn c.in_err-put.ensures.worn_copied
     (λ count worn copied. subst (λ (l : Lines). W ⊎ IsTrue (is_spilled l.store)) c.self.view_is
     (worn_for_next g.B.Board c.put.new.board c.args.armed store new entry next.behind (fits_whole g.B.Board c.args.board.now store fits) worn.2 copied next.whole next.longest)) in
+    search rules
+
+pub returns-in_err-put-clause-worn_due : goal.returns-in_err-put-clause-worn_due
+returns-in_err-put-clause-worn_due g c =
+    let items = c.self.inside.pending.items in
+    let entry = c.as_slice.result.now in
+    let next : IsNext entry items = subst (λ (l : List LineWrite). IsNext l items) (sym c.as_slice.ensures.value) c.longest_run-entry.ensures in
+    let new : Lines = lines_of c.put.new.self items in
+    let e = c.in_err-put.field-0.0 in
+    let told : OnWorn e (λ _. IsWornAt g.B.Board c.put.new.board c.args.armed c.args.self.now.store new) =
+    worn_both e _ _ (λ _. IsWornAt g.B.Board c.put.new.board c.args.armed c.args.self.now.store new) c.in_err-put.ensures.worn c.in_err-put.ensures.worn_copied
+    (λ count worn copied. subst (λ (l : Lines). IsWornAt g.B.Board c.put.new.board c.args.armed l.store new) c.self.view_is
+    (record { entry = entry; behind = next.behind; next = next.whole; longest = next.longest; voids = worn.2 }, worn.1, copied)) in
     search rules

@@ -42,7 +42,7 @@ returns-clause-summary g c =
     let run = counted_at _ size served done.events done.frames _ (done.whole tt fresh_storage stood) in
     let first = subst (λ (n : ℕ). AreFirst n done.events) (sym c.requires.session) (c.tells_session.ensures.events done.events done.frames (done.lists tt)) in
     summary_of c.args.rounds served c.digest.result c.survey.new.images.whole done.events done.frames _ c.session_ends.ensures c.one_of_both.ensures first done.ends (done.counted tt)
-    run (c.in-Ok.ensures.stands tt) (c.digest.ensures ∙ ap sha256 c.whole.ensures)
+    run (c.in-Ok.ensures.stands tt) (c.digest.ensures ∙ ap sha256 c.whole.ensures.bytes)
 
 pub returns-in_err-served-clause-worn : goal.returns-in_err-served-clause-worn
 returns-in_err-served-clause-worn g c =
