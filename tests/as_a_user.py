@@ -38,6 +38,7 @@ from server import ask, hear  # noqa: E402
 from vehicle import Vehicle  # noqa: E402
 
 PROGRAM = ""
+FLASH_FAILED = 5  # the status
 # PARAM_REQUEST_READ of index 0, and the answer of a fresh image, byte for byte
 REQUEST = bytes.fromhex("FE1400FFBE1400000101" + "00" * 16 + "E7F2")
 ANSWER = bytes.fromhex("FE19000101160000F042F0000000464F524D41545F56455253494F4E0000045599")
@@ -341,6 +342,35 @@ class AsAUser(unittest.TestCase):
                 shown = self.values_of(vehicle.station(), mavlink.request_read(-1, name="FENCE_RADIUS"))
                 self.assertEqual((shown["value"], shown["type"]), (radius, "float"))
                 self.ended(vehicle)
+
+    def ended_without_disk(self):
+        """What a server ends with and prints that takes one turn, which sets a value, over a disk that takes nothing.
+
+        None where the turn was an idle one.
+        """
+        refusing = ("strace", "-f", "-o", os.devnull, "-e", "trace=fdatasync", "-e", "inject=fdatasync:error=EIO")
+        with server.served(PROGRAM, self.image, "--turns", "1", before=refusing) as vehicle:
+            station = vehicle.station()
+            station.settimeout(5)
+            station.send(mavlink.set_value("RTL_ALT", 1600.0))
+            try:
+                if mavlink.read_frame(station.recv(2048))["message"] == mavlink.HEARTBEAT:
+                    return None
+            except OSError:
+                return None
+            printed = vehicle.process.communicate(timeout=30)[0]
+            return vehicle.process.returncode, printed
+
+    def test_a_disk_that_refuses_the_last_of_what_was_done_is_told(self):
+        if (why := disk_states.why_not(self.folder)) is not None:
+            self.skipTest(why)
+        with self.served() as vehicle:  # the formatting is stored
+            vehicle.ready()
+            self.ended(vehicle)
+        for _ in range(5):
+            if (ended := self.ended_without_disk()) is not None:
+                break
+        self.assertEqual(ended, (FLASH_FAILED, b"error 8 turns 1\n"))
 
     def test_each_state_of_the_disk_stands_for_bytes_between_two_frames(self):
         why = disk_states.why_not(self.folder)

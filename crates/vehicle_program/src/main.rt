@@ -17,11 +17,8 @@ use std::process::ExitCode;
 use std::rt::Files;
 use std::time::Clock;
 use std::{env, io};
-use storage_cli::{Status, run};
+use storage_cli::{DONE, FLASH_FAILED, NO_MEMORY, Status, TURNS_OVER, WORN, run};
 use streams::{ReaderSource, WriterSink};
-
-/// The status of a program or an erase that failed.
-const FLASH_FAILED: u8 = 5;
 
 /// The words after the program's name, and none where they are no texts.
 fn words_of<R: env::Env + AllocGlobal>(rt: &R) -> Result<Vec<String>, AllocError> {
@@ -32,8 +29,13 @@ fn words_of<R: env::Env + AllocGlobal>(rt: &R) -> Result<Vec<String>, AllocError
     }
 }
 
+/// Whether a status says that all that was flushed is in the image.
+fn says_stored(status: Status) -> bool {
+    status.0 == DONE || status.0 == TURNS_OVER || status.0 == WORN
+}
+
 /// Does what the words ask for. The error is want of memory for the words. Where the disk doesn't
-/// take what was done, the status says so, after the line that was printed.
+/// take the last of what was done, the status says so, after the line that was printed.
 fn answer<R>(rt: &R) -> Result<Status, AllocError>
 where
     R: env::Env + AllocGlobal + Input + Print + Files<File = File> + Net + Clock,
@@ -54,7 +56,7 @@ where
         &mut out,
     );
     match board.close() {
-        Err(_) if status.0 == 0 => Ok(Status(FLASH_FAILED)),
+        Err(_) if says_stored(status) => Ok(Status(FLASH_FAILED)),
         _ => Ok(status),
     }
 }
@@ -62,7 +64,7 @@ where
 fn main(rt: HostRuntime) -> ExitCode {
     match answer(&rt) {
         Ok(status) => ExitCode::from(status.0),
-        Err(AllocError) => ExitCode::from(2),
+        Err(AllocError) => ExitCode::from(NO_MEMORY),
     }
 }
 
