@@ -33,7 +33,7 @@ from decimals import as_float, shortest
 from vehicle import NoAnswer, Vehicle
 
 END = b"END\n"
-SILENCE = 10  # seconds between two heartbeats of `watch`
+BEAT = 1  # seconds between two heartbeats of `watch`, as ground stations have it
 INTERRUPTED = 130
 HOME = """Item 0 of a mission is the home position, as ArduPilot's ground stations have it: the first item of a text file,
 the plannedHomePosition of a .plan. It is sent as item 0, and the vehicle keeps it as it keeps the others. The numbers
@@ -189,13 +189,13 @@ def frame_text(found):
 def watch(vehicle, _):
     """Prints what the vehicle sends until it is interrupted.
 
-    Its own heartbeats keep its place at the vehicle, which sends one at each second in which it hears nothing.
+    It says a heartbeat each second, as ground stations do, and so keeps its place at the vehicle.
     """
     try:
         while True:
             vehicle.send(mavlink.heartbeat)
-            end_of_silence = time.monotonic() + SILENCE
-            while (left := end_of_silence - time.monotonic()) > 0:
+            next_beat = time.monotonic() + BEAT
+            while (left := next_beat - time.monotonic()) > 0:
                 found = vehicle.frame(left)
                 if found is not None:
                     print(frame_text(found), flush=True)
