@@ -31,7 +31,7 @@ import statuses  # noqa: E402
 PROGRAM = ""
 NOBODY = 65534
 ATTACH = b"error 13 attach\n"
-SCRIPTS = ["test", "zuddrin"] + [os.path.join(folder, name) for folder in ("tools", "tests", "benchmarks")
+SCRIPTS = ["serve", "test", "zuddrin"] + [os.path.join(folder, name) for folder in ("tools", "tests", "benchmarks")
                                  for name in sorted(os.listdir(os.path.join(TOP, folder)))
                                  if os.access(os.path.join(TOP, folder, name), os.X_OK) and name.endswith(".py")]
 
