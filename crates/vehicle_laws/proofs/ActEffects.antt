@@ -31,8 +31,8 @@ use Rattle.mission_service.specs.Service.{Told, idled, idle, idle_turns, answere
 use Rattle.mission_service.specs.declared.replies.Content.TheVariants.{Next, Answer}
 use Rattle.vehicle_core.specs.Vehicle.{Vehicle, Asked, Parameters, Missions, Orders, Content, Parameter, Alive, OfMissions, Acknowledged, Told as VehicleTold, is_heard, tells_of_missions, allowed_of}
 use Rattle.vehicle_core.specs.Acts.{Act, Said, Beat, Stream, Did, did, heard_as, nothing, by_parameters, beaten}
-use Rattle.vehicle_node.specs.Frames.{Machine, Delivery, deliveries, counted, counted_all}
-use Rattle.vehicle_node.specs.Runs.{Run, did_in, take_act, act_done}
+use Rattle.vehicle_runs.specs.Frames.{Machine, Delivery, deliveries, counted, counted_all}
+use Rattle.vehicle_runs.specs.Runs.{Run, did_in, take_act, act_done}
 use Rattle.vehicle_laws.specs.Uploads.{uploads_at, says, OpensUpload, OpensNone, command_in, said_in}
 use Rattle.vehicle_laws.specs.Fitting.{SettingFits, AskedFits, ActFits}
 use Rattle.vehicle_laws.proofs.Keeping.{keeps_none, keeps_empties}

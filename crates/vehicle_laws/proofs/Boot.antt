@@ -19,7 +19,7 @@ use Rattle.param_tree.specs.Rows.{vehicle_rows}
 use Rattle.param_tree.proofs.Vehicle.{vehicle_is_table}
 use Rattle.param_records.specs.declared.values.Value.{Value}
 use Rattle.param_records.specs.Records.{Record, magic}
-use Rattle.param_records.specs.Changes.{formatting, total_zero}
+use Rattle.param_records.specs.Changes.{formatting, total_zero, piece}
 use Rattle.param_records.specs.Steps.{HasMagic}
 use Rattle.param_records.specs.Values.{value_in_records, params_of}
 use Rattle.param_records.proofs.FormatLemmas.{formats}
@@ -32,7 +32,6 @@ use Rattle.param_convert.specs.Steps.{AddsOne}
 use Rattle.param_convert.proofs.VehicleRules.{vehicle_rules_have_rows}
 use Rattle.param_convert.proofs.ConvertSteps.{converts_in_steps}
 use Rattle.param_convert.proofs.LowBytes.{HasBytes, written_low, low_pieces}
-use Rattle.param_records.specs.Changes.{piece}
 use Rattle.mission_commands.specs.declared.commands.Command.{Command}
 use Rattle.mission_records.specs.declared.reading.TheConstants.{CAPACITY}
 use Rattle.mission_records.specs.Mission.{version, mission_area, commands_in, total_row, count_of, mission_of}
@@ -40,13 +39,13 @@ use Rattle.mission_records.specs.Steps.{IsTotalInOneLine}
 use Rattle.mission_records.proofs.Puts.{in_one_line}
 use Rattle.mission_records.proofs.Commands.{empty_mission}
 use Rattle.fence_records.specs.Lists.{fence_of}
-use Rattle.vehicle_node.specs.Runs.{convert_step, boot_steps, boot, start}
-use Rattle.vehicle_node.proofs.BootLaws as node
-use Rattle.vehicle_laws.specs.Laws.{StartsFormatted, BootFormatsInSteps}
+use Rattle.vehicle_runs.specs.Runs.{convert_step, boot_steps, boot, start}
+use Rattle.vehicle_runs.proofs.BootLaws as runs
+use Rattle.vehicle_laws.specs.Laws.{StartsFormatted}
 use Rattle.vehicle_laws.proofs.FenceSteps.{same_fence}
 
 -- What each rule keeps holds after each prefix of the lines of several rules.
-rules_prefix : (P : List ℕ → Type 0) (Q : Rule → Type 0) → ((rule : Rule) (old now : List ℕ) → Q rule → P old → AddsOne vehicle_rows rule old now → P now)
+pub rules_prefix : (P : List ℕ → Type 0) (Q : Rule → Type 0) → ((rule : Rule) (old now : List ℕ) → Q rule → P old → AddsOne vehicle_rows rule old now → P now)
     → (rules : List Rule) (b : List ℕ) → All (HasRows vehicle_rows) rules → All Q rules → length b ≡ STORAGE_BYTES → IsBytes (logical_of Param b) → P b
     → EachPrefix P b (boot_steps (map convert_step rules) b)
 rules_prefix P Q keep [] b has q size low p = prefix_nil P b p
@@ -61,30 +60,30 @@ rules_prefix P Q keep (rule ∷ rules) b has q size low p =
     (subst (λ (l : List LineWrite). IsBytes (logical_of Param (after b l))) all last.low) (subst (λ (l : List LineWrite). P (after b l)) all (each (length ws) (omega arith))))
 
 -- boot where the storage has its magic: the rules alone
-boot_rules : (b : List ℕ) → bytes_eq (take 4 (logical_of Param b)) magic ≡ true → boot b ≡ boot_steps (map convert_step vehicle_rules) b
+pub boot_rules : (b : List ℕ) → bytes_eq (take 4 (logical_of Param b)) magic ≡ true → boot b ≡ boot_steps (map convert_step vehicle_rules) b
 unfolding boot
 boot_rules b h = ap (λ (ws : List LineWrite). ws ++ boot_steps (map convert_step vehicle_rules) (after b ws)) (ap (λ (t : Bool). cond t [] (writes_of b formatting)) h)
 
-no_magic : (b : List ℕ) → bytes_eq (take 4 (logical_of Param b)) magic ≡ false → ¬ HasMagic b
+pub no_magic : (b : List ℕ) → bytes_eq (take 4 (logical_of Param b)) magic ≡ false → ¬ HasMagic b
 no_magic b h m = let clash : true ≡ false = sym ((bytes_eq-Decides (take 4 (logical_of Param b)) magic).1 m) ∙ h in cc
 
-fresh : (b : List ℕ) → length b ≡ STORAGE_BYTES → ¬ HasMagic b → boot b ≡ writes_of b formatting
-fresh b size other = node.boot_formats.fresh b size other
+pub fresh : (b : List ℕ) → length b ≡ STORAGE_BYTES → ¬ HasMagic b → boot b ≡ writes_of b formatting
+fresh b size other = runs.boot_formats.fresh b size other
 
-boot_formatted : (b : List ℕ) → length b ≡ STORAGE_BYTES → IsBytes (logical_of Param b) → StartsFormatted b
-boot_formatted b size low = record { size = length-after b (boot b) ∙ size; params = node.boot_formats.low b size low; magic = node.boot_formats.magic b size low }
+pub boot_formatted : (b : List ℕ) → length b ≡ STORAGE_BYTES → IsBytes (logical_of Param b) → StartsFormatted b
+boot_formatted b size low = record { size = length-after b (boot b) ∙ size; params = runs.boot_formats.low b size low; magic = runs.boot_formats.magic b size low }
 
-boot_in_one_line : (b : List ℕ) → length b ≡ STORAGE_BYTES → ¬ HasMagic b → IsTotalInOneLine (after b (start b).issued)
+pub boot_in_one_line : (b : List ℕ) → length b ≡ STORAGE_BYTES → ¬ HasMagic b → IsTotalInOneLine (after b (start b).issued)
 boot_in_one_line b size other = subst (λ (ws : List LineWrite). IsTotalInOneLine (after b ws)) (sym (fresh b size other)) (in_one_line b size)
 
-boot_unformatted : (b : List ℕ) (j : ℕ) → length b ≡ STORAGE_BYTES → ¬ HasMagic b → j < length (boot b) → ¬ HasMagic (after b (take j (boot b)))
+pub boot_unformatted : (b : List ℕ) (j : ℕ) → length b ≡ STORAGE_BYTES → ¬ HasMagic b → j < length (boot b) → ¬ HasMagic (after b (take j (boot b)))
 boot_unformatted b j size other =
     let P : List LineWrite → Type 0 = λ ws. j < length ws → ¬ HasMagic (after b (take j ws)) in
     subst P (sym (fresh b size other)) (λ less. (formats b size).unformatted other j less)
 
 -- A property of the bytes holds after each prefix of boot's lines, where the rules keep it and the
 -- formatting has it.
-boot_prefix : (P : List ℕ → Type 0) (Q : Rule → Type 0) → ((rule : Rule) (old now : List ℕ) → Q rule → P old → AddsOne vehicle_rows rule old now → P now) → All Q vehicle_rules
+pub boot_prefix : (P : List ℕ → Type 0) (Q : Rule → Type 0) → ((rule : Rule) (old now : List ℕ) → Q rule → P old → AddsOne vehicle_rows rule old now → P now) → All Q vehicle_rules
     → (b : List ℕ) → length b ≡ STORAGE_BYTES → IsBytes (logical_of Param b) → P b → (¬ HasMagic b → EachPrefix P b (writes_of b formatting)) → EachPrefix P b (boot b)
 boot_prefix P Q keep q b size low p formatted =
     let E : List LineWrite → Type 0 = λ ws. EachPrefix P b ws in
@@ -110,7 +109,7 @@ formatting_bytes b size low =
     let of_bytes : All HasBytes formatting = All-cons HasBytes (piece 8 second) (piece 0 first ∷ []) (written_low second refl) (All-cons HasBytes (piece 0 first) [] (written_low first refl) (All-nil HasBytes)) in
     low_pieces b formatting size (two_fit 8 0 second first (omega arith) (omega arith)) of_bytes low
 
-boot_bytes : (b : List ℕ) → length b ≡ STORAGE_BYTES → IsBytes (logical_of Param b) → EachPrefix (λ now. IsBytes (logical_of Param now)) b (boot b)
+pub boot_bytes : (b : List ℕ) → length b ≡ STORAGE_BYTES → IsBytes (logical_of Param b) → EachPrefix (λ now. IsBytes (logical_of Param now)) b (boot b)
 boot_bytes b size low = boot_prefix (λ now. IsBytes (logical_of Param now)) Any (λ rule old now q p adds. adds.low) any_rules b size low low (λ other. formatting_bytes b size low)
 
 -- no rule makes a record of MIS_TOTAL
@@ -157,13 +156,10 @@ formatting_mission b size other j h =
       | inr whole ↦ ap (λ (l : List LineWrite). mission_of (after b l)) (take_all j ws whole) ∙ none_formatted b size ∙ sym (none_stored b other)
     ]
 
-boot_mission : (b : List ℕ) → length b ≡ STORAGE_BYTES → IsBytes (logical_of Param b) → EachPrefix (λ now. mission_of now ≡ mission_of b) b (boot b)
+pub boot_mission : (b : List ℕ) → length b ≡ STORAGE_BYTES → IsBytes (logical_of Param b) → EachPrefix (λ now. mission_of now ≡ mission_of b) b (boot b)
 boot_mission b size low = boot_prefix (λ now. mission_of now ≡ mission_of b) IsNoTotal (rule_leaves_mission b) no_total b size low refl (λ other. formatting_mission b size other)
 
-boot_fence : (b : List ℕ) → length b ≡ STORAGE_BYTES → IsBytes (logical_of Param b) → EachPrefix (λ now. fence_of now ≡ fence_of b) b (boot b)
+pub boot_fence : (b : List ℕ) → length b ≡ STORAGE_BYTES → IsBytes (logical_of Param b) → EachPrefix (λ now. fence_of now ≡ fence_of b) b (boot b)
 boot_fence b size low =
     boot_prefix (λ now. fence_of now ≡ fence_of b) Any (λ rule old now q p adds. same_fence now old (adds.areas Fence fence_not_param) ∙ p) any_rules b size low refl
     (λ other j h. same_fence (after b (take j (writes_of b formatting))) b ((formats b size).areas j h Fence fence_not_param))
-
-pub boot_formats : BootFormatsInSteps
-boot_formats = record { formatted = boot_formatted; in_one_line = boot_in_one_line; unformatted = boot_unformatted; bytes = boot_bytes; mission = boot_mission; fence = boot_fence }

@@ -22,7 +22,7 @@ use Rattle.param_service.specs.Budget.{exceeds}
 use Rattle.mission_service.specs.Service.{Told, From, Taken as TakenItem, tells, only, is_last, if_allowed, taken, took, told_after, given_to, accepted, denied, invalid_sequence, no_space}
 use Rattle.vehicle_core.specs.Vehicle.{allowed_of}
 use Rattle.vehicle_core.specs.Acts.{Act, did}
-use Rattle.vehicle_node.specs.Runs.{Run, did_in}
+use Rattle.vehicle_runs.specs.Runs.{Run, did_in}
 use Rattle.vehicle_laws.specs.Uploads.{run_over, says, OpensUpload, UploadGoesOn, fence_items_from, fence_item_in}
 use Rattle.mission_service.specs.Asked.{RequestFits, GivenFits}
 use Rattle.vehicle_laws.specs.Fitting.{ActFits, AllFit}

@@ -16,7 +16,7 @@ use Rattle.mission_service.specs.Service.{Told, idled, idle, idle_turns, answere
 use Rattle.mission_service.specs.declared.replies.Content.TheVariants.{Next, Answer}
 use Rattle.vehicle_core.specs.Vehicle.{Vehicle, Asked, Parameters, Missions, Orders, is_heard, tells_of_missions, allowed_of}
 use Rattle.vehicle_core.specs.Acts.{Act, Said, Beat, Stream, Did, did, heard_as, nothing, by_parameters, beaten}
-use Rattle.vehicle_node.specs.Runs.{Run, did_in, act_done, start}
+use Rattle.vehicle_runs.specs.Runs.{Run, did_in, act_done, start}
 use Rattle.vehicle_laws.specs.Uploads.{run_over, uploads_at, says, OpensUpload, OpensNone, UploadGoesOn, fence_items_from, fence_item_in, said_in}
 use Rattle.vehicle_laws.specs.Fitting.{AskedFits, ActFits, AllFit}
 use Rattle.vehicle_laws.proofs.Effects.{cond_none}

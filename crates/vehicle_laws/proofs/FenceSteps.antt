@@ -35,7 +35,7 @@ use Rattle.mission_service.specs.declared.requests.MissionType.TheVariants.{Miss
 use Rattle.mission_service.specs.Uploads.{Upload, Open, Missions}
 use Rattle.mission_service.specs.Service.{clear_writes}
 use Rattle.vehicle_core.specs.Acts.{Act}
-use Rattle.vehicle_node.specs.Runs.{did_in, act_done}
+use Rattle.vehicle_runs.specs.Runs.{did_in, act_done}
 use Rattle.vehicle_laws.specs.Uploads.{run_over}
 use Rattle.vehicle_laws.specs.Laws.{IsFenceOneOf, LawOfFences}
 use Rattle.vehicle_laws.proofs.Keeping.{formatted_then}

@@ -26,7 +26,7 @@ use Rattle.mission_service.specs.declared.requests.MissionType.TheVariants.{Miss
 use Rattle.mission_service.specs.Uploads.{Missions}
 use Rattle.mission_service.specs.Service.{clear_writes}
 use Rattle.vehicle_core.specs.Acts.{Act}
-use Rattle.vehicle_node.specs.Runs.{did_in, start}
+use Rattle.vehicle_runs.specs.Runs.{did_in, start}
 use Rattle.vehicle_laws.specs.Fitting.{AllFit}
 use Rattle.vehicle_laws.specs.Uploads.{run_over}
 use Rattle.vehicle_laws.specs.Rows.{KeepsParams}

@@ -19,7 +19,7 @@ use Rattle.mission_service.specs.declared.requests.MissionType.TheVariants.{Miss
 use Rattle.mission_service.specs.Uploads.{Upload, Open}
 use Rattle.mission_service.specs.Requests.{Request}
 use Rattle.vehicle_core.specs.Acts.{Act}
-use Rattle.vehicle_node.specs.Runs.{Run, did_in, act_done, all_acts}
+use Rattle.vehicle_runs.specs.Runs.{Run, did_in, act_done, all_acts}
 use Rattle.vehicle_laws.specs.Uploads.{OpensNone, UploadGoesOn, given_from, commands_from, command_in, said_in}
 use Rattle.vehicle_laws.specs.Fitting.{ActFits, AllFit}
 use Rattle.vehicle_laws.specs.Laws.{IsPrefixOf}

@@ -19,8 +19,8 @@ use Rattle.param_service.specs.Budget.{exceeds, allowed_writes}
 use Rattle.param_service.specs.Service.{is_total, writes_for, set_writes}
 use Rattle.vehicle_core.specs.Vehicle.{Parameters, allowed_of}
 use Rattle.vehicle_core.specs.Acts.{Act, Said, heard_as, did}
-use Rattle.vehicle_node.specs.Runs.{Run, did_in, act_done, all_acts, start}
-use Rattle.vehicle_node.proofs.RunLaws.{extends_all, all_acts-append}
+use Rattle.vehicle_runs.specs.Runs.{Run, did_in, act_done, all_acts, start}
+use Rattle.vehicle_runs.proofs.RunLaws.{extends_all, all_acts-append}
 use Rattle.vehicle_laws.specs.Fitting.{ActFits, AllFit}
 use Rattle.vehicle_laws.specs.Uploads.{run_over}
 use Rattle.vehicle_laws.specs.Rows.{row_of_act, AllLeave, SetsOnly, SetsRowTo}

@@ -7,6 +7,7 @@ pub mod Held
 pub mod Status
 pub mod Ends
 pub mod Boot
+pub mod BootRows
 pub mod Reading
 pub mod FenceEffects
 pub mod FenceStatus

@@ -5,8 +5,8 @@ use Rattle.std.proofs.lemmas.Bool.{cases_lt}
 use Rattle.storage_lines.specs.declared.lines.LineWrite.{LineWrite}
 use Rattle.storage_lines.proofs.PrefixLemmas.{take_over}
 use Rattle.vehicle_core.specs.Acts.{Act}
-use Rattle.vehicle_node.specs.Runs.{Run, did_in, act_done, start}
-use Rattle.vehicle_node.proofs.RunLaws.{extends_all, all_acts-append}
+use Rattle.vehicle_runs.specs.Runs.{Run, did_in, act_done, start}
+use Rattle.vehicle_runs.proofs.RunLaws.{extends_all, all_acts-append}
 use Rattle.vehicle_laws.specs.Uploads.{run_over}
 use Rattle.vehicle_laws.specs.Laws.{EndsWithin, LinesByActs}
 use Rattle.vehicle_laws.proofs.Status.{run_snoc}

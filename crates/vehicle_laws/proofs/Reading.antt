@@ -23,8 +23,8 @@ use Rattle.vehicle_core.specs.declared.orders.VehicleCommand.{VehicleCommand}
 use Rattle.vehicle_core.specs.Orders.{vehicle_command_of}
 use Rattle.vehicle_core.specs.Vehicle.{Asked, Parameters, Missions, Asks, one_of, orders_for}
 use Rattle.vehicle_core.specs.Acts.{Act, Beat, Stream}
-use Rattle.vehicle_node.specs.Reading.{sender_in, AreSaid, IsEvent, Reads, no_rests, streams, beats}
-use Rattle.vehicle_node.specs.Frames.{stations}
+use Rattle.vehicle_runs.specs.Reading.{sender_in, AreSaid, IsEvent, Reads, no_rests, streams, beats}
+use Rattle.vehicle_runs.specs.Frames.{stations}
 use Rattle.mav_frames.specs.Cut.{frames_in}
 use Rattle.vehicle_laws.specs.Fitting.{SettingFits, ClearsOneOrAll, AskedFits, AllFit}
 use Rattle.vehicle_laws.specs.Laws.{acts_of, ReadActsFit}
@@ -132,7 +132,7 @@ beats_fit [] = tt
 beats_fit (s ∷ ss) = (tt, beats_fit ss)
 
 event_fits : AsksWhatFits → (old : List (List ℕ)) (e : Received) (acts : List Act) (new : List (List ℕ)) → IsEvent old e acts new → AllFit acts
-event_fits q old (Datagram station bytes) acts new h = subst AllFit (sym h.acts_are) (fit_append h.said streams (said_fit q station (frames_in h.pieces) h.said h.are_said) (streams_fit stations))
+event_fits q old (Datagram station bytes) acts new h = subst AllFit (sym h.acts_are) (fit_append h.said streams (said_fit q station (frames_in h.heard.pieces) h.said h.heard.are_said) (streams_fit stations))
 event_fits q old Idle acts new h = subst AllFit (sym h.0) (fit_append beats streams (beats_fit stations) (streams_fit stations))
 event_fits q old End acts new h = subst AllFit (sym h.0) tt
 

@@ -1,8 +1,8 @@
 -- A run of events, and the run over all their acts.
 use Rattle.std.proofs.Common.{◌≡◌, ℕ, List, [], ◌∷◌, refl, sym, ◌∙◌, ap}
 use Rattle.vehicle_core.specs.Acts.{Act}
-use Rattle.vehicle_node.specs.Runs.{Run, act_done, all_acts, finish, start, run_from, run_of}
-use Rattle.vehicle_node.proofs.RunLaws.{all_acts-append}
+use Rattle.vehicle_runs.specs.Runs.{Run, act_done, all_acts, finish, start, run_from, run_of}
+use Rattle.vehicle_runs.proofs.RunLaws.{all_acts-append}
 use Rattle.vehicle_laws.specs.Laws.{acts_of, RunsByActs}
 
 abbrev with_floor : Run → ℕ → Run

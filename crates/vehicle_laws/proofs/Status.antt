@@ -9,12 +9,12 @@ use Rattle.mission_service.specs.Uploads.{Upload, Open}
 use Rattle.mission_service.specs.Requests.{Request, Begin}
 use Rattle.vehicle_core.specs.Vehicle.{Asked, Missions}
 use Rattle.vehicle_core.specs.Acts.{Act, Said, Beat, Stream}
-use Rattle.vehicle_node.specs.Runs.{Run, did_in, act_done, all_acts, start}
+use Rattle.vehicle_runs.specs.Runs.{Run, did_in, act_done, all_acts, start}
 use Rattle.vehicle_laws.specs.Uploads.{run_over, says, OpensUpload, OpensNone, UploadGoesOn, given_from, commands_from, command_in}
 use Rattle.vehicle_laws.specs.Fitting.{ActFits, AllFit}
 use Rattle.vehicle_laws.specs.Laws.{LawOfMissions}
 use Rattle.mission_records.proofs.Totals.{all_writes}
-use Rattle.vehicle_node.proofs.RunLaws.{all_acts-append}
+use Rattle.vehicle_runs.proofs.RunLaws.{all_acts-append}
 use Rattle.vehicle_laws.proofs.Keeping.{formatted_then}
 use Rattle.vehicle_laws.proofs.ActEffects.{missions_at, act_effect}
 use Rattle.vehicle_laws.proofs.Held.{Held, Ongoing, Step, IsClosed, given_in, more_from, begun, step_stays, step_put, from_cons, goes_on}

@@ -1,5 +1,5 @@
 -- The laws over runs: of missions, of uploads, of fences, and of what the start leaves.
-use Rattle.std.specs.Prelude.{◌≡◌, ◌⊎◌, ◌≤◌, ◌<◌, ℕ, List, [], ◌∷◌, ◌++◌, length, take, Some, slice_get}
+use Rattle.std.specs.Prelude.{◌≡◌, ◌⊎◌, ◌≤◌, ◌<◌, ℕ, List, [], ◌∷◌, ◌++◌, length, take, Some, IsTrue, slice_get}
 use Rattle.std.specs.List.{flat_map}
 use Rattle.flash_traits.specs.Losses.{Received}
 use Rattle.storage_lines.specs.declared.lines.TheConstants.{STORAGE_BYTES}
@@ -9,8 +9,11 @@ use Rattle.storage_lines.specs.Bytes.{IsBytes}
 use Rattle.storage_lines.specs.Lines.{after, EachPrefix}
 use Rattle.param_tree.specs.declared.Var.{Var}
 use Rattle.param_tree.specs.Rows.{vehicle_rows}
-use Rattle.param_records.specs.Values.{params_of, value_of_number}
-use Rattle.param_records.specs.Steps.{HasMagic}
+use Rattle.param_records.specs.Values.{params_of, value_from, value_of_number}
+use Rattle.param_records.specs.Records.{Record, value_in}
+use Rattle.param_records.specs.Steps.{HasMagic, records_in_storage}
+use Rattle.param_convert.specs.declared.rules.Rule.{Rule}
+use Rattle.param_convert.specs.Rules.{is_new_row, vehicle_rules}
 use Rattle.mission_commands.specs.declared.commands.Command.{Command}
 use Rattle.mission_records.specs.Mission.{mission_of}
 use Rattle.mission_records.specs.Steps.{IsFormatted, IsTotalInOneLine, StaysFormatted}
@@ -21,8 +24,8 @@ use Rattle.mission_service.specs.declared.requests.MissionType.TheVariants.{Miss
 use Rattle.mission_service.specs.Uploads.{Upload}
 use Rattle.vehicle_core.specs.Vehicle.{allowed_of}
 use Rattle.vehicle_core.specs.Acts.{Act}
-use Rattle.vehicle_node.specs.Reading.{Reads, no_rests}
-use Rattle.vehicle_node.specs.Runs.{Run, did_in, act_done, boot, start, run_of}
+use Rattle.vehicle_runs.specs.Reading.{Reads, no_rests}
+use Rattle.vehicle_runs.specs.Runs.{Run, did_in, act_done, boot, start, run_of}
 use Rattle.vehicle_laws.specs.Fitting.{AllFit}
 use Rattle.vehicle_laws.specs.Rows.{SetsOnly, row_of_act, AllLeave, SetsRowTo}
 use Rattle.vehicle_laws.specs.Uploads.{run_over, IsUpload, EndsUpload, commands_from, fence_items_from}
@@ -145,9 +148,39 @@ pub record LawOfLastValues : Type 0 where
       → params_of (current b (run_over budget b (before ++ act ∷ []))) row
       ≡ value_of_number row.kind number
 
+-- A row reads as in the first of these bytes, or as in the second.
+abbrev pub ReadsAsOneOf : List ℕ → List ℕ → Var → List ℕ → Type 0
+ReadsAsOneOf old new row now =
+    (params_of now row ≡ params_of old row) ⊎ (params_of now row ≡ params_of new row)
+
+-- the rule is one of these
+abbrev pub IsOneOf : List Rule → Rule → Type 0
+IsOneOf [] rule = ⊥
+IsOneOf (one ∷ rules) rule = (rule ≡ one) ⊎ IsOneOf rules rule
+
+-- A rule makes a record of the row, and the row reads the value that the rule's old record has in
+-- these bytes.
+pub record IsCarriedOver (old : List ℕ) (row : Var) (now : List ℕ) : Type 0 where
+  pub rule : Rule
+  pub one_of : IsOneOf vehicle_rules rule
+  pub makes : IsTrue (is_new_row rule row)
+  pub value : List ℕ
+  pub stored : value_in rule.key rule.element rule.kind (records_in_storage old) ≡ Some value
+  pub reads : params_of now row ≡ value_from row.kind row.part value
+
+-- Each record that the second bytes have more than the first is absent now, or whole: those that
+-- are there stand behind the old ones, and the others come behind them.
+pub record AddsSomeOf (old new now : List ℕ) : Type 0 where
+  pub more : List Record
+  pub rest : List Record
+  pub added : records_in_storage now ≡ records_in_storage old ++ more
+  pub all : records_in_storage new ≡ records_in_storage now ++ rest
+
 -- Boot leaves formatted bytes, and where it formats them itself, MIS_TOTAL lies in one line; after
 -- fewer of its lines than all the next start then formats them again. None of its lines changes the
--- mission or the fence.
+-- mission or the fence. After each number of its lines every row reads as before, or as after all
+-- of them, which is, in storage that was formatted, the value of the old record that is carried
+-- over; and each new record is absent or whole.
 pub record BootFormatsInSteps : Type 0 where
   pub formatted : (b : List ℕ) → length b ≡ STORAGE_BYTES → IsBytes (logical_of Param b)
       → StartsFormatted b
@@ -161,6 +194,14 @@ pub record BootFormatsInSteps : Type 0 where
       → EachPrefix (λ now. mission_of now ≡ mission_of b) b (boot b)
   pub fence : (b : List ℕ) → length b ≡ STORAGE_BYTES → IsBytes (logical_of Param b)
       → EachPrefix (λ now. fence_of now ≡ fence_of b) b (boot b)
+  pub rows : (b : List ℕ) (row : Var) → length b ≡ STORAGE_BYTES → IsBytes (logical_of Param b)
+      → EachPrefix (ReadsAsOneOf b (after b (boot b)) row) b (boot b)
+  pub values : (b : List ℕ) (row : Var) → length b ≡ STORAGE_BYTES → IsBytes (logical_of Param b)
+      → HasMagic b
+      → EachPrefix (λ now. (params_of now row ≡ params_of b row) ⊎ IsCarriedOver b row now) b
+      (boot b)
+  pub records : (b : List ℕ) → length b ≡ STORAGE_BYTES → IsBytes (logical_of Param b)
+      → EachPrefix (AddsSomeOf b (after b (boot b))) b (boot b)
 
 -- After each number of lines from the start on the bytes are formatted, and MIS_TOTAL lies in one
 -- line if it did at the start.

@@ -13,7 +13,7 @@ use Rattle.mission_service.specs.declared.replies.Content.TheVariants.{Next, Ans
 use Rattle.mission_service.specs.Service.{accepted}
 use Rattle.vehicle_core.specs.Vehicle.{Asked, Parameters, Missions, Orders, tells_of_missions}
 use Rattle.vehicle_core.specs.Acts.{Act, Said, Beat, Stream, heard_as}
-use Rattle.vehicle_node.specs.Runs.{Run, did_in, act_done, all_acts, start}
+use Rattle.vehicle_runs.specs.Runs.{Run, did_in, act_done, all_acts, start}
 use Rattle.vehicle_laws.specs.Fitting.{AllFit}
 
 -- the run over these acts, from the start on

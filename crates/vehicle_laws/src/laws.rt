@@ -53,7 +53,8 @@ pub fn lines_by_acts()
     ensures { LinesByActs }
 {}
 
-/// Boot leaves formatted bytes, and changes neither the mission nor the fence.
+/// Boot leaves formatted bytes, and changes neither the mission nor the fence. After each number of
+/// its lines a row reads as before or as after all of them, and a new record is absent or whole.
 pub fn boot_formats()
     ensures { BootFormatsInSteps }
 {}

@@ -20,11 +20,11 @@ use Rattle.vehicle_core.specs.declared.orders.Need.TheVariants.{Nothing}
 use Rattle.vehicle_core.specs.Vehicle.{Vehicle, is_armed}
 use Rattle.vehicle_core.specs.CoreState.{CoreState}
 use Rattle.vehicle_core.specs.Acts.{Act, Did, did, nothing}
+use Rattle.vehicle_runs.specs.Frames.{Machine, Answer, Delivery, deliveries, counted_all, AreFramesOf}
+use Rattle.vehicle_runs.specs.Guard.{CountsUpTo}
+use Rattle.vehicle_runs.specs.Safe.{Adds}
 use Rattle.vehicle_node.specs.declared.NodeError.{NodeError}
-use Rattle.vehicle_node.specs.Frames.{Machine, Answer, Delivery, deliveries, counted_all, AreFramesOf}
-use Rattle.vehicle_node.specs.Guard.{CountsUpTo}
 use Rattle.vehicle_node.specs.Refusals.{OnWorn}
-use Rattle.vehicle_node.specs.Safe.{Adds}
 use Rattle.vehicle_node.specs.Standing.{Node, Fits, armed_in, ceiling, raised_by}
 use Rattle.vehicle_node.specs.Wearing.{Unworn}
 use Rattle.vehicle_node.specs.Steps.Calls.{HasSent, IsWornAlone, WornAlone}

@@ -21,20 +21,20 @@ use Rattle.vehicle_core.specs.declared.orders.Order.TheVariants.{Flush, Arm, Dis
 use Rattle.vehicle_core.specs.Orders.{need_of}
 use Rattle.vehicle_core.specs.Vehicle.{Vehicle, is_armed}
 use Rattle.vehicle_core.specs.Acts.{Act, Did}
+use Rattle.vehicle_runs.specs.Arming.{order_heard, need_in, NoneFlushes, armed_by, is_armed_after, is_armed_after_all, IsArmedThroughout, IsArmedOnce}
+use Rattle.vehicle_runs.specs.Frames.{Machine, stations}
+use Rattle.vehicle_runs.specs.Guard.{CountsUpTo}
+use Rattle.vehicle_runs.specs.Runs.{Run, act_done, all_acts, did_in}
+use Rattle.vehicle_runs.specs.Safe.{SafeAt, Adds}
+use Rattle.vehicle_runs.proofs.RunLaws.{all_acts_floor, all_acts-append, Extends, extends_more, safe_extends}
+use Rattle.vehicle_runs.proofs.Orders.{did_arms, did_needs, armed-append, once_before, once_after, throughout_before, throughout_after, none_before, none_after}
 use Rattle.vehicle_node.specs.declared.NodeError.{NodeError}
 use Rattle.vehicle_node.specs.declared.TheConstants.{ROOM_FROM}
-use Rattle.vehicle_node.specs.Arming.{order_heard, need_in, NoneFlushes, armed_by, is_armed_after, is_armed_after_all, IsArmedThroughout, IsArmedOnce}
-use Rattle.vehicle_node.specs.Frames.{Machine, stations}
-use Rattle.vehicle_node.specs.Guard.{CountsUpTo}
-use Rattle.vehicle_node.specs.Runs.{Run, act_done, all_acts, did_in}
-use Rattle.vehicle_node.specs.Safe.{SafeAt, Adds}
 use Rattle.vehicle_node.specs.Standing.{Node, IsAloneUnlessArmed, StandsAt, armed_in, ceiling, raised_by}
 use Rattle.vehicle_node.specs.Wearing.{Unworn, ActsUnworn}
 use Rattle.vehicle_node.specs.Steps.Calls.{IsWornAlone, WornAlone, IsWornWhere, WornWhere}
 use Rattle.vehicle_node.specs.Steps.Answering.{did_at, deliveries_at, node_after, armed_over, Answering, AnsweredAs, ActDone}
 use Rattle.vehicle_node.specs.Steps.Hearing.{StandsBelow, SafeInside, SafeIn, AnsweredAll, ActsAnswered, ActsDone, MayWearIn}
-use Rattle.vehicle_node.proofs.RunLaws.{all_acts_floor, all_acts-append, Extends, extends_more, safe_extends}
-use Rattle.vehicle_node.proofs.Orders.{did_arms, did_needs, armed-append, once_before, once_after, throughout_before, throughout_after, none_before, none_after}
 use Rattle.vehicle_node.proofs.At.{did_is, safe_still, safe_answering, stands_answered}
 use Rattle.vehicle_node.proofs.FramesSent.{raised-more, counted-vehicle}
 use Rattle.vehicle_node.proofs.Wearing.{acts_unworn}

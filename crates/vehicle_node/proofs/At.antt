@@ -10,17 +10,17 @@ use Rattle.block_store.specs.Store.{durable_of}
 use Rattle.dirty_lines.specs.Lines.{current_of}
 use Rattle.vehicle_core.specs.declared.orders.Need.TheVariants.{FlushAll}
 use Rattle.vehicle_core.specs.Acts.{Act, Did, did}
-use Rattle.vehicle_node.specs.Frames.{Machine, Answer, Delivery, AreFramesOf, acknowledged, deliveries, numbered, counted_all}
-use Rattle.vehicle_node.specs.Reading.{IsEvent, no_rests}
-use Rattle.vehicle_node.specs.Runs.{Run, did_in, take_act, act_done, all_acts, finish, run_of, floor_of}
-use Rattle.vehicle_node.specs.Safe.{SafeAt, Safe}
+use Rattle.vehicle_runs.specs.Frames.{Machine, Answer, Delivery, AreFramesOf, acknowledged, deliveries, numbered, counted_all}
+use Rattle.vehicle_runs.specs.Reading.{IsEvent, no_rests}
+use Rattle.vehicle_runs.specs.Runs.{Run, did_in, take_act, act_done, all_acts, finish, run_of, floor_of}
+use Rattle.vehicle_runs.specs.Safe.{SafeAt, Safe}
+use Rattle.vehicle_runs.proofs.RunLaws.{run_of_push, floor_of_le, after-append, answers_in, Extends, extends_finish, safe_extends, safe_lower, safe_by, frames_long, all_answers, all_sent, first_answers, first_sent, frames-append}
+use Rattle.vehicle_runs.proofs.Orders.{did_acknowledges}
+use Rattle.vehicle_runs.proofs.Acknowledging.{acknowledged-append, acknowledged_first, acknowledged_most, none_acknowledged}
+use Rattle.vehicle_runs.proofs.Readings.{reads_push, reads_long}
 use Rattle.vehicle_node.specs.Standing.{Node, StandsAt, StandsForRun, counts, raised_by}
 use Rattle.vehicle_node.specs.Steps.Answering.{did_at, deliveries_at, node_after, armed_over, Answered, Answering, Flushed}
-use Rattle.vehicle_node.proofs.RunLaws.{run_of_push, floor_of_le, after-append, answers_in, Extends, extends_finish, safe_extends, safe_lower, safe_by, frames_long, all_answers, all_sent, first_answers, first_sent, frames-append}
 use Rattle.vehicle_node.proofs.FramesSent.{frames_any, first_any}
-use Rattle.vehicle_node.proofs.Orders.{did_acknowledges}
-use Rattle.vehicle_node.proofs.Acknowledging.{acknowledged-append, acknowledged_first, acknowledged_most, none_acknowledged}
-use Rattle.vehicle_node.proofs.Readings.{reads_push, reads_long}
 
 -- a count that stands still at its end, raised in two steps
 raised_twice : (top n k : ℕ) → min (min n top + k) top ≡ min (n + k) top

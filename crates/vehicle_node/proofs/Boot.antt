@@ -46,21 +46,21 @@ use Rattle.dirty_lines.specs.Entries.{CutIntoEntries}
 use Rattle.dirty_lines.specs.Losses.{IsWornForNext}
 use Rattle.dirty_lines.specs.Wearing.{NoneWears}
 use Rattle.vehicle_core.specs.Vehicle.{is_armed}
+use Rattle.vehicle_runs.specs.Frames.{Machine}
+use Rattle.vehicle_runs.specs.Reading.{no_rests}
+use Rattle.vehicle_runs.specs.Runs.{Run, BootStep, format_step, convert_step, boot_steps, boot, run_of}
+use Rattle.vehicle_runs.specs.Guard.{CountsUpTo, RisesWithin, MayWear, raised_in}
+use Rattle.vehicle_runs.specs.Safe.{Safe, SafeSince, Adds}
+use Rattle.vehicle_runs.proofs.RunLaws.{run_of_none, safe_by}
 use Rattle.vehicle_node.specs.declared.NodeError.{NodeError}
 use Rattle.vehicle_node.specs.declared.NodeError.TheVariants as node_error
 use Rattle.vehicle_node.specs.Refusals.{OnFault, OnForeign, OnWorn, LeavesAlone}
-use Rattle.vehicle_node.specs.Frames.{Machine}
-use Rattle.vehicle_node.specs.Reading.{no_rests}
-use Rattle.vehicle_node.specs.Runs.{Run, BootStep, format_step, convert_step, boot_steps, boot, run_of}
-use Rattle.vehicle_node.specs.Guard.{CountsUpTo, RisesWithin, MayWear}
-use Rattle.vehicle_node.specs.Safe.{Safe, SafeSince, Adds}
-use Rattle.vehicle_node.specs.Standing.{Node, Fits, HasRoomSince, IsAlone, IsAloneUnlessArmed, StandsAt, StandsForRun, StaysWithin, armed_in, counts, ceiling, raised_in}
+use Rattle.vehicle_node.specs.Standing.{Node, Fits, HasRoomSince, IsAlone, IsAloneUnlessArmed, StandsAt, StandsForRun, StaysWithin, armed_in, counts, ceiling}
 use Rattle.vehicle_node.specs.Steps.Calls.{IsWornAlone, WornAlone}
 use Rattle.vehicle_node.specs.Wearing.{PendingVoids, AllUnworn, BootUnworn}
 use Rattle.vehicle_node.specs.Steps.Answering.{OnlyPuts, Flushing, Flushed, FlushedAll, FlushDone}
 use Rattle.vehicle_node.specs.Steps.Errors.{opens_not}
 use Rattle.vehicle_node.specs.Steps.Opening.{IsBooted}
-use Rattle.vehicle_node.proofs.RunLaws.{run_of_none, safe_by}
 use Rattle.vehicle_node.proofs.At.{current_is}
 use Rattle.vehicle_node.proofs.ActAnswers.{counts_more}
 use Rattle.vehicle_node.proofs.Fitting.{puts_index}

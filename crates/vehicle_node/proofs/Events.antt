@@ -10,21 +10,21 @@ use Rattle.sector_image.specs.Stands.{Stands}
 use Rattle.block_store.specs.Store.{durable_of}
 use Rattle.block_store.specs.Store as store
 use Rattle.vehicle_core.specs.Acts.{Act}
+use Rattle.vehicle_runs.specs.Arming.{IsArmedOnce}
+use Rattle.vehicle_runs.specs.Guard.{CountsUpTo, RisesWithin, raised_in}
+use Rattle.vehicle_runs.specs.Reading.{no_rests, streams, beats, IsEvent, Reads, IsHeard}
+use Rattle.vehicle_runs.specs.Runs.{Run, all_acts, run_of}
+use Rattle.vehicle_runs.specs.Safe.{SafeAt, Safe, SafeSince, Adds}
+use Rattle.vehicle_runs.specs.Laws.{FramesAreRead, IsInRange}
+use Rattle.vehicle_runs.proofs.RunLaws.{run_of_push, all_acts_floor, extends_same, extends_then, extends_more, extends_all}
+use Rattle.vehicle_runs.proofs.Orders.{once_before, once_after}
+use Rattle.vehicle_runs.proofs.Readings.{heard_more, heard_datagram, can_hear_more, reads_push, event_any, CanRead}
 use Rattle.vehicle_node.specs.declared.NodeError.{NodeError}
-use Rattle.vehicle_node.specs.Arming.{IsArmedOnce}
-use Rattle.vehicle_node.specs.Guard.{CountsUpTo, RisesWithin}
-use Rattle.vehicle_node.specs.Reading.{no_rests, streams, beats, IsEvent, Reads}
-use Rattle.vehicle_node.specs.Runs.{Run, all_acts, run_of}
-use Rattle.vehicle_node.specs.Safe.{SafeAt, Safe, SafeSince, Adds}
-use Rattle.vehicle_node.specs.Standing.{Node, StandsAt, StandsForRun, armed_in, ceiling, raised_in}
+use Rattle.vehicle_node.specs.Standing.{Node, StandsAt, StandsForRun, armed_in, ceiling}
 use Rattle.vehicle_node.specs.Steps.Calls.{WornWhere}
 use Rattle.vehicle_node.specs.Steps.Answering.{Flushed, Flushing}
-use Rattle.vehicle_node.specs.Steps.Hearing.{StandsBelow, ActsAnswered, IsHeard, SafeHearing, ArmedHearing, WearingHearing, MayWearIn, HeardAll, HearDone, ActsDone, SafeTaking, SafeTaken, ArmedTaking, WearingTaking, TakenAll, TakeDone}
-use Rattle.vehicle_node.specs.Laws.{FramesAreRead, IsInRange}
-use Rattle.vehicle_node.proofs.RunLaws.{run_of_push, all_acts_floor, extends_same, extends_then, extends_more, extends_all}
-use Rattle.vehicle_node.proofs.Orders.{once_before, once_after}
+use Rattle.vehicle_node.specs.Steps.Hearing.{StandsBelow, ActsAnswered, SafeHearing, ArmedHearing, WearingHearing, MayWearIn, HeardAll, HearDone, ActsDone, SafeTaking, SafeTaken, ArmedTaking, WearingTaking, TakenAll, TakeDone}
 use Rattle.vehicle_node.proofs.At.{safe_put, safe_still, stands_finished, safe_between, safe_inside}
-use Rattle.vehicle_node.proofs.Readings.{heard_more, heard_datagram, can_hear_more, reads_push, event_any, CanRead}
 use Rattle.vehicle_node.proofs.Putting.{now_stands, now_within}
 use Rattle.vehicle_node.proofs.ActAnswers.{counts_more}
 use Rattle.vehicle_node.proofs.Passing.{on_ok, cut_call, begun, going_on, lists_kept, lists_then}
@@ -160,7 +160,7 @@ module _ {B : Type 0} (g : Ghosts B) where
 
 rests_long : (events : List Received) (old new : List (List ℕ)) (acts : List (List Act)) → Reads old events acts new → length new ≡ length old
 rests_long [] old new acts a = ap length a.1
-rests_long (Datagram station bytes ∷ es) old new acts a = rests_long es a.1 new a.2 a.4 ∙ ap length a.3.new_is ∙ length-set old station a.3.new_rest
+rests_long (Datagram station bytes ∷ es) old new acts a = rests_long es a.1 new a.2 a.4 ∙ ap length a.3.heard.new_is ∙ length-set old station a.3.heard.new_rest
 rests_long (Idle ∷ es) old new acts a = rests_long es a.1 new a.2 a.4 ∙ ap length a.3.1
 rests_long (End ∷ es) old new acts a = rests_long es a.1 new a.2 a.4 ∙ ap length a.3.1
 

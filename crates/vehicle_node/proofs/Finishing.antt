@@ -13,22 +13,23 @@ use Rattle.block_store.specs.Store as store
 use Rattle.dirty_lines.specs.Entries.{IsFewest}
 use Rattle.dirty_lines.specs.Wearing.{NoneWears}
 use Rattle.vehicle_core.specs.Vehicle.{is_armed}
+use Rattle.vehicle_runs.specs.Frames.{Machine}
+use Rattle.vehicle_runs.specs.Guard.{RisesWithin, raised_in}
+use Rattle.vehicle_runs.specs.Reading.{IsEvent, no_rests}
+use Rattle.vehicle_runs.specs.Runs.{Run, all_acts, run_of}
+use Rattle.vehicle_runs.specs.Safe.{SafeSince, Adds}
+use Rattle.vehicle_runs.specs.Laws.{FramesAreRead, IsInRange}
+use Rattle.vehicle_runs.proofs.RunLaws.{run_of_push}
+use Rattle.vehicle_runs.proofs.Readings.{reads_push}
+use Rattle.vehicle_runs.proofs.Orders.{throughout_last}
 use Rattle.vehicle_node.specs.declared.NodeError.{NodeError}
 use Rattle.vehicle_node.specs.declared.Turn.{Turn}
 use Rattle.vehicle_node.specs.declared.Turn.TheVariants as turn
-use Rattle.vehicle_node.specs.Frames.{Machine}
-use Rattle.vehicle_node.specs.Guard.{RisesWithin, WearsIn}
-use Rattle.vehicle_node.specs.Reading.{IsEvent, no_rests}
-use Rattle.vehicle_node.specs.Runs.{Run, all_acts, run_of}
-use Rattle.vehicle_node.specs.Safe.{SafeSince, Adds}
-use Rattle.vehicle_node.specs.Standing.{Node, IsAloneUnlessArmed, StandsForRun, StaysWithin, Finished, WasArmed, armed_in, ceiling, raised_in}
+use Rattle.vehicle_node.specs.Guard.{WearsIn}
+use Rattle.vehicle_node.specs.Standing.{Node, IsAloneUnlessArmed, StandsForRun, StaysWithin, Finished, WasArmed, armed_in, ceiling}
 use Rattle.vehicle_node.specs.Steps.Calls.{MaySend, IsWornAlone, WornAlone, IsWornWhere, WornWhere}
 use Rattle.vehicle_node.specs.Steps.Answering.{Flushing, FlushedAll, FlushDone}
 use Rattle.vehicle_node.specs.Steps.Hearing.{StandsBelow, SafeTaken, ArmedTaking, WearingTaking, TakenAll, TakeDone}
-use Rattle.vehicle_node.specs.Laws.{FramesAreRead, IsInRange}
-use Rattle.vehicle_node.proofs.RunLaws.{run_of_push}
-use Rattle.vehicle_node.proofs.Readings.{reads_push}
-use Rattle.vehicle_node.proofs.Orders.{throughout_last}
 use Rattle.vehicle_node.proofs.Putting.{now_stands, now_within}
 use Rattle.vehicle_node.proofs.ActAnswers.{counts_more}
 use Rattle.vehicle_node.proofs.Passing.{worn_more, adds_none, going_on, ending, adds_both}

@@ -21,7 +21,7 @@ use Rattle.vehicle_core.specs.Vehicle.{Vehicle, is_armed}
 use Rattle.vehicle_core.specs.CoreState.{CoreState}
 use Rattle.vehicle_core.specs.Acts.{Act, SinceArming}
 use Rattle.vehicle_core.proofs.Arming.{did_counts}
-use Rattle.vehicle_node.specs.Frames.{Machine, Delivery}
+use Rattle.vehicle_runs.specs.Frames.{Machine, Delivery}
 use Rattle.vehicle_node.specs.Standing.{Node, HasRoomSince, Fits, IsAlone, IsIndexed, armed_in}
 use Rattle.vehicle_node.specs.Steps.Inside.{view_of}
 use Rattle.vehicle_node.specs.Steps.Answering.{did_at, deliveries_at, node_after, armed_over, HasSpareFor, HasRoom, OnlyPuts, Answered, AnsweredAs, AnswerDone, ActDone, FlushedAll, FlushDone}

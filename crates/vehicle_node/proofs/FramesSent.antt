@@ -10,7 +10,7 @@ use Rattle.vehicle_core.specs.Vehicle.{Content, speaks_v2}
 use Rattle.vehicle_core.specs.Replies.{Tells}
 use Rattle.mav_messages.specs.declared.messages.Message.{Message}
 use Rattle.mav_frames.specs.Frames.{IsSent}
-use Rattle.vehicle_node.specs.Frames.{Machine, Answer, Delivery, IsFrameOf, numbered, counted, counted_all, AreFramesOf}
+use Rattle.vehicle_runs.specs.Frames.{Machine, Answer, Delivery, IsFrameOf, numbered, counted, counted_all, AreFramesOf}
 use Rattle.vehicle_node.specs.Standing.{Node, raised_by}
 use Rattle.vehicle_node.specs.Steps.Calls.{MaySend}
 use Rattle.vehicle_node.specs.Steps.Sending.{SendsFrames, SendsPrefix, answers_to, delivery, SentAll, SendDone}

@@ -10,17 +10,17 @@ use Rattle.mav_frames.specs.Cut.{Pushes, Whole}
 use Rattle.mav_frames.specs.Frames.{is_v2, IsReadFrom}
 use Rattle.mav_frames.specs.declared.frames.Frame.{Frame as Read}
 use Rattle.vehicle_core.specs.Acts.{Act, Said, heard_as}
+use Rattle.vehicle_runs.specs.Arming.{IsArmedOnce}
+use Rattle.vehicle_runs.specs.Reading.{AreSaid, IsHeard}
+use Rattle.vehicle_runs.specs.Runs.{Run, all_acts}
+use Rattle.vehicle_runs.proofs.Orders.{once_after}
+use Rattle.vehicle_runs.proofs.Readings.{rest_kept, heard_nothing, heard_more}
 use Rattle.vehicle_node.specs.declared.NodeError.{NodeError}
-use Rattle.vehicle_node.specs.Arming.{IsArmedOnce}
-use Rattle.vehicle_node.specs.Reading.{AreSaid}
-use Rattle.vehicle_node.specs.Runs.{Run, all_acts}
 use Rattle.vehicle_node.specs.Standing.{Node, Fits, armed_in}
 use Rattle.vehicle_node.specs.Steps.Calls.{WornWhere}
 use Rattle.vehicle_node.specs.Steps.Answering.{FrameDone, ActDone}
-use Rattle.vehicle_node.specs.Steps.Hearing.{Pushed, KeepsButRests, HasRest, IsFront, StandsBelow, SafeIn, AnsweredAll, ActsAnswered, ActsDone, IsHeard, SafeHearing, SafeHeard, ArmedHearing, WearingHearing, MayWearIn, HeardAll, HearDone}
-use Rattle.vehicle_node.proofs.Orders.{once_after}
+use Rattle.vehicle_node.specs.Steps.Hearing.{Pushed, KeepsButRests, HasRest, IsFront, StandsBelow, SafeIn, AnsweredAll, ActsAnswered, ActsDone, SafeHearing, SafeHeard, ArmedHearing, WearingHearing, MayWearIn, HeardAll, HearDone}
 use Rattle.vehicle_node.proofs.At.{stands_same}
-use Rattle.vehicle_node.proofs.Readings.{rest_kept, heard_nothing, heard_more}
 use Rattle.vehicle_node.proofs.Putting.{now_stands, now_within}
 use Rattle.vehicle_node.proofs.Passing.{on_ok, cut_call, begun, going_on, lists_kept, lists_then}
 use Rattle.vehicle_node.proofs.ActsDone.{worn_later, wears_after, inside_still, inside_after, answered_none, answered_then, acts_none, acts_one, below_then}

@@ -1,11 +1,11 @@
 -- What every call keeps, over calls one after another.
-use Rattle.std.proofs.Common.{◌≡◌, ◌≤◌, ◌⊎◌, inl, inr, Bool, false, ℕ, List, refl, sym, ◌∙◌, subst, arith, Result, Ok, Err}
+use Rattle.std.proofs.Common.{◌≡◌, ◌≤◌, ◌⊎◌, inl, inr, Bool, false, ℕ, List, refl, sym, ◌∙◌, ap, subst, arith, Result, Ok, Err}
 use Rattle.std.specs.Prelude.{⊤, IsTrue}
 use Rattle.flash_traits.specs.declared.numbers.TheConstants.{GUARD_HALFWORDS}
 use Rattle.flash_traits.specs.declared.board.Board.{Ghosts}
 use Rattle.flash_traits.specs.declared.board.Fault.{Fault}
 use Rattle.flash_traits.specs.declared.board.Fault.TheVariants.{Read, Flash, Send}
-use Rattle.flash_traits.specs.Causes.{Rose}
+use Rattle.flash_traits.specs.Causes.{counts_after}
 use Rattle.flash_traits.specs.Losses.{KeepsWords}
 use Rattle.guard_row.specs.Row.{IsGuardRow}
 use Rattle.guard_row.proofs.RowLaws.{one_count}
@@ -15,22 +15,21 @@ use Rattle.block_store.specs.Refusals as put
 use Rattle.block_store.specs.declared.PutError.{PutError}
 use Rattle.block_store.specs.declared.PutError.TheVariants as put_error
 use Rattle.dirty_lines.specs.Losses.{IsWornForNext}
-use Rattle.vehicle_node.specs.Guard.{CountsUpTo}
+use Rattle.vehicle_runs.specs.Guard.{CountsUpTo}
 use Rattle.vehicle_node.specs.Standing.{Node, ceiling}
-use Rattle.vehicle_node.specs.Refusals.{OnFault, OnWorn}
+use Rattle.vehicle_node.specs.Refusals.{OnFault, OnWorn, fault_in}
 use Rattle.vehicle_node.specs.Steps.Answering.{IsErrorOf}
 use Rattle.vehicle_node.specs.Steps.Calls.{Keeps, KeepsLines, WornAlone, OfFlash, OfAnswer}
 use Rattle.vehicle_node.specs.declared.NodeError.{NodeError}
 use Rattle.vehicle_node.specs.declared.NodeError.TheVariants as node_error
 use Rattle.vehicle_node.proofs.Putting.{guard_le}
 
--- a fault of these kinds that rose the count, from an earlier count on and of more kinds
-fault_later : (e : NodeError) (P Q : Fault → Type 0) (first before now : Fault → ℕ) → ((k : Fault) → P k → Q k) → ((k : Fault) → first k ≤ before k)
-    → OnFault e (λ k. P k × Rose (before k) (now k)) → OnFault e (λ k. Q k × Rose (first k) (now k))
-fault_later node_error.Memory P Q first before now more later fault = tt
-fault_later (node_error.Fault kind) P Q first before now more later fault = (more kind fault.0, omega (arith, fault.1, later kind))
-fault_later (node_error.Foreign region offset word) P Q first before now more later fault = tt
-fault_later (node_error.Worn count) P Q first before now more later fault = tt
+-- a fault of these kinds is one of more kinds
+fault_wider : (e : NodeError) (P Q : Fault → Type 0) → ((k : Fault) → P k → Q k) → OnFault e P → OnFault e Q
+fault_wider node_error.Memory P Q more fault = tt
+fault_wider (node_error.Fault kind) P Q more fault = more kind fault
+fault_wider (node_error.Foreign region offset word) P Q more fault = tt
+fault_wider (node_error.Worn count) P Q more fault = tt
 
 pub no_wear : (e : NodeError) (P : ℕ → Type 0) → OnWorn e (λ count. ⊥) → OnWorn e P
 no_wear node_error.Memory P none = tt
@@ -67,7 +66,7 @@ module _ {B : Type 0} (g : Ghosts B) where
     never_foreign = tt;
     worn = tt;
     fault = tt;
-    counts = λ k. omega arith;
+    counts = refl;
   }
 
   -- another call after one that kept all
@@ -79,7 +78,7 @@ module _ {B : Type 0} (g : Ghosts B) where
     never_foreign = tt;
     worn = tt;
     fault = tt;
-    counts = λ k. omega (arith, first.counts k, second.counts k);
+    counts = second.counts ∙ first.counts;
   }
   keeps_then kinds more a b (Err e) c wider first second = record {
     geometry = second.geometry ∙ first.geometry;
@@ -87,8 +86,8 @@ module _ {B : Type 0} (g : Ghosts B) where
     never_memory = second.never_memory;
     never_foreign = second.never_foreign;
     worn = second.worn;
-    fault = fault_later e kinds more (g.faults a) (g.faults b) (g.faults c) wider first.counts second.fault;
-    counts = λ k. omega (arith, first.counts k, second.counts k);
+    fault = fault_wider e kinds more wider second.fault;
+    counts = second.counts ∙ ap (counts_after (fault_in e)) first.counts;
   }
 
   -- a first call alone
@@ -105,7 +104,7 @@ module _ {B : Type 0} (g : Ghosts B) where
     never_foreign = tt;
     worn = tt;
     fault = tt;
-    counts = λ k. omega (arith, first.counts k, second.counts k);
+    counts = second.counts ∙ first.counts;
   }
   keeps_sending kinds a b (Err e) old new c wider first second = record {
     geometry = second.words.geometry ∙ first.geometry;
@@ -113,8 +112,8 @@ module _ {B : Type 0} (g : Ghosts B) where
     never_memory = second.never_memory;
     never_foreign = second.never_foreign;
     worn = no_wear e _ second.never_worn;
-    fault = fault_later e (λ kind. kind ≡ Send) OfAnswer (g.faults a) (g.faults b) (g.faults c) (λ k is. inr (inr is)) first.counts second.fault;
-    counts = λ k. omega (arith, first.counts k, second.counts k);
+    fault = fault_wider e (λ kind. kind ≡ Send) OfAnswer (λ k is. inr (inr is)) second.fault;
+    counts = second.counts ∙ ap (counts_after (fault_in e)) first.counts;
   }
 
   pub lines_none : (node : Node) (a : B) → KeepsLines g node a (Ok tt) node a
@@ -126,7 +125,7 @@ module _ {B : Type 0} (g : Ghosts B) where
     never_foreign = tt;
     never_worn = tt;
     fault = tt;
-    counts = λ k. omega arith;
+    counts = refl;
   }
 
   pub lines_then : (old : Node) (a : B) (mid : Node) (b : B) (r : Result ⊤ NodeError) (new : Node) (c : B) → KeepsLines g old a (Ok tt) mid b → KeepsLines g mid b r new c → KeepsLines g old a r new c
@@ -138,7 +137,7 @@ module _ {B : Type 0} (g : Ghosts B) where
     never_foreign = tt;
     never_worn = tt;
     fault = tt;
-    counts = λ k. omega (arith, first.counts k, second.counts k);
+    counts = second.counts ∙ first.counts;
   }
   lines_then old a mid b (Err e) new c first second = record {
     lines = second.lines ∙ first.lines;
@@ -147,12 +146,12 @@ module _ {B : Type 0} (g : Ghosts B) where
     never_memory = second.never_memory;
     never_foreign = second.never_foreign;
     never_worn = second.never_worn;
-    fault = fault_later e (λ kind. kind ≡ Send) (λ kind. kind ≡ Send) (g.faults a) (g.faults b) (g.faults c) (λ k is. is) first.counts second.fault;
-    counts = λ k. omega (arith, first.counts k, second.counts k);
+    fault = second.fault;
+    counts = second.counts ∙ ap (counts_after (fault_in e)) first.counts;
   }
 
   -- lines were put
-  pub keeps_put : (a b : B) → g.sector_bytes b ≡ g.sector_bytes a → (g.tells b → g.tells a) → ((k : Fault) → g.faults a k ≤ g.faults b k) → Keeps g OfFlash a (Ok tt) b
+  pub keeps_put : (a b : B) → g.sector_bytes b ≡ g.sector_bytes a → (g.tells b → g.tells a) → g.faults b ≡ g.faults a → Keeps g OfFlash a (Ok tt) b
   keeps_put a b geometry told counts = record {
     geometry = geometry;
     told = told;
@@ -165,8 +164,8 @@ module _ {B : Type 0} (g : Ghosts B) where
 
   -- a flush or a compaction was refused
   pub keeps_refused : (a : B) (e : PutError) (error : NodeError) (b : B) → IsErrorOf e error → g.sector_bytes b ≡ g.sector_bytes a → (g.tells b → g.tells a)
-      → ((k : Fault) → g.faults a k ≤ g.faults b k)
-      → put.OnFault e (λ kind. (kind ≡ Read ⊎ kind ≡ Flash) × Rose (g.faults a kind) (g.faults b kind))
+      → g.faults b ≡ counts_after (put.put_fault_in e) (g.faults a)
+      → put.OnFault e (λ kind. kind ≡ Read ⊎ kind ≡ Flash)
       → put.OnWorn e (λ count. (count ≡ GUARD_HALFWORDS) × (bytes : Bytes) × put.IsWorn g b bytes)
       → Keeps g OfFlash a (Err error) b
   keeps_refused a (put_error.Fault kind) error b is geometry told counts fault worn =
@@ -228,8 +227,8 @@ module _ {B : Type 0} (g : Ghosts B) where
   flush_bytes armed b bytes (put_error.Worn count) worn = (worn.0, bytes, worn.2)
 
   pub keeps_flush_refused : (a : B) (e : PutError) (error : NodeError) (b : B) (armed : Bool) (bytes : Bytes) → IsErrorOf e error → g.sector_bytes b ≡ g.sector_bytes a → (g.tells b → g.tells a)
-      → ((k : Fault) → g.faults a k ≤ g.faults b k)
-      → put.OnFault e (λ kind. (kind ≡ Read ⊎ kind ≡ Flash) × Rose (g.faults a kind) (g.faults b kind))
+      → g.faults b ≡ counts_after (put.put_fault_in e) (g.faults a)
+      → put.OnFault e (λ kind. kind ≡ Read ⊎ kind ≡ Flash)
       → put.OnWorn e (λ count. (count ≡ GUARD_HALFWORDS) × (armed ≡ false) × put.IsWorn g b bytes)
       → Keeps g OfFlash a (Err error) b
   keeps_flush_refused a e error b armed bytes is geometry told counts fault worn =
@@ -243,8 +242,8 @@ module _ {B : Type 0} (g : Ghosts B) where
   compact_bytes old b bytes free (put_error.Worn count) worn copied = (worn.0, bytes, (copied.0, copied.1, copied.2))
 
   pub keeps_compact_refused : (a : B) (e : PutError) (error : NodeError) (b : B) (old : Node) (bytes : Bytes) (free : ℕ) → IsErrorOf e error → g.sector_bytes b ≡ g.sector_bytes a → (g.tells b → g.tells a)
-      → ((k : Fault) → g.faults a k ≤ g.faults b k)
-      → put.OnFault e (λ kind. (kind ≡ Read ⊎ kind ≡ Flash) × Rose (g.faults a kind) (g.faults b kind))
+      → g.faults b ≡ counts_after (put.put_fault_in e) (g.faults a)
+      → put.OnFault e (λ kind. kind ≡ Read ⊎ kind ≡ Flash)
       → put.OnWorn e (λ count. (count ≡ GUARD_HALFWORDS) × (guard_of old.lines.store ≡ GUARD_HALFWORDS) × IsTrue (is_spilled old.lines.store))
       → put.OnWorn e (λ count. put.IsWornWith g b bytes free)
       → Keeps g OfFlash a (Err error) b

@@ -1,9 +1,3 @@
-pub mod LawsBelow
-pub mod RunLaws
-pub mod Orders
-pub mod Acknowledging
-pub mod Floors
-pub mod Readings
 pub mod At
 pub mod Passing
 pub mod Wearing
@@ -14,11 +8,9 @@ pub mod Heard
 pub mod Events
 pub mod Finishing
 pub mod Boot
-pub mod BootLaws
 pub mod Putting
 pub mod FramesSent
 pub mod RepliesSent
 pub mod ActAnswers
 pub mod Fitting
 pub mod StationsTold
-pub mod Senders

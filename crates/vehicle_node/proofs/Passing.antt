@@ -6,7 +6,7 @@ use Rattle.flash_traits.specs.declared.board.Board.{Ghosts}
 use Rattle.flash_traits.specs.Calls.{Passes}
 use Rattle.flash_traits.specs.Losses.{Received, SentFrame, Outcome, After}
 use Rattle.flash_traits.proofs.Moments.{up_to_self, chained, weaker}
-use Rattle.vehicle_node.specs.Safe.{Adds}
+use Rattle.vehicle_runs.specs.Safe.{Adds}
 use Rattle.vehicle_node.specs.Steps.Calls.{MaySend, HasSent, Call}
 use Rattle.vehicle_node.specs.Refusals.{OnWorn}
 use Rattle.vehicle_node.specs.declared.NodeError.{NodeError}

@@ -28,8 +28,8 @@ use Rattle.dirty_lines.specs.Losses.{PutsFirst, MayPutFirst, MayPutNext, NextExc
 use Rattle.dirty_lines.proofs.Cuts.{joined_rest, few_joined, entries_few}
 use Rattle.dirty_lines.proofs.Puts.{answer_first}
 use Rattle.vehicle_core.specs.declared.orders.Need.TheVariants.{Nothing, FlushAll}
-use Rattle.vehicle_node.specs.Guard.{CountsUpTo}
-use Rattle.vehicle_node.specs.Safe.{Adds}
+use Rattle.vehicle_runs.specs.Guard.{CountsUpTo}
+use Rattle.vehicle_runs.specs.Safe.{Adds}
 use Rattle.vehicle_node.specs.Standing.{Node, IsAlone, ceiling}
 use Rattle.vehicle_node.specs.Wearing.{Unworn}
 use Rattle.vehicle_node.specs.Steps.Calls.{HasSent, IsWornAlone, WornAlone}

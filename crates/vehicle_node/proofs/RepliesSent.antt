@@ -9,8 +9,8 @@ use Rattle.flash_traits.specs.declared.board.Board.{Ghosts}
 use Rattle.mav_messages.specs.declared.messages.Reply.{Reply}
 use Rattle.vehicle_core.specs.Vehicle.{Vehicle, Content, Told, is_heard}
 use Rattle.vehicle_core.specs.Replies.{IsReplyOf, AreRepliesOf}
+use Rattle.vehicle_runs.specs.Frames.{Machine, Delivery, stations, deliveries, deliveries_of}
 use Rattle.vehicle_node.specs.declared.NodeError.{NodeError}
-use Rattle.vehicle_node.specs.Frames.{Machine, Delivery, stations, deliveries, deliveries_of}
 use Rattle.vehicle_node.specs.Standing.{Node}
 use Rattle.vehicle_node.specs.Steps.Sending.{SentAll, SendDone, delivery, deliveries_to}
 use Rattle.vehicle_node.proofs.FramesSent.{counted-vehicle, prefix_more, sent_none, sent_then, losses_then}

@@ -16,7 +16,7 @@ use Rattle.vehicle_core.specs.declared.orders.Order.{Order}
 use Rattle.vehicle_core.specs.declared.orders.Order.TheVariants.{Flush, Arm, Disarm, Deny, Refuse}
 use Rattle.vehicle_core.specs.Orders.{need_of}
 use Rattle.vehicle_core.specs.Acts.{Act}
-use Rattle.vehicle_node.specs.Arming.{order_heard, armed_by, is_armed_after, is_armed_after_all}
+use Rattle.vehicle_runs.specs.Arming.{order_heard, armed_by, is_armed_after, is_armed_after_all}
 use Rattle.vehicle_node.specs.Standing.{Node, IsAloneUnlessArmed, armed_in}
 use Rattle.vehicle_node.specs.Wearing.{LineStep, Issue, Put, Compact, Compacts, AreSteps, ActsUnworn, EventUnworn, PendingVoids}
 

@@ -5,7 +5,7 @@ use Rattle.dirty_lines.specs.Lines.{Lines, lines_of}
 use Rattle.dirty_lines.specs.Entries.{CutIntoEntries}
 use Rattle.dirty_lines.specs.Wearing.{NoneWears}
 use Rattle.vehicle_core.specs.Acts.{Act}
-use Rattle.vehicle_node.specs.Arming.{is_armed_after, is_armed_after_all}
+use Rattle.vehicle_runs.specs.Arming.{is_armed_after, is_armed_after_all}
 use Rattle.vehicle_node.specs.Wearing.{LineStep, Issue, Put, Compact, Compacts, AreSteps, issued_by, Unworn, ActsUnworn}
 
 steps_then : (armed : Bool) (xs ys : List LineStep) (old mid new : Lines) → AreSteps armed xs old mid → AreSteps armed ys mid new → AreSteps armed (xs ++ ys) old new

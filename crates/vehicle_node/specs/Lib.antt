@@ -1,12 +1,5 @@
-pub mod Frames
-pub mod Reading
-pub mod Runs
-pub mod Arming
 pub mod Wearing
-pub mod Boot
-pub mod Safe
 pub mod Standing
 pub mod Guard
 pub mod Refusals
-pub mod Laws
 pub mod Steps

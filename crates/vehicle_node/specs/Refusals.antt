@@ -1,5 +1,5 @@
 -- What the refusals say.
-use Rattle.std.specs.Prelude.{◌≡◌, ℕ, Result, IfOk, IfErr}
+use Rattle.std.specs.Prelude.{◌≡◌, ℕ, Option, Some, None, Result, IfOk, IfErr}
 use Rattle.flash_traits.specs.declared.board.Board.{Ghosts}
 use Rattle.flash_traits.specs.declared.board.Fault.{Fault}
 use Rattle.flash_traits.specs.declared.board.Fault.TheVariants.{Read}
@@ -42,3 +42,10 @@ pub record LeavesAlone {B T : Type 0} (g : Ghosts B) (old new : B) (result : Res
   pub words : g.words new ≡ g.words old
   pub refused : IfOk result (λ answer. ⊥)
   pub read : IfErr result (λ e. OnFault e (λ kind. kind ≡ Read))
+
+-- the fault that an error is, or none
+abbrev pub fault_in : NodeError → Option Fault
+fault_in node_error.Memory = None
+fault_in (node_error.Fault kind) = Some kind
+fault_in (node_error.Foreign region offset word) = None
+fault_in (node_error.Worn count) = None

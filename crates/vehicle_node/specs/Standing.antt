@@ -14,11 +14,12 @@ use Rattle.block_store.specs.Store.{durable_of, guard_ahead, is_alone, HasSpare}
 use Rattle.dirty_lines.specs.Lines.{Lines, current_of}
 use Rattle.vehicle_core.specs.Vehicle.{is_armed}
 use Rattle.vehicle_core.specs.Acts.{Act}
-use Rattle.vehicle_node.specs.Arming.{NoneFlushes, is_armed_after_all, IsArmedThroughout, IsArmedOnce}
-use Rattle.vehicle_node.specs.Frames.{Machine, AreFramesOf, acknowledged}
-use Rattle.vehicle_node.specs.Reading.{IsEvent, Reads, no_rests}
-use Rattle.vehicle_node.specs.Runs.{Run, event_done, run_of}
-use Rattle.vehicle_node.specs.Safe.{Adds}
+use Rattle.vehicle_runs.specs.Arming.{NoneFlushes, is_armed_after_all, IsArmedThroughout, IsArmedOnce}
+use Rattle.vehicle_runs.specs.Frames.{Machine, AreFramesOf, acknowledged}
+use Rattle.vehicle_runs.specs.Reading.{IsEvent, Reads, no_rests}
+use Rattle.vehicle_runs.specs.Guard.{raised_in}
+use Rattle.vehicle_runs.specs.Runs.{Run, event_done, run_of}
+use Rattle.vehicle_runs.specs.Safe.{Adds}
 use Rattle.vehicle_node.specs.Wearing.{EventUnworn}
 use Rattle.vehicle_node.specs.declared.Turn.{Turn}
 use Rattle.vehicle_node.specs.declared.Turn.TheVariants as turn
@@ -98,10 +99,6 @@ pub record StandsForRun (node : Node) (b : List ℕ) (events : List Received)
   pub reads : Reads no_rests events acts node.rests
   pub finished : m ≡ length events
   pub at : StandsAt node b (run_of node.budget b acts) frames
-
--- the most that a run may have raised the guard count to that was so much at its start
-abbrev pub raised_in : ℕ → Run → ℕ
-raised_in count r = count + 2 + 2 * length r.issued
 
 -- The node stands for a run at whose start the guard count was so much, and stays within what the
 -- run may raise it to, were all pending lines put.

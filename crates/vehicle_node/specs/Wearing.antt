@@ -14,8 +14,8 @@ use Rattle.dirty_lines.specs.Entries.{CutIntoEntries, IsFewest, flash_bytes}
 use Rattle.dirty_lines.specs.Wearing.{NoneWears}
 use Rattle.vehicle_core.specs.declared.orders.Need.TheVariants.{FlushAll}
 use Rattle.vehicle_core.specs.Acts.{Act}
-use Rattle.vehicle_node.specs.Arming.{need_in, is_armed_after, is_armed_after_all}
-use Rattle.vehicle_node.specs.Runs.{boot}
+use Rattle.vehicle_runs.specs.Arming.{need_in, is_armed_after, is_armed_after_all}
+use Rattle.vehicle_runs.specs.Runs.{boot}
 
 -- Lines are issued, entries are put, or the store is made to stand alone.
 pub data LineStep : Type 0 where

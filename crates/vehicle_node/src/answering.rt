@@ -12,7 +12,7 @@ ghost use Rattle.mission_service.specs.Replies.{target_of};
 ghost use Rattle.vehicle_core.specs.Vehicle.{Asked, Asks, Told};
 ghost use Rattle.vehicle_core.specs.Acts.{Beat, Said, Stream, heard_as};
 ghost use Rattle.vehicle_core.specs.Replies.{AreRepliesOf};
-ghost use Rattle.vehicle_node.specs.Frames.{deliveries};
+ghost use Rattle.vehicle_runs.specs.Frames.{deliveries};
 ghost use Rattle.vehicle_node.specs.Standing.{Fits, IsIndexed};
 ghost use Rattle.vehicle_node.specs.Steps.Calls.{Keeps, OfAnswer};
 ghost use Rattle.vehicle_node.specs.Steps.Answering.{HasSpareFor, AnswerDone, ActDone, FrameDone};

@@ -3,15 +3,15 @@ ghost use Rattle.std.specs.Prelude.{◌≡◌, ◌<◌, ◌≤◌, ◌∷◌, []
 ghost use Rattle.flash_traits.specs.declared.numbers.TheConstants.{DATAGRAM_BYTES, STATIONS};
 ghost use Rattle.flash_traits.specs.Losses.{received, IsEventInRange, Datagram, Idle};
 ghost use Rattle.mav_frames.specs.Frames.{IsReadFrom};
-ghost use Rattle.vehicle_node.specs.Reading.{beats, streams};
+ghost use Rattle.vehicle_runs.specs.Reading.{beats, streams};
 ghost use Rattle.vehicle_node.specs.Standing.{Fits};
 ghost use Rattle.vehicle_node.specs.Steps.Calls.{Keeps, OfAnswer};
 ghost use Rattle.vehicle_node.specs.Steps.Hearing.{Pushed, KeepsButRests, HasRest, IsFront, HearDone, ActsDone, TakeDone};
 
-use crate::laws::frames_are_read;
 use crate::{Node, NodeError};
 use flash_traits::{Board, Event, STATIONS};
 use mav_frames::{Frame, front_length};
+use vehicle_runs::frames_are_read;
 
 impl Node {
     /// The cutter of a station keeps a rest.

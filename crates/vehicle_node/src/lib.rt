@@ -14,7 +14,7 @@ ghost use Rattle.flash_traits.specs.declared.board.Fault.{Fault};
 ghost use Rattle.flash_traits.specs.declared.board.Fault.TheVariants.{Read, Flash, Recv, Send};
 ghost use Rattle.flash_traits.specs.Losses.{Received, received, End, SentFrame, Outcome, After, ByResult};
 ghost use Rattle.flash_traits.specs.Calls.{Passes, ErasesNothing};
-ghost use Rattle.flash_traits.specs.Causes.{Rose};
+ghost use Rattle.flash_traits.specs.Causes.{counts_after, told_by};
 ghost use Rattle.guard_row.specs.Row.{IsGuardRow};
 ghost use Rattle.storage_lines.specs.Lines.{after};
 ghost use Rattle.sector_image.specs.FirstBad.{FirstBad};
@@ -23,35 +23,37 @@ ghost use Rattle.block_store.specs.Refusals.{IsWorn};
 ghost use Rattle.block_store.specs.Store.{guard_of, is_spilled};
 ghost use Rattle.dirty_lines.specs.Lines.{Lines};
 ghost use Rattle.dirty_lines.specs.Losses.{IsWornForNext, NextVoids};
-ghost use Rattle.vehicle_node.specs.Runs.{Run};
-ghost use Rattle.vehicle_node.specs.Safe.{SafeSince, Adds};
+ghost use Rattle.vehicle_runs.specs.Runs.{Run};
+ghost use Rattle.vehicle_runs.specs.Safe.{SafeSince, Adds};
+ghost use Rattle.vehicle_runs.specs.Guard.{RisesWithin, MayWear};
 ghost use Rattle.vehicle_node.specs.Standing.{Fits, IsAloneUnlessArmed, StandsAt, StandsForRun, StaysWithin, Finished, WasArmed, Node, armed_in};
-ghost use Rattle.vehicle_node.specs.Guard.{RisesWithin, MayWear, WearsIn};
+ghost use Rattle.vehicle_node.specs.Guard.{WearsIn};
 ghost use Rattle.vehicle_node.specs.Wearing.{PendingVoids, AllUnworn, BootUnworn};
-ghost use Rattle.vehicle_node.specs.Refusals.{OnMemory, OnFault, OnForeign, OnWorn, LeavesAlone};
+ghost use Rattle.vehicle_node.specs.Refusals.{OnMemory, OnFault, OnForeign, OnWorn, LeavesAlone, fault_in};
 
 mod answering;
 mod hearing;
-mod laws;
 mod opening;
 
 use crate::opening::booted;
 use block_store::OpenError;
 use dirty_lines::{DirtyLines, PENDING_LINES};
 use flash_traits::{Board, Event, Fault, Region, budget};
-pub use laws::{
-    boot_formats, events_are_read, events_are_read_once, floors_by_events, frames_are_read,
-    orders_decide,
-};
 use mav_frames::Cutter;
 use std::alloc::Global;
 use std::marker::Model;
 use storage_lines::BATCH_LINES;
 use vehicle_core::Core;
+use vehicle_runs::frames_are_read;
 
 /// The most pending lines with which the lines of any change are issued; where there are more, some
 /// are put before.
 pub const ROOM_FROM: usize = PENDING_LINES - BATCH_LINES;
+
+/// The limit has this number.
+pub fn limits()
+    ensures { ROOM_FROM ≡ 1984 }
+{}
 
 /// Why a node stopped. It is then dropped, and the board is to be opened again.
 #[derive(Clone, Copy, Debug, PartialEq, Eq)]
@@ -195,9 +197,9 @@ impl Node {
         ensures unworn { IfOk result (λ node. B.tells board.new →
             BootUnworn (B.words board.old) node.lines) }
         ensures memory { IfErr result (λ e. OnMemory e (board.new ≡ board.old)) }
-        ensures fault { IfErr result (λ e. OnFault e (λ kind. (kind ≡ Read ⊎ kind ≡ Flash) ×
-            Rose (B.faults board.old kind) (B.faults board.new kind))) }
-        ensures counts { (k : Fault) → B.faults board.old k ≤ B.faults board.new k }
+        ensures fault { IfErr result (λ e. OnFault e (λ kind. kind ≡ Read ⊎ kind ≡ Flash)) }
+        ensures counts { B.faults board.new
+            ≡ counts_after (told_by fault_in result) (B.faults board.old) }
     {
         let lines = DirtyLines::open(alloc, board)?;
         let mut node = booted(budget(board.geometry()), lines);
@@ -255,10 +257,10 @@ impl Node {
             IsTrue (is_spilled self.old.lines.store) →
             guard_of self.old.lines.store ≡ GUARD_HALFWORDS →
             IfOk result (λ turn. armed_in self.new ≡ true) }
-        ensures fault { IfErr result (λ e. OnFault e (λ kind. (kind ≡ Read ⊎ (kind ≡ Flash ⊎
-            (kind ≡ Recv ⊎ kind ≡ Send))) ×
-            Rose (B.faults board.old kind) (B.faults board.new kind))) }
-        ensures counts { (k : Fault) → B.faults board.old k ≤ B.faults board.new k }
+        ensures fault { IfErr result (λ e. OnFault e (λ kind. kind ≡ Read ⊎ (kind ≡ Flash ⊎
+            (kind ≡ Recv ⊎ kind ≡ Send)))) }
+        ensures counts { B.faults board.new
+            ≡ counts_after (told_by fault_in result) (B.faults board.old) }
     {
         frames_are_read();
         let event = match board.recv(buffer) {
@@ -312,9 +314,9 @@ impl Node {
             guard_of self.lines.store ≡ GUARD_HALFWORDS → IfOk result (λ done. ⊥) }
         ensures unworn { OnOk result
             (AllUnworn B.Board (armed_in self) self.lines board.new) }
-        ensures fault { IfErr result (λ e. OnFault e (λ kind. (kind ≡ Read ⊎ kind ≡ Flash) ×
-            Rose (B.faults board.old kind) (B.faults board.new kind))) }
-        ensures counts { (k : Fault) → B.faults board.old k ≤ B.faults board.new k }
+        ensures fault { IfErr result (λ e. OnFault e (λ kind. kind ≡ Read ⊎ kind ≡ Flash)) }
+        ensures counts { B.faults board.new
+            ≡ counts_after (told_by fault_in result) (B.faults board.old) }
     {
         let armed = self.core.armed();
         self.flush_all(board, armed)

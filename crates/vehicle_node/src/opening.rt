@@ -5,7 +5,7 @@ ghost use Rattle.param_tree.specs.Rows.{vehicle_rows};
 ghost use Rattle.param_convert.specs.Rules.{vehicle_rules};
 ghost use Rattle.block_store.specs.Store.{durable_of};
 ghost use Rattle.dirty_lines.specs.Lines.{lines_of, current_of};
-ghost use Rattle.vehicle_node.specs.Runs.{format_step, convert_step, boot};
+ghost use Rattle.vehicle_runs.specs.Runs.{format_step, convert_step, boot};
 ghost use Rattle.vehicle_node.specs.Standing.{counts};
 ghost use Rattle.vehicle_node.specs.Steps.Opening.{IsBooted};
 

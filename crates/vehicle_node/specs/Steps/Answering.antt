@@ -18,10 +18,10 @@ use Rattle.vehicle_core.specs.declared.orders.Need.{Need}
 use Rattle.vehicle_core.specs.declared.orders.Need.TheVariants.{Nothing, FlushAll}
 use Rattle.vehicle_core.specs.Vehicle.{Asked, is_armed}
 use Rattle.vehicle_core.specs.Acts.{Act, Said, heard_as, Did, did}
-use Rattle.vehicle_node.specs.Frames.{Delivery, deliveries, counted_all, AreFramesOf}
-use Rattle.vehicle_node.specs.Guard.{CountsUpTo}
-use Rattle.vehicle_node.specs.Reading.{Says, IsSilent}
-use Rattle.vehicle_node.specs.Safe.{Adds}
+use Rattle.vehicle_runs.specs.Frames.{Delivery, deliveries, counted_all, AreFramesOf}
+use Rattle.vehicle_runs.specs.Guard.{CountsUpTo}
+use Rattle.vehicle_runs.specs.Reading.{Says, IsSilent}
+use Rattle.vehicle_runs.specs.Safe.{Adds}
 use Rattle.vehicle_node.specs.Standing.{Node, IsAlone, armed_in, ceiling, raised_by}
 use Rattle.vehicle_node.specs.Wearing.{Compacts, Unworn}
 use Rattle.vehicle_node.specs.Steps.Calls.{HasSent, Call, WornAlone}

@@ -5,12 +5,12 @@ use Rattle.flash_traits.specs.declared.board.Board.{Ghosts}
 use Rattle.flash_traits.specs.declared.board.Fault.{Fault}
 use Rattle.flash_traits.specs.declared.board.Fault.TheVariants.{Read, Flash, Send}
 use Rattle.flash_traits.specs.Calls.{Passes}
-use Rattle.flash_traits.specs.Causes.{Rose}
+use Rattle.flash_traits.specs.Causes.{counts_after, told_by}
 use Rattle.flash_traits.specs.Losses.{Received, SentFrame, Outcome, After, KeepsWords}
 use Rattle.block_store.specs.Refusals.{IsWorn}
 use Rattle.dirty_lines.specs.Losses.{IsWornForNext}
 use Rattle.vehicle_node.specs.Standing.{Node, IsAlone, IsAloneUnlessArmed}
-use Rattle.vehicle_node.specs.Refusals.{OnMemory, OnFault, OnForeign, OnWorn}
+use Rattle.vehicle_node.specs.Refusals.{OnMemory, OnFault, OnForeign, OnWorn, fault_in}
 use Rattle.vehicle_node.specs.declared.NodeError.{NodeError}
 
 -- nothing was received, and maybe some frames were sent
@@ -71,8 +71,8 @@ OfFlash kind = kind ≡ Read ⊎ kind ≡ Flash
 abbrev pub OfAnswer : Fault → Type 0
 OfAnswer kind = kind ≡ Read ⊎ (kind ≡ Flash ⊎ kind ≡ Send)
 
--- The geometry stays, no words are told that weren't, no count of faults falls, and the call stops
--- only at a fault of these kinds or where the guard row is used up.
+-- The geometry stays, no words are told that weren't, no count of faults changes that isn't told, and
+-- the call stops only at a fault of these kinds or where the guard row is used up.
 pub record Keeps {B : Type 0} (g : Ghosts B) (kinds : Fault → Type 0) (board : B)
     (result : Result ⊤ NodeError) (after_board : B) : Type 0 where
   pub geometry : g.sector_bytes after_board ≡ g.sector_bytes board
@@ -81,9 +81,8 @@ pub record Keeps {B : Type 0} (g : Ghosts B) (kinds : Fault → Type 0) (board :
   pub never_foreign : IfErr result (λ e. OnForeign e (λ place. ⊥))
   pub worn : IfErr result (λ e. OnWorn e (λ count. (count ≡ GUARD_HALFWORDS) × (bytes : _)
       × IsWorn g after_board bytes))
-  pub fault : IfErr result (λ e. OnFault e (λ kind. kinds kind
-      × Rose (g.faults board kind) (g.faults after_board kind)))
-  pub counts : (k : Fault) → g.faults board k ≤ g.faults after_board k
+  pub fault : IfErr result (λ e. OnFault e kinds)
+  pub counts : g.faults after_board ≡ counts_after (told_by fault_in result) (g.faults board)
 
 -- A call that only sends keeps lines, places and words, and stops only where a sending failed.
 pub record KeepsLines {B : Type 0} (g : Ghosts B) (old : Node) (board : B)
@@ -94,6 +93,5 @@ pub record KeepsLines {B : Type 0} (g : Ghosts B) (old : Node) (board : B)
   pub never_memory : IfErr result (λ e. OnMemory e ⊥)
   pub never_foreign : IfErr result (λ e. OnForeign e (λ place. ⊥))
   pub never_worn : IfErr result (λ e. OnWorn e (λ count. ⊥))
-  pub fault : IfErr result (λ e. OnFault e (λ kind. (kind ≡ Send)
-      × Rose (g.faults board kind) (g.faults after_board kind)))
-  pub counts : (k : Fault) → g.faults board k ≤ g.faults after_board k
+  pub fault : IfErr result (λ e. OnFault e (λ kind. kind ≡ Send))
+  pub counts : g.faults after_board ≡ counts_after (told_by fault_in result) (g.faults board)

@@ -5,13 +5,13 @@ use Rattle.flash_traits.specs.declared.numbers.TheConstants.{GUARD_HALFWORDS}
 use Rattle.flash_traits.specs.Calls.{ErasesNothing}
 use Rattle.flash_traits.specs.Losses.{Received, SentFrame, Outcome}
 use Rattle.storage_lines.specs.declared.lines.LineWrite.{LineWrite}
-use Rattle.mav_frames.specs.Cut.{StreamPiece, Whole, IsFrame, Cut, Pushes, frames_in}
+use Rattle.mav_frames.specs.Cut.{Whole, IsFrame, Cut, Pushes}
 use Rattle.vehicle_core.specs.Acts.{Act}
-use Rattle.vehicle_node.specs.Arming.{NoneFlushes, is_armed_after_all, IsArmedThroughout, IsArmedOnce}
-use Rattle.vehicle_node.specs.Guard.{CountsUpTo}
-use Rattle.vehicle_node.specs.Reading.{AreSaid, IsEvent}
-use Rattle.vehicle_node.specs.Runs.{Run, all_acts}
-use Rattle.vehicle_node.specs.Safe.{SafeAt, Adds}
+use Rattle.vehicle_runs.specs.Arming.{NoneFlushes, is_armed_after_all, IsArmedThroughout, IsArmedOnce}
+use Rattle.vehicle_runs.specs.Guard.{CountsUpTo}
+use Rattle.vehicle_runs.specs.Reading.{IsEvent, IsHeard}
+use Rattle.vehicle_runs.specs.Runs.{Run, all_acts}
+use Rattle.vehicle_runs.specs.Safe.{SafeAt, Adds}
 use Rattle.vehicle_node.specs.Standing.{Node, IsAloneUnlessArmed, StandsAt, armed_in, ceiling, raised_by}
 use Rattle.vehicle_node.specs.Wearing.{ActsUnworn}
 use Rattle.vehicle_node.specs.Steps.Calls.{HasSent, Call, WornWhere}
@@ -83,17 +83,6 @@ ActsDone g old board acts result new after_board =
     Call g (SafeIn old acts)
     (WornWhere g old (IsArmedOnce (armed_in old) acts) (MayWearIn old acts) new after_board)
     (ActsAnswered g old board acts new after_board) board result after_board
-
--- These bytes of a station were cut into frames after its rest, and the frames say this.
-pub record IsHeard (station : ℕ) (bytes : List ℕ) (old : List (List ℕ)) (said : List Act)
-    (new : List (List ℕ)) : Type 0 where
-  pub rest : List ℕ
-  pub rest_is : slice_get old station ≡ Some rest
-  pub pieces : List StreamPiece
-  pub new_rest : List ℕ
-  pub cut : Cut (rest ++ bytes) pieces new_rest
-  pub are_said : AreSaid station (frames_in pieces) said
-  pub new_is : new ≡ slice_set old station new_rest
 
 -- The cutter of a station took a byte, with which maybe a frame is whole.
 pub record Pushed (station byte : ℕ) (frame : Option (List ℕ)) (old new : List (List ℕ))

@@ -2,9 +2,9 @@
 use Rattle.std.specs.Prelude.{◌≡◌, ℕ, length}
 use Rattle.block_store.specs.Store.{durable_of}
 use Rattle.dirty_lines.specs.Lines.{Lines, lines_of}
-use Rattle.vehicle_node.specs.Reading.{no_rests}
-use Rattle.vehicle_node.specs.Frames.{new_machine}
-use Rattle.vehicle_node.specs.Runs.{boot}
+use Rattle.vehicle_runs.specs.Reading.{no_rests}
+use Rattle.vehicle_runs.specs.Frames.{new_machine}
+use Rattle.vehicle_runs.specs.Runs.{boot}
 use Rattle.vehicle_node.specs.Standing.{Node, IsIndexed, counts}
 
 -- The lines of boot are pending, the places are those with them, and nothing else has happened.

@@ -6,7 +6,7 @@ use Rattle.flash_traits.specs.Losses.{SentFrame, Outcome}
 use Rattle.mav_messages.specs.declared.messages.To.{To}
 use Rattle.mav_messages.specs.declared.messages.To.TheVariants.{Station, All}
 use Rattle.vehicle_core.specs.Vehicle.{Vehicle, Content, is_heard}
-use Rattle.vehicle_node.specs.Frames.{Machine, Answer, Delivery, numbered, counted, counted_all, AreFramesOf}
+use Rattle.vehicle_runs.specs.Frames.{Machine, Answer, Delivery, numbered, counted, counted_all, AreFramesOf}
 use Rattle.vehicle_node.specs.Standing.{Node, raised_by}
 use Rattle.vehicle_node.specs.Steps.Calls.{HasSent, Call}
 use Rattle.vehicle_node.specs.declared.NodeError.{NodeError}

@@ -4,7 +4,7 @@ ghost use Rattle.flash_traits.specs.declared.numbers.TheConstants.{STATIONS};
 ghost use Rattle.flash_traits.specs.Words.{IsSectorSize};
 ghost use Rattle.vehicle_core.specs.Vehicle.{Content, Told};
 ghost use Rattle.vehicle_core.specs.Replies.{Tells, IsReplyOf, AreRepliesOf};
-ghost use Rattle.vehicle_node.specs.Frames.{stations, deliveries_of, deliveries};
+ghost use Rattle.vehicle_runs.specs.Frames.{stations, deliveries_of, deliveries};
 ghost use Rattle.vehicle_node.specs.Steps.Calls.{KeepsLines};
 ghost use Rattle.vehicle_node.specs.Steps.Sending.{IsInside, SendDone, delivery, deliveries_to, Counted};
 

@@ -1,4 +1,4 @@
-use Rattle.vehicle_laws.proofs.Boot.{boot_formats}
+use Rattle.vehicle_laws.proofs.BootRows.{boot_formats}
 use Rattle.vehicle_laws.proofs.laws.boot_formats.Goals as goal
 
 pub returns : goal.returns

@@ -2,7 +2,7 @@ use Rattle.std.proofs.Common.{◌≡◌, ◌+◌, length, ◌∙◌, ap, sym, su
 use Rattle.vehicle_core.specs.Vehicle.{Vehicle}
 use Rattle.dirty_lines.specs.Lines.{Lines}
 use Rattle.block_store.specs.Store as store
-use Rattle.vehicle_node.specs.Frames.{Machine, deliveries}
+use Rattle.vehicle_runs.specs.Frames.{Machine, deliveries}
 use Rattle.vehicle_node.specs.Standing.{Node, raised_by}
 use Rattle.vehicle_node.specs.Steps.Inside.{view_of}
 use Rattle.vehicle_node.specs.Steps.Answering.{IssuedAll, SettledAll, HasSpareFor}

@@ -2,8 +2,8 @@ use Rattle.std.proofs.Common.{Bool, inr, subst}
 use Rattle.mission_service.specs.declared.uploads.Target.{Target}
 use Rattle.vehicle_core.specs.Vehicle.{Asks}
 use Rattle.vehicle_core.specs.Acts.{heard_as, Said}
+use Rattle.vehicle_runs.proofs.Senders.{of_frame}
 use Rattle.vehicle_node.specs.Steps.Answering.{ActDone}
-use Rattle.vehicle_node.proofs.Senders.{of_frame}
 use Rattle.vehicle_node.proofs.Node.answer_frame.Goals as goal
 
 pub returns-clause-done : goal.returns-clause-done

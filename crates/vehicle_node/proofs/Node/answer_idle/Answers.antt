@@ -1,5 +1,5 @@
 use Rattle.std.proofs.Common.{◌++◌, refl}
-use Rattle.vehicle_node.specs.Reading.{beats, streams}
+use Rattle.vehicle_runs.specs.Reading.{beats, streams}
 use Rattle.vehicle_node.specs.Steps.Calls.{OfAnswer}
 use Rattle.vehicle_node.proofs.ActsDone.{acts_then, acts_prefix}
 use Rattle.vehicle_node.proofs.Events.{take_idle}

@@ -5,7 +5,7 @@ use Rattle.dirty_lines.specs.Lines.{Lines, current_of}
 use Rattle.vehicle_core.specs.Vehicle.{is_armed}
 use Rattle.vehicle_core.specs.Acts.{heard_as, Said, Did, did}
 use Rattle.vehicle_core.specs.Replies.{AreRepliesOf}
-use Rattle.vehicle_node.specs.Frames.{deliveries}
+use Rattle.vehicle_runs.specs.Frames.{deliveries}
 use Rattle.vehicle_node.specs.Standing.{Node}
 use Rattle.vehicle_node.specs.Steps.Answering.{ActDone}
 use Rattle.vehicle_node.specs.Steps.Inside.{view_of}

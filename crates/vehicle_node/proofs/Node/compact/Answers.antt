@@ -48,8 +48,8 @@ returns-clause-keeps g c =
     let old : Node = view_of c.self.inside in
     let e = c.compact.ensures in
     elim c.match-compact.branch [
-      | in-Ok w ↦ subst (λ (r : Result ⊤ NodeError). Keeps b OfFlash a r last) (sym w.result-is) (keeps_put b a last e.changes.geometry e.changes.told e.counts)
+      | in-Ok w ↦ subst (λ (r : Result ⊤ NodeError). Keeps b OfFlash a r last) (sym w.result-is) (keeps_put b a last e.changes.geometry e.changes.told w.in-Ok.ensures.counts)
       | in-Err w ↦ subst (λ (r : Result ⊤ NodeError). Keeps b OfFlash a r last) (sym w.result-is)
-          (keeps_compact_refused b a w.in-Err.error w.error_of.result last old c.compact.new.self.store.bytes (home_free old.lines.store) w.error_of.ensures e.changes.geometry e.changes.told e.counts
+          (keeps_compact_refused b a w.in-Err.error w.error_of.result last old c.compact.new.self.store.bytes (home_free old.lines.store) w.error_of.ensures e.changes.geometry e.changes.told w.in-Err.ensures.counts
           w.in-Err.ensures.fault w.in-Err.ensures.worn w.in-Err.ensures.worn_copied)
     ]

@@ -1,7 +1,7 @@
 use Rattle.std.proofs.Common.{◌⊎◌, inl, inr, ◌+◌, arith}
 use Rattle.flash_traits.specs.Losses.{received}
 use Rattle.dirty_lines.specs.Losses.{IsWornForNext}
-use Rattle.vehicle_node.specs.Safe.{SafeSince}
+use Rattle.vehicle_runs.specs.Safe.{SafeSince}
 use Rattle.vehicle_node.specs.Standing.{Finished, IsAloneUnlessArmed, WasArmed, armed_in}
 use Rattle.vehicle_node.specs.Guard.{WearsIn}
 use Rattle.vehicle_node.specs.Refusals.{OnWorn}

@@ -57,7 +57,7 @@ returns-clause-keeps g c =
     let last = c.flush.new.board in
     let e = c.flush.ensures in
     elim c.match-flush.branch [
-      | in-Ok w ↦ subst (λ (r : Result ⊤ NodeError). Keeps b OfFlash a r last) (sym w.result-is) (keeps_put b a last e.changes.geometry e.changes.told e.counts)
+      | in-Ok w ↦ subst (λ (r : Result ⊤ NodeError). Keeps b OfFlash a r last) (sym w.result-is) (keeps_put b a last e.changes.geometry e.changes.told w.in-Ok.ensures.counts)
       | in-Err w ↦ subst (λ (r : Result ⊤ NodeError). Keeps b OfFlash a r last) (sym w.result-is)
-          (keeps_flush_refused b a w.in-Err.error w.error_of.result last c.args.armed c.flush.new.self.store.bytes w.error_of.ensures e.changes.geometry e.changes.told e.counts w.in-Err.ensures.fault w.in-Err.ensures.worn)
+          (keeps_flush_refused b a w.in-Err.error w.error_of.result last c.args.armed c.flush.new.self.store.bytes w.error_of.ensures e.changes.geometry e.changes.told w.in-Err.ensures.counts w.in-Err.ensures.fault w.in-Err.ensures.worn)
     ]

@@ -8,7 +8,7 @@ use Rattle.block_store.specs.Store.{durable_of}
 use Rattle.block_store.specs.Store as store
 use Rattle.block_store.proofs.StoreLaws.{fits_attached}
 use Rattle.dirty_lines.specs.Lines.{Lines}
-use Rattle.vehicle_node.specs.Guard.{MayWear}
+use Rattle.vehicle_runs.specs.Guard.{MayWear}
 use Rattle.vehicle_node.specs.Refusals.{OnForeign, OnWorn}
 use Rattle.vehicle_node.specs.Steps.Errors.{opens_not}
 use Rattle.vehicle_node.specs.Standing.{StandsForRun, ceiling}

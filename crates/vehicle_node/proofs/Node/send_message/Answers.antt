@@ -1,7 +1,7 @@
 use Rattle.std.proofs.Common.{[], ◌∷◌, ap}
 use Rattle.flash_traits.specs.Losses.{sent_frame, Moment}
+use Rattle.vehicle_runs.specs.Frames.{AreFramesOf}
 use Rattle.vehicle_node.specs.Steps.Inside.{view_of}
-use Rattle.vehicle_node.specs.Frames.{AreFramesOf}
 use Rattle.vehicle_node.specs.Steps.Sending.{answers_to, delivery}
 use Rattle.vehicle_node.proofs.FramesSent.{delivered, one_losses, one_here, one_list, either_list}
 use Rattle.vehicle_node.proofs.Node.send_message.Goals as goal

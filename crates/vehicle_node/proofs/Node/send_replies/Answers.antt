@@ -1,12 +1,12 @@
 use Rattle.std.proofs.Common.{◌≡◌, ◌+◌, List, length, take, drop, Ok, Err, Result, ap, sym, arith, subst}
 use Rattle.std.specs.Prelude.{⊤}
+use Rattle.vehicle_runs.specs.Frames.{deliveries, deliveries_of}
 use Rattle.vehicle_node.specs.declared.NodeError.{NodeError}
 use Rattle.mav_messages.specs.declared.messages.Reply.{Reply}
 use Rattle.mav_messages.specs.declared.messages.To.TheVariants.{Station}
 use Rattle.mav_messages.specs.declared.messages.Message.TheVariants.{Heartbeat}
 use Rattle.vehicle_core.specs.Vehicle.{Vehicle, Told}
 use Rattle.vehicle_core.specs.Replies.{AreRepliesOf}
-use Rattle.vehicle_node.specs.Frames.{deliveries, deliveries_of}
 use Rattle.vehicle_node.specs.Steps.Sending.{SendDone}
 use Rattle.vehicle_node.proofs.Keeping.{lines_then}
 use Rattle.vehicle_node.proofs.RepliesSent.{done_then, done_short, vehicle_stays, told_at, all_told, told-more, told-rest}

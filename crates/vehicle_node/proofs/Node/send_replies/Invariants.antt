@@ -1,7 +1,7 @@
 use Rattle.std.proofs.Common.{Ok, List, take}
 use Rattle.vehicle_core.specs.Vehicle.{Told}
 use Rattle.vehicle_core.specs.Replies.{AreRepliesOf}
-use Rattle.vehicle_node.specs.Frames.{deliveries}
+use Rattle.vehicle_runs.specs.Frames.{deliveries}
 use Rattle.vehicle_node.specs.Steps.Calls.{KeepsLines}
 use Rattle.vehicle_node.specs.Steps.Sending.{SendDone}
 use Rattle.vehicle_node.proofs.Node.send_replies.Given as goal

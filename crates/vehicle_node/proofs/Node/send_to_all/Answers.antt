@@ -1,9 +1,9 @@
 use Rattle.std.proofs.Common.{◌+◌, ◌-◌, [], ◌∷◌, Ok, Err, Result, arith, subst}
 use Rattle.std.specs.Prelude.{⊤}
+use Rattle.vehicle_runs.specs.Frames.{stations}
 use Rattle.vehicle_node.specs.declared.NodeError.{NodeError}
 use Rattle.std.specs.List.{range_with_len}
 use Rattle.vehicle_core.specs.Vehicle.{Vehicle}
-use Rattle.vehicle_node.specs.Frames.{stations}
 use Rattle.vehicle_node.specs.Steps.Sending.{SendDone, deliveries_to}
 use Rattle.vehicle_node.proofs.Keeping.{lines_then}
 use Rattle.vehicle_node.proofs.RepliesSent.{done_then, done_short, vehicle_stays, to-more, to-rest}

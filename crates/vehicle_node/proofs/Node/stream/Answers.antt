@@ -6,11 +6,11 @@ use Rattle.vehicle_core.specs.declared.orders.Need.TheVariants.{Nothing}
 use Rattle.vehicle_core.specs.Vehicle.{is_armed}
 use Rattle.vehicle_core.specs.Acts.{Stream, did}
 use Rattle.vehicle_core.specs.Replies.{AreRepliesOf}
-use Rattle.vehicle_node.specs.Frames.{deliveries}
+use Rattle.vehicle_runs.specs.Frames.{deliveries}
+use Rattle.vehicle_runs.proofs.Orders.{did_arms, did_needs}
 use Rattle.vehicle_node.specs.Steps.Inside.{view_of}
 use Rattle.vehicle_node.proofs.ActAnswers.{act_of}
 use Rattle.vehicle_node.proofs.Fitting.{fits_act, quiet_room, quiet_over, quiet_index, indexed_inside}
-use Rattle.vehicle_node.proofs.Orders.{did_arms, did_needs}
 use Rattle.vehicle_node.proofs.StationsTold.{act_told, replies_inside, stream_writes}
 use Rattle.vehicle_node.proofs.Node.stream.Goals as goal
 

@@ -1,6 +1,6 @@
 use Rattle.std.proofs.Common.{◌+◌, sym, subst, take, arith, Ok}
 use Rattle.vehicle_core.specs.Acts.{Stream}
-use Rattle.vehicle_node.specs.Reading.{streams}
+use Rattle.vehicle_runs.specs.Reading.{streams}
 use Rattle.vehicle_node.specs.Standing.{Node, Fits}
 use Rattle.vehicle_node.specs.Steps.Calls.{Keeps, OfAnswer}
 use Rattle.vehicle_node.specs.Steps.Hearing.{ActsDone}

@@ -1,5 +1,5 @@
 use Rattle.std.proofs.Common.{take, Ok}
-use Rattle.vehicle_node.specs.Reading.{streams}
+use Rattle.vehicle_runs.specs.Reading.{streams}
 use Rattle.vehicle_node.specs.Standing.{Fits}
 use Rattle.vehicle_node.specs.Steps.Calls.{Keeps, OfAnswer}
 use Rattle.vehicle_node.specs.Steps.Hearing.{ActsDone}

@@ -1,5 +1,0 @@
-use Rattle.vehicle_node.proofs.BootLaws.{boot_formats}
-use Rattle.vehicle_node.proofs.laws.boot_formats.Goals as goal
-
-pub returns : goal.returns
-returns c = boot_formats
