@@ -6,11 +6,10 @@ ghost use Rattle.std.specs.Prelude.{◌≡◌, ◌⊎◌, ◌+◌, ◌*◌, ◌<
 ghost use Rattle.std.specs.Prelude.{IsFalse, IsOk, IfOk, IfErr, OnOk, OnErr, IsErrOf};
 ghost use Rattle.flash_traits.specs.Budget.{line_bytes};
 ghost use Rattle.flash_traits.specs.declared.numbers.TheConstants.{GUARD_HALFWORDS};
-ghost use Rattle.flash_traits.specs.declared.board.Fault.{Fault};
 ghost use Rattle.flash_traits.specs.declared.board.Fault.TheVariants.{Read, Flash};
 ghost use Rattle.flash_traits.specs.Losses.{ByResult};
 ghost use Rattle.flash_traits.specs.Calls.{Changes, ErasesNothing};
-ghost use Rattle.flash_traits.specs.Causes.{Rose};
+ghost use Rattle.flash_traits.specs.Causes.{counts_after, told_by};
 ghost use Rattle.flash_traits.specs.Counts.{raised_by};
 ghost use Rattle.storage_lines.specs.declared.lines.TheConstants.{STORAGE_BYTES};
 ghost use Rattle.storage_lines.specs.Lines.{after};
@@ -25,7 +24,7 @@ ghost use Rattle.block_store.specs.Store.{is_spent, guard_of, guard_ahead, room_
 ghost use Rattle.block_store.specs.Store.{spare_of, home_free, switch_leaves, OnHome, entry_bytes};
 ghost use Rattle.block_store.specs.Store.{lacks_room, Voids, raise};
 ghost use Rattle.block_store.specs.Losses.{PutsLines, MayPutLines};
-ghost use Rattle.block_store.specs.Refusals.{OnMemory, OnOpenFault, OnOpenForeign, OnOpenWorn};
+ghost use Rattle.block_store.specs.Refusals.{OnMemory, OnOpenFault, OnOpenForeign, OnOpenWorn, open_fault_in, put_fault_in};
 ghost use Rattle.block_store.specs.Refusals.{OnFault, OnWorn, OnNoRoom, OnSpending};
 ghost use Rattle.block_store.specs.Refusals.{OpenLeavesAlone, IsWorn, IsWornWith};
 
@@ -205,9 +204,9 @@ impl BlockStore {
             → IsTrue (is_due reading) → count_in reading ≡ GUARD_HALFWORDS → IfOk result (λ _. ⊥) }
 
         ensures memory { IfErr result (λ e. OnMemory e (board.new ≡ board.old)) }
-        ensures fault { IfErr result (λ e. OnOpenFault e (λ kind. (kind ≡ Read ⊎ kind ≡ Flash)
-            × Rose (B.faults board.old kind) (B.faults board.new kind))) }
-        ensures counts { (k : Fault) → B.faults board.old k ≤ B.faults board.new k }
+        ensures fault { IfErr result (λ e. OnOpenFault e (λ kind. kind ≡ Read ⊎ kind ≡ Flash)) }
+        ensures counts { B.faults board.new
+            ≡ counts_after (told_by open_fault_in result) (B.faults board.old) }
         ensures erases_once { (B.moment board.new).erases
             ≤ raised_by 1 (B.moment board.old).erases }
     {
@@ -317,9 +316,9 @@ impl BlockStore {
             → IfOk result (λ _. ⊥) }
 
         ensures spent { IfErr result (λ e. OnSpending e (IsTrue (is_spent self.new))) }
-        ensures fault { IfErr result (λ e. OnFault e (λ kind. (kind ≡ Read ⊎ kind ≡ Flash)
-            × Rose (B.faults board.old kind) (B.faults board.new kind))) }
-        ensures counts { (k : Fault) → B.faults board.old k ≤ B.faults board.new k }
+        ensures fault { IfErr result (λ e. OnFault e (λ kind. kind ≡ Read ⊎ kind ≡ Flash)) }
+        ensures counts { B.faults board.new
+            ≡ counts_after (told_by put_fault_in result) (B.faults board.old) }
         ensures erases_once { (B.moment board.new).erases
             ≤ raised_by 1 (B.moment board.old).erases }
     {
@@ -364,9 +363,9 @@ impl BlockStore {
             → IfOk result (λ _. ⊥) }
 
         ensures spent { OnErr result (IsTrue (is_spent self.new)) }
-        ensures fault { IfErr result (λ e. OnFault e (λ kind. (kind ≡ Read ⊎ kind ≡ Flash)
-            × Rose (B.faults board.old kind) (B.faults board.new kind))) }
-        ensures counts { (k : Fault) → B.faults board.old k ≤ B.faults board.new k }
+        ensures fault { IfErr result (λ e. OnFault e (λ kind. kind ≡ Read ⊎ kind ≡ Flash)) }
+        ensures counts { B.faults board.new
+            ≡ counts_after (told_by put_fault_in result) (B.faults board.old) }
         ensures erases_once { (B.moment board.new).erases
             ≤ raised_by 1 (B.moment board.old).erases }
     {

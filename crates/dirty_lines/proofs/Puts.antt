@@ -235,7 +235,7 @@ module _ {B : Type 0} (g : Ghosts B) (reads : (b : B) (o : Outcome) → g.now b 
     changes = changes_then xs ys old.pending mid.pending first.wrote.cut first.changes second.changes;
     erases = λ is. chained_erases_nothing g (first.erases is) (second.erases is);
     erased = then_raised (g.moment a).erases (g.moment b).erases (g.moment c).erases (length xs) (length ys) (length (xs ++ ys)) (length-append xs ys) first.erased second.erased;
-    counts = λ k. omega (arith, first.counts k, second.counts k);
+    counts = second.counts ∙ first.counts;
   }
 
   pub put_none : (a : B) (armed : Bool) (lines : Lines) → Fits g a lines.store → HasPutEntries g armed [] lines lines a a
@@ -248,7 +248,7 @@ module _ {B : Type 0} (g : Ghosts B) (reads : (b : B) (o : Outcome) → g.now b 
     changes = started_words g reads a (MayPutFirst lines.pending) (PutsLines 0 []) (λ t. record { bytes = λ b is. is; guard = raises_none 0 (g.words a).guard (g.words a).guard refl });
     erases = λ is. record { erases = refl };
     erased = omega arith;
-    counts = λ k. omega arith;
+    counts = refl;
   }
 
   -- an entry that is put
@@ -262,7 +262,7 @@ module _ {B : Type 0} (g : Ghosts B) (reads : (b : B) (o : Outcome) → g.now b 
       → (armed ≡ false → IsTrue (lacks_room store entry) → switch_leaves store ≤ room_of next + entry_bytes entry)
       → (armed ≡ true → IsTrue (is_spilled store) → room_of store < entry_bytes entry → ⊥)
       → Changes g a b (MayPutLines (raise armed store entry) entry) (PutsLines (raise armed store entry) entry)
-      → (raise armed store entry ≡ 0 → ErasesNothing g a b) → (g.moment b).erases ≤ raised_by 1 (g.moment a).erases → ((k : Fault) → g.faults a k ≤ g.faults b k)
+      → (raise armed store entry ≡ 0 → ErasesNothing g a b) → (g.moment b).erases ≤ raised_by 1 (g.moment a).erases → g.faults b ≡ g.faults a
       → HasPutEntries g armed (entry ∷ []) (lines_of store items) (lines_of next rest) a b
   one_put {a} {b} armed entry behind items rest store next was whole longest rest_is fits durable alone guard ahead free spare stays spills used_up copied exceeds changes erases erased counts =
       let most : raise armed store entry ≤ 2 = raise_most armed store entry in

@@ -3,11 +3,10 @@
 
 ghost use Rattle.std.specs.Prelude.{◌≡◌, ◌⊎◌, ◌+◌, ◌*◌, ◌<◌, ◌≤◌, ◌↔◌, ◌++◌, [], ◌∷◌, List, length, true, false, IsTrue, IsFalse, IsOk, IsErr, IfOk, IfErr, OnOk, OnErr};
 ghost use Rattle.flash_traits.specs.declared.numbers.TheConstants.{GUARD_HALFWORDS};
-ghost use Rattle.flash_traits.specs.declared.board.Fault.{Fault};
 ghost use Rattle.flash_traits.specs.declared.board.Fault.TheVariants.{Read, Flash};
 ghost use Rattle.flash_traits.specs.Losses.{ByResult};
 ghost use Rattle.flash_traits.specs.Calls.{Changes, ErasesNothing};
-ghost use Rattle.flash_traits.specs.Causes.{Rose};
+ghost use Rattle.flash_traits.specs.Causes.{counts_after, told_by};
 ghost use Rattle.flash_traits.specs.Counts.{raised_by};
 ghost use Rattle.storage_lines.specs.declared.lines.LineWrite.{LineWrite};
 ghost use Rattle.storage_lines.specs.declared.lines.TheConstants.{STORAGE_BYTES};
@@ -17,7 +16,7 @@ ghost use Rattle.sector_image.specs.Losses.{KeepsBytes};
 ghost use Rattle.sector_switch.specs.States.{CanServe, HomeAfter};
 ghost use Rattle.block_store.specs.declared.PutError.TheVariants.{NoRoom};
 ghost use Rattle.block_store.specs.Store.{Store, Fits, durable_of, is_alone, is_spilled, is_spent, guard_of, guard_ahead, room_of, home_free, switch_leaves, OnHome};
-ghost use Rattle.block_store.specs.Refusals.{OnMemory, OnOpenFault, OnOpenForeign, OnOpenWorn, OnFault, OnWorn, OnNoRoom, OnSpending, OpenLeavesAlone, IsWorn, IsWornWith};
+ghost use Rattle.block_store.specs.Refusals.{OnMemory, OnOpenFault, open_fault_in, put_fault_in, OnOpenForeign, OnOpenWorn, OnFault, OnWorn, OnNoRoom, OnSpending, OpenLeavesAlone, IsWorn, IsWornWith};
 ghost use Rattle.dirty_lines.specs.Lines.{Lines, lines_of, current_of};
 ghost use Rattle.storage_lines.specs.Bytes.{AreInside};
 ghost use Rattle.dirty_lines.specs.Entries.{Wrote, IsFewest, CutIntoEntries, joined};
@@ -38,6 +37,11 @@ use thiserror::Error;
 
 /// The most pending lines.
 pub const PENDING_LINES: usize = 2048;
+
+/// The limit has this number.
+pub fn limits()
+    ensures { PENDING_LINES ≡ 2048 }
+{}
 
 /// The lines would not fit behind those that are pending.
 #[derive(Clone, Copy, Debug, PartialEq, Eq, Drop, Error)]
@@ -106,9 +110,9 @@ impl DirtyLines {
             → IsTrue (is_due reading) → count_in reading ≡ GUARD_HALFWORDS → IfOk result (λ _. ⊥) }
 
         ensures memory { IfErr result (λ e. OnMemory e (board.new ≡ board.old)) }
-        ensures fault { IfErr result (λ e. OnOpenFault e (λ kind. (kind ≡ Read ⊎ kind ≡ Flash)
-            × Rose (B.faults board.old kind) (B.faults board.new kind))) }
-        ensures counts { (k : Fault) → B.faults board.old k ≤ B.faults board.new k }
+        ensures fault { IfErr result (λ e. OnOpenFault e (λ kind. kind ≡ Read ⊎ kind ≡ Flash)) }
+        ensures counts { B.faults board.new
+            ≡ counts_after (told_by open_fault_in result) (B.faults board.old) }
         ensures erases_once { (B.moment board.new).erases
             ≤ raised_by 1 (B.moment board.old).erases }
     {
@@ -216,9 +220,9 @@ impl DirtyLines {
             → guard_of self.old.store ≡ GUARD_HALFWORDS → 0 < n → IfOk result (λ _. ⊥) }
 
         ensures spent { IfErr result (λ e. OnSpending e (IsTrue (is_spent self.new.store))) }
-        ensures fault { IfErr result (λ e. OnFault e (λ kind. (kind ≡ Read ⊎ kind ≡ Flash)
-            × Rose (B.faults board.old kind) (B.faults board.new kind))) }
-        ensures counts { (k : Fault) → B.faults board.old k ≤ B.faults board.new k }
+        ensures fault { IfErr result (λ e. OnFault e (λ kind. kind ≡ Read ⊎ kind ≡ Flash)) }
+        ensures counts { B.faults board.new
+            ≡ counts_after (told_by put_fault_in result) (B.faults board.old) }
     {
         let mut left = n;
         while left > 0 && !self.pending.is_empty() {
@@ -256,9 +260,9 @@ impl DirtyLines {
         ensures worn_due { IfErr result (λ e. OnWorn e
             (λ count. IsWornAt B.Board board.new armed self.old.store self.new)) }
         ensures spent { IfErr result (λ e. OnSpending e (IsTrue (is_spent self.new.store))) }
-        ensures fault { IfErr result (λ e. OnFault e (λ kind. (kind ≡ Read ⊎ kind ≡ Flash)
-            × Rose (B.faults board.old kind) (B.faults board.new kind))) }
-        ensures counts { (k : Fault) → B.faults board.old k ≤ B.faults board.new k }
+        ensures fault { IfErr result (λ e. OnFault e (λ kind. kind ≡ Read ⊎ kind ≡ Flash)) }
+        ensures counts { B.faults board.new
+            ≡ counts_after (told_by put_fault_in result) (B.faults board.old) }
     {
         let entry = longest_run(&self.pending);
         self.store.put(board, entry.as_slice(), armed)?;
@@ -294,9 +298,9 @@ impl DirtyLines {
             → IfOk result (λ _. ⊥) }
 
         ensures spent { OnErr result (IsTrue (is_spent self.new.store)) }
-        ensures fault { IfErr result (λ e. OnFault e (λ kind. (kind ≡ Read ⊎ kind ≡ Flash)
-            × Rose (B.faults board.old kind) (B.faults board.new kind))) }
-        ensures counts { (k : Fault) → B.faults board.old k ≤ B.faults board.new k }
+        ensures fault { IfErr result (λ e. OnFault e (λ kind. kind ≡ Read ⊎ kind ≡ Flash)) }
+        ensures counts { B.faults board.new
+            ≡ counts_after (told_by put_fault_in result) (B.faults board.old) }
         ensures erases_once { (B.moment board.new).erases
             ≤ raised_by 1 (B.moment board.old).erases }
     {

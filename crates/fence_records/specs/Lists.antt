@@ -168,6 +168,13 @@ FencesAreReplaced = (bytes : List ℕ) (items : List FenceItem) (ws : List LineW
     → length bytes ≡ STORAGE_BYTES → AreFenceItems items
     → replace_writes bytes items ≡ Ok ws → fence_of (after bytes ws) ≡ items
 
+-- after the first j of the lines that write a fence it is the old one, none, or the new one
+abbrev pub IsReplacedInSteps : List ℕ → List LineWrite → ℕ → Type 0
+IsReplacedInSteps bytes ws j =
+    (fence_of (after bytes (take j ws)) ≡ fence_of bytes)
+    ⊎ ((fence_of (after bytes (take j ws)) ≡ [])
+    ⊎ (fence_of (after bytes (take j ws)) ≡ fence_of (after bytes ws)))
+
 -- After each number of the lines that clear a fence or write one it is the old fence, none, or the
 -- new one; after all that clear it, it is none.
 pub record FencesInSteps : Type 0 where
@@ -178,6 +185,4 @@ pub record FencesInSteps : Type 0 where
       ⊎ (fence_of (after bytes (take j (clear_fence_writes bytes))) ≡ [])
   pub replaces : (bytes : List ℕ) (items : List FenceItem) (ws : List LineWrite) (j : ℕ)
       → length bytes ≡ STORAGE_BYTES → replace_writes bytes items ≡ Ok ws
-      → (fence_of (after bytes (take j ws)) ≡ fence_of bytes)
-      ⊎ ((fence_of (after bytes (take j ws)) ≡ [])
-      ⊎ (fence_of (after bytes (take j ws)) ≡ fence_of (after bytes ws)))
+      → IsReplacedInSteps bytes ws j

@@ -1,7 +1,8 @@
 //! The writes that replace the stored fence, or clear it: the first line goes last.
 
 ghost use Rattle.std.specs.Prelude.{◌≡◌, ◌==◌, ◌+◌, ◌*◌, ◌<◌, ◌≤◌, ◌++◌, [], ◌∷◌, ℕ, List, length};
-ghost use Rattle.std.specs.Prelude.{map, flat_map, MatchBool, MatchOption, MatchResult, OnErr};
+ghost use Rattle.std.specs.Prelude.{map, drop, flat_map, MatchBool, MatchOption, MatchResult};
+ghost use Rattle.std.specs.Prelude.{OnOk, OnErr};
 ghost use Rattle.std.specs.Prelude.{Some, Ok, Err};
 ghost use Rattle.arrayvec.specs.ArrayVec.{array_vec_len};
 ghost use Rattle.storage_lines.specs.declared.areas.Area.TheVariants.{Fence};
@@ -16,11 +17,13 @@ ghost use Rattle.fence_records.specs.Fence.{Figure, ReturnPoint, Round, Polygon,
 ghost use Rattle.fence_records.specs.Fence.{point_bytes};
 ghost use Rattle.fence_records.specs.Write.{encoded, fence_writes};
 ghost use Rattle.fence_records.specs.Lists.{point, figure_at, figures_of, replace_writes};
-ghost use Rattle.fence_records.specs.Lists.{clear_fence_writes};
+ghost use Rattle.fence_records.specs.Lists.{clear_fence_writes, fence_of, AreFenceItems, IsReplacedInSteps};
+ghost use Rattle.storage_lines.specs.Bytes.{HaveBytes, AreInside};
 
 use crate::FENCE_BYTES;
 use crate::cut::run_length;
 use crate::items::{FenceItem, Kind, kind_of};
+use crate::laws::{fences_are_replaced, fences_in_steps};
 use arrayvec::ArrayVec;
 use storage_lines::numbers::{push_number, unsigned};
 use storage_lines::{Area, Batch, SplitError, split};
@@ -174,8 +177,11 @@ fn put(at: u16, bytes: &[u8], current: &[u8], batch: &mut Batch)
     requires room { array_vec_len batch.old
         + length (writes_of_piece Fence at bytes.now (after current.now batch.old.items))
         ≤ BATCH_LINES }
-    ensures { batch.new.items ≡ batch.old.items
+    ensures writes { batch.new.items ≡ batch.old.items
         ++ writes_of_piece Fence at bytes.now (after current.now batch.old.items) }
+    ensures few { array_vec_len batch.new ≤ array_vec_len batch.old + length bytes.now }
+    ensures inside { AreInside batch.old.items → AreInside batch.new.items }
+    ensures bytes { HaveBytes batch.old.items → HaveBytes batch.new.items }
 {
     match split(Area::Fence, at, bytes, current, batch) {
         Ok(()) => {}
@@ -194,7 +200,14 @@ pub fn write(current: &[u8], items: &[FenceItem], batch: &mut Batch) -> Result<(
         (λ _. replace_writes current.now items.now ≡ Ok batch.new.items)
         (λ e. (e ≡ 4) × (replace_writes current.now items.now ≡ Err 4)) }
     ensures unchanged { OnErr result (batch.new.items ≡ batch.old.items) }
+    ensures steps { OnOk result ((j : ℕ) → IsReplacedInSteps current.now batch.new.items j) }
+    ensures replaced { AreFenceItems items.now
+        → OnOk result (fence_of (after current.now batch.new.items) ≡ items.now) }
+    ensures inside { AreInside batch.new.items }
+    ensures bytes { HaveBytes batch.new.items }
 {
+    fences_in_steps();
+    fences_are_replaced();
     match encode(items) {
         Some(bytes) => {
             put_encoded(&bytes, current, batch);
@@ -210,7 +223,9 @@ fn put_encoded(bytes: &[u8], current: &[u8], batch: &mut Batch)
     requires size { length current.now ≡ STORAGE_BYTES }
     requires fits { length bytes.now ≤ FENCE_BYTES }
     requires empty { batch.old.items ≡ [] }
-    ensures { batch.new.items ≡ fence_writes bytes.now current.now }
+    ensures writes { batch.new.items ≡ fence_writes bytes.now current.now }
+    ensures inside { AreInside batch.new.items }
+    ensures bytes { HaveBytes batch.new.items }
 {
     let head = bytes.len().min(8);
     put(0, &[0xEB, 0, 0, 0, 99], current, batch);
@@ -222,8 +237,14 @@ fn put_encoded(bytes: &[u8], current: &[u8], batch: &mut Batch)
 pub fn clear(current: &[u8], batch: &mut Batch)
     requires size { length current.now ≡ STORAGE_BYTES }
     requires room { array_vec_len batch.old + 1 ≤ BATCH_LINES }
-    ensures { batch.new.items ≡
+    ensures writes { batch.new.items ≡
         batch.old.items ++ clear_fence_writes (after current.now batch.old.items) }
+    ensures cleared { length (after current.now batch.old.items) ≡ STORAGE_BYTES
+        → fence_of (after (after current.now batch.old.items)
+        (drop (array_vec_len batch.old) batch.new.items)) ≡ [] }
+    ensures inside { AreInside batch.old.items → AreInside batch.new.items }
+    ensures bytes { HaveBytes batch.old.items → HaveBytes batch.new.items }
 {
+    fences_in_steps();
     put(0, &[0xEB, 0, 0, 0, 99], current, batch);
 }

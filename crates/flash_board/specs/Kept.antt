@@ -5,8 +5,6 @@ use Rattle.flash_traits.specs.Words.{IsSectorSize, HasShape}
 use Rattle.flash_traits.specs.Losses.{SentFrame, sent_frame, Moment, Outcome}
 use Rattle.flash_board.specs.Flash.{words_of}
 use Rattle.flash_board.specs.Record.{replayed, moment_after}
-use Rattle.flash_traits.specs.declared.board.Fault.{Fault}
-use Rattle.flash_traits.specs.declared.board.Fault.TheVariants as kind
 use Rattle.flash_board.specs.declared.flash.Flash.{Flash}
 use Rattle.flash_board.specs.declared.record.Feed.{Feed}
 use Rattle.flash_board.specs.declared.record.Feed.TheVariants as fed
@@ -23,14 +21,6 @@ moment_of c = record {
   receptions = c.receptions;
   sendings = c.sendings;
 }
-
--- how often calls of this kind have failed
-abbrev pub fault_count : Faults → Fault → ℕ
-fault_count f kind.Attach = f.attach
-fault_count f kind.Read = f.read
-fault_count f kind.Flash = f.flash
-fault_count f kind.Recv = f.recv
-fault_count f kind.Send = f.send
 
 -- how the board stood at its attach
 abbrev pub outcome_at_attach : Flash → Outcome

@@ -114,12 +114,12 @@ impl Board for MemBoard {
     ghost use Rattle.flash_traits.specs.Losses.{Received, received, SentFrame, sent_frame, IsEventInRange, Moment, after_program, after_erase, after_recv, after_send, Outcome, Receives, Sends, Unchanged, Either, ByResult, OnWords, KeepsWords};
     ghost use Rattle.flash_traits.specs.Counts.{raised};
     ghost use Rattle.flash_traits.specs.Calls.{Changes, Passes, MayHaveLeft};
-    ghost use Rattle.flash_traits.specs.Causes.{HasCause};
+    ghost use Rattle.flash_traits.specs.Causes.{HasCause, counts_by_kind};
     ghost use Rattle.flash_board.specs.Flash.{words_of, half_erased};
-    ghost use Rattle.flash_board.specs.Kept.{moment_of, fault_count};
+    ghost use Rattle.flash_board.specs.Kept.{moment_of};
     ghost use Rattle.flash_board.specs.MemoryLaws.{Now, Left, HasLists, reads_now, counts_left, only_left, shape_now};
     ghost use Rattle.flash_board.specs.Holdings.{noted, fed, sent_on, newly_attached, next_event};
-    ghost use Rattle.flash_board.specs.Numbers.{is_among, CountsKind};
+    ghost use Rattle.flash_board.specs.Numbers.{is_among};
     ghost use Rattle.flash_board.specs.OfMemBoard.{device, holdings, failing_calls, next_call};
 
     ghost sector_bytes = { λ m. m.memory.sector_bytes };
@@ -136,7 +136,8 @@ impl Board for MemBoard {
 
     ghost left = { λ m. Left m.memory };
 
-    ghost faults = { λ m. fault_count m.faults };
+    ghost faults = { λ m. counts_by_kind m.faults.attach m.faults.read m.faults.flash m.faults.recv
+        m.faults.send };
 
     ghost reads = { λ m. reads_now m.memory };
 
@@ -146,6 +147,7 @@ impl Board for MemBoard {
 
     ghost shape = { λ m told. shape_now m.memory };
 
+    #[tactic(auto, using(flash_traits::proofs::Counting::raised_attach))]
     fn attach(&mut self, _name: &str, _port: u16, make: Option<u32>) -> Result<Geometry, Failed>
         requires { ForSome make IsSectorSize }
         ensures geometry { IfOk result (λ geometry. (⟦<MemBoard as Board>⟧.sector_bytes self.new
@@ -166,8 +168,6 @@ impl Board for MemBoard {
         ensures moment { ⟦<MemBoard as Board>⟧.moment self.new
             ≡ ⟦<MemBoard as Board>⟧.moment self.old }
         ensures cause { HasCause Fault.Attach (⟦<MemBoard as Board>⟧.faults self.old)
-            (⟦<MemBoard as Board>⟧.faults self.new) result }
-        ensures counts { CountsKind Fault.Attach (⟦<MemBoard as Board>⟧.faults self.old)
             (⟦<MemBoard as Board>⟧.faults self.new) result }
         ensures fails { IsErr result ↔ IsTrue (is_among (failing_calls self.old) (next_call
             self.old)) ⊎ ((make ≡ None) × (is_size (holdings self.old).image_size ≡ false)) }
@@ -195,6 +195,7 @@ impl Board for MemBoard {
         }
     }
 
+    #[tactic(auto, using(flash_traits::proofs::Counting::raised_read))]
     fn read(&mut self, region: Region, at: u32) -> Result<u16, Failed>
         requires attached { IsSectorSize (⟦<MemBoard as Board>⟧.sector_bytes self.old) }
         requires inside { at < region_length (⟦<MemBoard as Board>⟧.sector_bytes self.old) region }
@@ -206,8 +207,6 @@ impl Board for MemBoard {
         ensures moment { ⟦<MemBoard as Board>⟧.moment self.new
             ≡ ⟦<MemBoard as Board>⟧.moment self.old }
         ensures cause { HasCause Fault.Read (⟦<MemBoard as Board>⟧.faults self.old)
-            (⟦<MemBoard as Board>⟧.faults self.new) result }
-        ensures counts { CountsKind Fault.Read (⟦<MemBoard as Board>⟧.faults self.old)
             (⟦<MemBoard as Board>⟧.faults self.new) result }
         ensures fails { IsErr result ↔ IsTrue (is_among (failing_calls self.old) (next_call
             self.old)) }
@@ -224,6 +223,7 @@ impl Board for MemBoard {
         Ok(self.memory.image.halfword(region, at as usize))
     }
 
+    #[tactic(auto, using(flash_traits::proofs::Counting::raised_flash))]
     fn program(&mut self, region: Region, at: u32, word: u16) -> Result<(), Failed>
         requires attached { IsSectorSize (⟦<MemBoard as Board>⟧.sector_bytes self.old) }
         requires inside { at < region_length (⟦<MemBoard as Board>⟧.sector_bytes self.old) region }
@@ -235,8 +235,6 @@ impl Board for MemBoard {
         ensures moment { ⟦<MemBoard as Board>⟧.moment self.new
             ≡ after_program (⟦<MemBoard as Board>⟧.moment self.old) }
         ensures cause { HasCause Fault.Flash (⟦<MemBoard as Board>⟧.faults self.old)
-            (⟦<MemBoard as Board>⟧.faults self.new) result }
-        ensures counts { CountsKind Fault.Flash (⟦<MemBoard as Board>⟧.faults self.old)
             (⟦<MemBoard as Board>⟧.faults self.new) result }
         ensures fails { IsErr result ↔ IsTrue (is_among (failing_calls self.old) (next_call
             self.old)) }
@@ -261,6 +259,7 @@ impl Board for MemBoard {
         Ok(())
     }
 
+    #[tactic(auto, using(flash_traits::proofs::Counting::raised_flash))]
     fn erase(&mut self, region: Region) -> Result<(), Failed>
         requires attached { IsSectorSize (⟦<MemBoard as Board>⟧.sector_bytes self.old) }
         requires sector { IsSectorRegion region }
@@ -271,8 +270,6 @@ impl Board for MemBoard {
         ensures moment { ⟦<MemBoard as Board>⟧.moment self.new
             ≡ after_erase (⟦<MemBoard as Board>⟧.moment self.old) }
         ensures cause { HasCause Fault.Flash (⟦<MemBoard as Board>⟧.faults self.old)
-            (⟦<MemBoard as Board>⟧.faults self.new) result }
-        ensures counts { CountsKind Fault.Flash (⟦<MemBoard as Board>⟧.faults self.old)
             (⟦<MemBoard as Board>⟧.faults self.new) result }
         ensures fails { IsErr result ↔ IsTrue (is_among (failing_calls self.old) (next_call
             self.old)) }
@@ -297,6 +294,7 @@ impl Board for MemBoard {
         Ok(())
     }
 
+    #[tactic(auto, using(flash_traits::proofs::Counting::raised_recv))]
     fn recv(&mut self, into: &mut [u8]) -> Result<Event, Failed>
         requires attached { IsSectorSize (⟦<MemBoard as Board>⟧.sector_bytes self.old) }
         requires room { length into.old ≡ 2048 }
@@ -317,8 +315,6 @@ impl Board for MemBoard {
         ensures moment { ⟦<MemBoard as Board>⟧.moment self.new
             ≡ after_recv (⟦<MemBoard as Board>⟧.moment self.old) }
         ensures cause { HasCause Fault.Recv (⟦<MemBoard as Board>⟧.faults self.old)
-            (⟦<MemBoard as Board>⟧.faults self.new) result }
-        ensures counts { CountsKind Fault.Recv (⟦<MemBoard as Board>⟧.faults self.old)
             (⟦<MemBoard as Board>⟧.faults self.new) result }
         ensures fails { IsErr result ↔ IsTrue (is_among (failing_calls self.old) (next_call
             self.old)) }
@@ -343,6 +339,7 @@ impl Board for MemBoard {
         Ok(self.memory.recv(into))
     }
 
+    #[tactic(auto, using(flash_traits::proofs::Counting::raised_send))]
     fn send(&mut self, peer: u8, bytes: &[u8]) -> Result<(), Failed>
         requires attached { IsSectorSize (⟦<MemBoard as Board>⟧.sector_bytes self.old) }
         requires some { 1 ≤ length bytes.now }
@@ -364,8 +361,6 @@ impl Board for MemBoard {
         ensures moment { ⟦<MemBoard as Board>⟧.moment self.new
             ≡ after_send (⟦<MemBoard as Board>⟧.moment self.old) }
         ensures cause { HasCause Fault.Send (⟦<MemBoard as Board>⟧.faults self.old)
-            (⟦<MemBoard as Board>⟧.faults self.new) result }
-        ensures counts { CountsKind Fault.Send (⟦<MemBoard as Board>⟧.faults self.old)
             (⟦<MemBoard as Board>⟧.faults self.new) result }
         ensures fails { IsErr result ↔ IsTrue (is_among (failing_calls self.old) (next_call
             self.old)) }

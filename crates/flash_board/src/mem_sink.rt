@@ -55,7 +55,7 @@ impl Sink for MemSink {
     ghost use Rattle.std.specs.Prelude.{◌≡◌, ◌↔◌, ◌≤◌, ◌<◌, ◌+◌, ◌++◌, ℕ, true, length, take, IsOk, IsErr, IsTrue, OnOk, OnErr, MatchResult, Ok, Err};
     ghost use Rattle.flash_traits.specs.Causes.{HasOneCause};
     ghost use Rattle.flash_board.specs.OfMemSink.{failing_calls, next_call, capacity_of};
-    ghost use Rattle.flash_board.specs.Numbers.{is_among, CountsFault};
+    ghost use Rattle.flash_board.specs.Numbers.{is_among};
     ghost use Rattle.flash_traits.specs.Counts.{raised};
 
     ghost tells_written = { λ s. s.output.told ≡ true };
@@ -72,8 +72,6 @@ impl Sink for MemSink {
             (λ _. (count : ℕ) × (⟦<MemSink as Sink>⟧.written self.new
             ≡ ⟦<MemSink as Sink>⟧.written self.old ++ take count from.now)) }
         ensures cause { HasOneCause (⟦<MemSink as Sink>⟧.faults self.old)
-            (⟦<MemSink as Sink>⟧.faults self.new) result }
-        ensures counts { CountsFault (⟦<MemSink as Sink>⟧.faults self.old)
             (⟦<MemSink as Sink>⟧.faults self.new) result }
         ensures fails { IsErr result ↔ IsTrue (is_among (failing_calls self.old) (next_call
             self.old)) }

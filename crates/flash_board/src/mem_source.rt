@@ -47,7 +47,7 @@ impl Source for MemSource {
     ghost use Rattle.std.specs.Prelude.{◌≡◌, ◌≢◌, ◌↔◌, ◌≤◌, ◌++◌, [], min, length, take, IfOk, IsOk, IsErr, IsTrue, MatchResult, Ok, Err};
     ghost use Rattle.flash_traits.specs.Causes.{HasOneCause};
     ghost use Rattle.flash_board.specs.Streams.{given_of, rest_of};
-    ghost use Rattle.flash_board.specs.Numbers.{is_among, CountsFault};
+    ghost use Rattle.flash_board.specs.Numbers.{is_among};
     ghost use Rattle.flash_traits.specs.Counts.{raised};
     ghost use Rattle.flash_board.specs.OfMemSource.{failing_calls, next_call};
 
@@ -78,8 +78,6 @@ impl Source for MemSource {
         ensures end { ⟦<MemSource as Source>⟧.tells_rest self.new → IfOk result (λ count. count
             ≡ 0 → length into.new ≢ 0 → ⟦<MemSource as Source>⟧.rest self.old ≡ []) }
         ensures cause { HasOneCause (⟦<MemSource as Source>⟧.faults self.old)
-            (⟦<MemSource as Source>⟧.faults self.new) result }
-        ensures counts { CountsFault (⟦<MemSource as Source>⟧.faults self.old)
             (⟦<MemSource as Source>⟧.faults self.new) result }
         ensures fails { IsErr result ↔ IsTrue (is_among (failing_calls self.old) (next_call
             self.old)) }

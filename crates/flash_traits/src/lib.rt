@@ -19,7 +19,7 @@ pub use geometry::{is_sector_size, size_of_image};
 pub use halfwords::{program_halfword, read_halfword};
 pub use numbers::{
     CHUNKS, COPY_BYTES, DATAGRAM_BYTES, ERASED, FRAME_BYTES, GUARD_HALFWORDS, LINES, SIGNATURE,
-    STATIONS,
+    STATIONS, limits,
 };
 pub use pair::program_pair;
 pub use stream::{Sink, Source};

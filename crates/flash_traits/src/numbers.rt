@@ -1,5 +1,7 @@
 //! The sizes and words that the storage and its link have in common.
 
+ghost use Rattle.std.specs.Prelude.{◌≡◌};
+
 /// The lines of the storage, of eight bytes each.
 pub const LINES: u16 = 1_920;
 
@@ -26,3 +28,10 @@ pub const FRAME_BYTES: usize = 280;
 
 /// How many stations the link tells apart.
 pub const STATIONS: u8 = 8;
+
+/// The sizes and words have these numbers.
+pub fn limits()
+    ensures lines { (LINES ≡ 1920) × (CHUNKS ≡ 240) × (COPY_BYTES ≡ 66) × (GUARD_HALFWORDS ≡ 8192) }
+    ensures words { (ERASED ≡ 0xFFFF) × (SIGNATURE ≡ 0x5168) }
+    ensures link { (DATAGRAM_BYTES ≡ 2048) × (FRAME_BYTES ≡ 280) × (STATIONS ≡ 8) }
+{}

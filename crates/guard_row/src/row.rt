@@ -1,16 +1,15 @@
 //! The count that a guard row tells, and the program that makes it the next one.
 ghost use Rattle.std.specs.Prelude.{◌≡◌, ◌≢◌, ◌+◌, ◌<◌, ◌≤◌, ℕ, slice_index, IfOk, OnOk, IfErr};
-ghost use Rattle.flash_traits.specs.declared.board.Fault.{Fault};
 ghost use Rattle.flash_traits.specs.declared.board.Fault.TheVariants.{Read, Flash};
 ghost use Rattle.flash_traits.specs.declared.board.Region.TheVariants.{Guard};
 ghost use Rattle.flash_traits.specs.Words.{IsSectorSize, Same, Programs, ProgramMayLeave};
 ghost use Rattle.flash_traits.specs.Losses.{ByResult, after_program};
 ghost use Rattle.flash_traits.specs.Calls.{Changes, OnlyReads};
 ghost use Rattle.flash_traits.specs.declared.numbers.TheConstants.{ERASED, GUARD_HALFWORDS};
-ghost use Rattle.flash_traits.specs.Causes.{Rose, HasCause, FailsBy};
+ghost use Rattle.flash_traits.specs.Causes.{HasCause, FailsBy, counts_after, told_by};
 ghost use Rattle.guard_row.specs.Row.{IsGuardRow, FirstBad, FirstFrom};
 ghost use Rattle.guard_row.specs.Steps.{Counts, CountMayLeave};
-ghost use Rattle.guard_row.specs.Errors.{OnWord, OnFault};
+ghost use Rattle.guard_row.specs.Errors.{OnWord, OnFault, fault_in};
 
 use flash_traits::{
     Board, ERASED, Fault, GUARD_HALFWORDS, Region, program_halfword, read_halfword,
@@ -64,8 +63,9 @@ fn test_erased<B: Board>(board: &mut B, from: u32) -> Result<(), GuardError>
         → slice_index (B.words board.old).guard k ≡ ERASED) }
     ensures word { IfErr result (λ e. OnWord e (λ place word. B.tells board.new →
         FirstFrom (B.words board.old).guard from place word)) }
-    ensures fault { IfErr result (λ e. OnFault e (λ kind. (kind ≡ Read)
-        × Rose (B.faults board.old Read) (B.faults board.new Read))) }
+    ensures fault { IfErr result (λ e. OnFault e (λ kind. kind ≡ Read)) }
+    ensures counts { B.faults board.new
+        ≡ counts_after (told_by fault_in result) (B.faults board.old) }
     ensures reads { OnlyReads B.Board board.old board.new }
 {
     for at in from..GUARD_HALFWORDS {
@@ -85,9 +85,9 @@ pub fn count<B: Board>(board: &mut B) -> Result<u16, GuardError>
         → IsGuardRow (B.words board.old).guard count) }
     ensures word { IfErr result (λ e. OnWord e (λ place word. B.tells board.new →
         FirstBad (B.words board.old).guard place word)) }
-    ensures fault { IfErr result (λ e. OnFault e (λ kind. (kind ≡ Read)
-        × Rose (B.faults board.old Read) (B.faults board.new Read))) }
-    ensures counts { (k : Fault) → B.faults board.old k ≤ B.faults board.new k }
+    ensures fault { IfErr result (λ e. OnFault e (λ kind. kind ≡ Read)) }
+    ensures counts { B.faults board.new
+        ≡ counts_after (told_by fault_in result) (B.faults board.old) }
     ensures changes { Changes B.Board board.old board.new Same Same }
     ensures keeps_told { B.tells board.old → B.tells board.new }
     ensures moment { B.moment board.new ≡ B.moment board.old }

@@ -1,11 +1,12 @@
 -- Texts that are written one after the other.
-use Rattle.std.proofs.Common.{◌≡◌, ◌≤◌, inl, inr, ℕ, ◌+◌, List, ◌++◌, [], take, length, sym, ◌∙◌, ap, subst, arith, append_assoc}
-use Rattle.std.specs.Prelude.{Result, Ok, Err, OnErr, IsErrAnd, MatchResult}
+use Rattle.std.proofs.Common.{◌≡◌, ◌≤◌, inl, inr, ℕ, ◌+◌, List, ◌++◌, [], take, length, sym, ◌∙◌, ap, subst, arith, append_assoc, refl}
+use Rattle.std.specs.Prelude.{Result, Ok, Err, IsErrAnd, MatchResult}
 use Rattle.std.proofs.lemmas.List.{take_all, take-append-le, append-nil}
 use Rattle.std.proofs.lemmas.Bool.{cases_lt}
 use Rattle.std.proofs.Math.Seq.{take-append_seam, take-append-add}
 use Rattle.flash_traits.specs.declared.stream.Sink.{Ghosts}
-use Rattle.flash_traits.specs.Causes.{Rose, HasOneCause}
+use Rattle.flash_traits.specs.Counts.{raised}
+use Rattle.flash_traits.specs.Causes.{HasOneCause}
 use Rattle.image_report.specs.Writes.{WritesPrefix}
 use Rattle.image_report.specs.Steps.Writes.{Writes}
 
@@ -16,15 +17,12 @@ longer count a b = elim (cases_lt count (length a)) [
   | inr after ↦ (length a, take-append_seam a b ∙ sym (take_all count a (omega arith)))
 ]
 
-rose_later : (a b c : ℕ) → a ≤ b → Rose b c → Rose a c
-rose_later a b c before rose = omega arith
+caused_later : {T E : Type 0} (a b c : ℕ) (r : Result T E) → b ≡ a → HasOneCause b c r → HasOneCause a c r
+caused_later a b c r same cause = subst (λ (n : ℕ). HasOneCause n c r) same cause
 
-rose_on : (a b c : ℕ) → b ≤ c → Rose a b → Rose a c
-rose_on a b c after rose = omega arith
-
-caused_later : {T E : Type 0} (a b c : ℕ) (r : Result T E) → a ≤ b → HasOneCause b c r → HasOneCause a c r
-caused_later a b c (Ok x) before cause = record { later = omega (arith, before, cause.later); failed = tt }
-caused_later a b c (Err e) before cause = record { later = omega (arith, before, cause.later); failed = rose_later a b c before cause.failed }
+caused_still : {T E : Type 0} (a b : ℕ) (r : Result T E) (P : E → Type 0) → IsErrAnd r P → b ≡ raised a → HasOneCause a b r
+caused_still a b (Ok x) P failed cause = absurd failed
+caused_still a b (Err e) P failed cause = cause
 
 module _ {K : Type 0} (g : Ghosts K) where
   wrote_then : {T E : Type 0} (old mid new : List ℕ) (a b : List ℕ) (r : Result T E) → mid ≡ old ++ a
@@ -41,17 +39,13 @@ module _ {K : Type 0} (g : Ghosts K) where
   writes_then old mid new x r a b first second = record {
     told = λ told. first.told (second.told told);
     written = λ told. wrote_then (g.written old) (g.written mid) (g.written new) a b r (first.written (second.told told)) (second.written told);
-    cause = caused_later (g.faults old) (g.faults mid) (g.faults new) r first.cause.later second.cause;
+    cause = caused_later (g.faults old) (g.faults mid) (g.faults new) r first.cause second.cause;
   }
 
   cut : {T E : Type 0} (old new a b : List ℕ) (r : Result T E) (count : ℕ) → IsErrAnd r (λ _. Unit {0}) → new ≡ old ++ take count a
       → MatchResult r (λ _. new ≡ old ++ (a ++ b)) (λ _. (n : ℕ) × (new ≡ old ++ take n (a ++ b)))
   cut old new a b (Ok x) count failed is = absurd failed
   cut old new a b (Err e) count failed is = let more = longer count a b in (more.0, is ∙ ap (λ (l : List ℕ). old ++ l) (sym more.1))
-
-  on_err : {T E : Type 0} (r : Result T E) (P : Type 0) → P → OnErr r P
-  on_err (Ok x) P p = tt
-  on_err (Err e) P p = p
 
   failed_at : {T E : Type 0} (r : Result T E) (P : E → Type 0) → IsErrAnd r P → IsErrAnd r (λ _. Unit {0})
   failed_at (Ok x) P f = f
@@ -62,7 +56,7 @@ module _ {K : Type 0} (g : Ghosts K) where
   writes_cut old new e r P a b failed part = record {
     told = part.told;
     written = λ told. cut (g.written old) (g.written new) a b r (part.written told).0 (failed_at r P failed) (part.written told).1;
-    cause = record { later = part.cause.later; failed = on_err r (Rose (g.faults old) (g.faults new)) part.cause.failed };
+    cause = caused_still (g.faults old) (g.faults new) r P failed part.cause;
   }
 
   -- the same text, said otherwise
@@ -71,7 +65,7 @@ module _ {K : Type 0} (g : Ghosts K) where
 
   -- nothing is written
   pub writes_none : {S F : Type 0} (k : K) (x : S) → Writes {T = S} {E = F} g k k (Ok x) []
-  writes_none k x = record { told = λ told. told; written = λ told. sym (append-nil (g.written k)); cause = record { later = omega arith; failed = tt } }
+  writes_none k x = record { told = λ told. told; written = λ told. sym (append-nil (g.written k)); cause = refl }
 
 -- of the one text, a whole or a prefix was written
 pub part_of_one : {T E : Type 0} (IsText : List ℕ → Type 0) (r : Result T E) (old new text : List ℕ) → ((a b : List ℕ) → IsText a → IsText b → a ≡ b) → IsText text

@@ -1,5 +1,6 @@
 -- What the answers of the calls say.
-use Rattle.std.specs.Prelude.{Result, Ok, Err}
+use Rattle.std.specs.Prelude.{ℕ, Option, Some, None, Result, Ok, Err}
+use Rattle.flash_traits.specs.Counts.{raised}
 use Rattle.flash_traits.specs.declared.board.Fault.{Fault}
 use Rattle.sector_image.specs.FirstBad.{Place, foreign_place}
 use Rattle.image_report.specs.declared.errors.ReportError.{ReportError}
@@ -34,3 +35,22 @@ BeforeOutput _ P = P
 abbrev pub OnceRead : {T : Type 0} → Result T ReportError → Type 0 → Type 0
 OnceRead (Ok done) P = P
 OnceRead (Err e) P = OnOutput e P
+
+-- the fault of the board that an error is, or none
+abbrev pub fault_in : ReportError → Option Fault
+fault_in errors.Memory = None
+fault_in (errors.Fault kind) = Some kind
+fault_in (errors.Foreign region offset word) = None
+fault_in errors.Output = None
+
+-- a sink's count of faults after an error: one higher where the sink failed
+abbrev pub sink_count_at : ReportError → ℕ → ℕ
+sink_count_at errors.Memory before = before
+sink_count_at (errors.Fault kind) before = before
+sink_count_at (errors.Foreign region offset word) before = before
+sink_count_at errors.Output before = raised before
+
+-- the same after a call
+abbrev pub sink_count_after : {T : Type 0} → Result T ReportError → ℕ → ℕ
+sink_count_after (Ok done) before = before
+sink_count_after (Err e) before = sink_count_at e before

@@ -2,13 +2,13 @@
 ghost use Rattle.std.specs.Prelude.{◌≡◌, ◌≤◌, List, ℕ, length, OnOk, IfErr};
 ghost use Rattle.flash_traits.specs.declared.board.Fault.TheVariants.{Read};
 ghost use Rattle.flash_traits.specs.Words.{IsSectorSize};
-ghost use Rattle.flash_traits.specs.Causes.{Rose};
+ghost use Rattle.flash_traits.specs.Causes.{counts_after, told_by};
 ghost use Rattle.sector_log.specs.Storage.{storage_bytes};
 ghost use Rattle.flash_traits.specs.Calls.{OnlyReads};
 ghost use Rattle.sector_image.specs.FirstBad.{Place, FirstBad};
 ghost use Rattle.sector_image.specs.Stands.{Stands};
-ghost use Rattle.image_report.specs.Refusals.{OnForeign, OnFault, OnOutput, OnMemory, BeforeOutput};
-ghost use Rattle.image_report.specs.Refusals.{OnceRead};
+ghost use Rattle.image_report.specs.Refusals.{OnForeign, OnFault, OnMemory, BeforeOutput};
+ghost use Rattle.image_report.specs.Refusals.{OnceRead, fault_in, sink_count_after};
 ghost use Rattle.image_report.specs.Dumps as dumps;
 ghost use Rattle.image_report.specs.Dumps.{IsDump, dump_text, stored_text};
 ghost use Rattle.image_report.specs.Writes.{WritesOne, WritesPrefix};
@@ -106,12 +106,12 @@ pub fn dump<B: Board, K: Sink>(alloc: Global, board: &mut B, out: &mut K) -> Res
     ensures foreign { IfErr result (λ e. OnForeign e (λ place. B.tells board.new
         → FirstBad (B.words board.old) place)) }
 
-    // A fault is told only where its count rose, and want of memory before anything was read or
-    // written.
-    ensures fault { IfErr result (λ e. OnFault e (λ kind. (kind ≡ Read)
-        × Rose (B.faults board.old Read) (B.faults board.new Read))) }
-    ensures output { IfErr result (λ e. OnOutput e (Rose (K.faults out.old) (K.faults out.new))) }
-    ensures counts { K.faults out.old ≤ K.faults out.new }
+    // No count of faults changes that isn't told, and one that is told rises by one. Want of memory
+    // is told before anything was read or written.
+    ensures fault { IfErr result (λ e. OnFault e (λ kind. kind ≡ Read)) }
+    ensures counts { B.faults board.new
+        ≡ counts_after (told_by fault_in result) (B.faults board.old) }
+    ensures output { K.faults out.new ≡ sink_count_after result (K.faults out.old) }
     ensures memory { IfErr result (λ e. OnMemory e (board.new ≡ board.old)) }
     ensures reads { OnlyReads B.Board board.old board.new }
 {

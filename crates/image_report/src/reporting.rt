@@ -2,10 +2,11 @@
 ghost use Rattle.std.specs.Prelude.{◌≡◌, ◌≤◌, ◌+◌, ◌++◌, length, IfOk, OnOk, IfErr};
 ghost use Rattle.flash_traits.specs.declared.board.Fault.TheVariants.{Read};
 ghost use Rattle.flash_traits.specs.Words.{IsSectorSize};
-ghost use Rattle.flash_traits.specs.Causes.{Rose};
+ghost use Rattle.flash_traits.specs.Causes.{counts_after, told_by};
 ghost use Rattle.sector_log.specs.Storage.{storage_bytes};
 ghost use Rattle.flash_traits.specs.Calls.{OnlyReads};
-ghost use Rattle.image_report.specs.Refusals.{OnForeign, OnFault, OnOutput, OnMemory, BeforeOutput};
+ghost use Rattle.image_report.specs.Refusals.{OnForeign, OnFault, OnMemory, BeforeOutput};
+ghost use Rattle.image_report.specs.Refusals.{fault_in, sink_count_after};
 ghost use Rattle.image_report.specs.Reports as reports;
 ghost use Rattle.image_report.specs.Reports.{IsReport, report_text};
 ghost use Rattle.image_report.specs.Writes.{WritesOne, WritesPrefix};
@@ -149,7 +150,7 @@ fn write_report<K: Sink>(out: &mut K, sector_bytes: u32, findings: &Findings) ->
 /// Prints how the parts of an image are, whatever its words: its sector size, the guard row, each
 /// sector judged by itself, and its state. Nothing is programmed.
 ///
-/// The words are read before the first byte is written. Each halfword is read at most five times.
+/// The words are read before the first byte is written.
 pub fn report<B: Board, K: Sink>(
     alloc: Global,
     board: &mut B,
@@ -166,13 +167,13 @@ pub fn report<B: Board, K: Sink>(
     ensures quiet { IfErr result (λ e. BeforeOutput e (out.new ≡ out.old)) }
     ensures told { K.tells_written out.new → K.tells_written out.old }
 
-    // A fault is told only where its count rose, and want of memory before anything was read or
-    // written. No words are refused.
+    // No count of faults changes that isn't told, and one that is told rises by one. Want of memory
+    // is told before anything was read or written. No words are refused.
     ensures never_foreign { IfErr result (λ e. OnForeign e (λ place. ⊥)) }
-    ensures fault { IfErr result (λ e. OnFault e (λ kind. (kind ≡ Read)
-        × Rose (B.faults board.old Read) (B.faults board.new Read))) }
-    ensures output { IfErr result (λ e. OnOutput e (Rose (K.faults out.old) (K.faults out.new))) }
-    ensures counts { K.faults out.old ≤ K.faults out.new }
+    ensures fault { IfErr result (λ e. OnFault e (λ kind. kind ≡ Read)) }
+    ensures counts { B.faults board.new
+        ≡ counts_after (told_by fault_in result) (B.faults board.old) }
+    ensures output { K.faults out.new ≡ sink_count_after result (K.faults out.old) }
     ensures memory { IfErr result (λ e. OnMemory e (board.new ≡ board.old)) }
     ensures reads { OnlyReads B.Board board.old board.new }
 {

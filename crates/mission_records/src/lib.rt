@@ -12,7 +12,7 @@ pub use laws::{
     begins_in_steps, clears_in_steps, formats_in_one_line, others_keep_missions, puts_in_steps,
     sets_no_mission,
 };
-pub use reading::{CAPACITY, TOTAL_INDEX, at, total, total_in_one_line};
+pub use reading::{CAPACITY, TOTAL_INDEX, at, limits, total, total_in_one_line};
 pub use writing::{MISSION_LINES, begin, clear, put};
 
 #[cfg(test)]

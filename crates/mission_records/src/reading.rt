@@ -12,6 +12,11 @@ use storage_lines::{Area, STORAGE_BYTES, read};
 /// How many commands the mission's area has room for.
 pub const CAPACITY: u16 = 308;
 
+/// The limit has this number.
+pub fn limits()
+    ensures { CAPACITY ≡ 308 }
+{}
+
 /// The index of MIS_TOTAL in the vehicle's table.
 pub const TOTAL_INDEX: u16 = 5;
 

@@ -15,7 +15,7 @@ pub use laws::{formats_in_steps, numbers_are_kept, records_are_read, sets_in_ste
 pub use reading::value;
 pub use records::{
     Header, Lookup, MAGIC, PARAM_BYTES, end_place, has_magic, header_at, is_match, look_up, place,
-    size_of,
+    size_of, sizes,
 };
 pub use setting::{SET_LINES, SetError, fresh_value, number_of, set, set_whole, store};
 pub use values::{Value, default_value, value_of};

@@ -12,6 +12,11 @@ use storage_lines::{Area, STORAGE_BYTES, read};
 /// The bytes of the parameter storage.
 pub const PARAM_BYTES: usize = 9728;
 
+/// The size has this number.
+pub fn sizes()
+    ensures { PARAM_BYTES ≡ 9728 }
+{}
+
 /// What the parameter storage begins with.
 pub const MAGIC: [u8; 4] = *b"PA\x06\0";
 

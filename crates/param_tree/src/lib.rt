@@ -10,7 +10,7 @@ ghost use Rattle.param_tree.specs.Rows.{vehicle_rows};
 
 mod rows;
 
-pub use rows::PARAMETERS;
+pub use rows::{PARAMETERS, sizes};
 use std::marker::Model;
 
 /// The type of a stored value.

@@ -365,6 +365,11 @@ fn put(rows: &mut [Var], at: usize, part: &[Var])
 /// How many parameters the vehicle has.
 pub const PARAMETERS: usize = 240;
 
+/// The vehicle has so many parameters.
+pub fn sizes()
+    ensures { PARAMETERS ≡ 240 }
+{}
+
 /// All rows.
 pub(crate) fn vehicle_rows() -> [Var; PARAMETERS]
     ensures { result ≡ vehicle_rows }

@@ -6,8 +6,8 @@ use Rattle.flash_traits.specs.declared.numbers.TheConstants.{GUARD_HALFWORDS}
 use Rattle.guard_row.specs.Row.{IsGuardRow}
 use Rattle.guard_row.proofs.RowLaws.{one_count}
 use Rattle.sector_image.specs.Stands.{Stands, Both, One}
-use Rattle.vehicle_node.specs.Guard.{CountsUpTo, MayWear}
-use Rattle.vehicle_node.specs.Runs.{run_of}
+use Rattle.vehicle_runs.specs.Guard.{CountsUpTo, MayWear}
+use Rattle.vehicle_runs.specs.Runs.{run_of}
 use Rattle.replay.specs.Breaks.{OnWorn}
 use Rattle.replay.specs.Guard.{Issues, raised_over, Rises}
 use Rattle.replay.specs.Histories.{Ran, History, lines_issued}

@@ -6,9 +6,9 @@ use Rattle.flash_traits.specs.declared.numbers.TheConstants.{GUARD_HALFWORDS}
 use Rattle.guard_row.specs.Row.{IsGuardRow}
 use Rattle.storage_lines.specs.Lines.{after}
 use Rattle.sector_image.specs.Stands.{Stands}
-use Rattle.vehicle_node.specs.Safe.{Safe}
+use Rattle.vehicle_runs.specs.Safe.{Safe}
+use Rattle.vehicle_runs.specs.Runs.{Run, run_of}
 use Rattle.vehicle_node.specs.Standing.{Node, StandsAt, StandsForRun, StaysWithin}
-use Rattle.vehicle_node.specs.Runs.{Run, run_of}
 use Rattle.script_lines.specs.Script.{ScriptLine, HasNoEnd}
 use Rattle.script_board.specs.Taking.{events_of}
 use Rattle.script_board.specs.Printing.{frame_lines, loss_line}

@@ -6,8 +6,8 @@ use Rattle.storage_lines.specs.Lines.{after, put_line, line_of}
 use Rattle.storage_lines.proofs.LineLemmas.{length-after, after-append, line_put, line_kept}
 use Rattle.sector_image.specs.Stands.{Stands}
 use Rattle.sector_image.proofs.ImageLaws.{one_value}
-use Rattle.vehicle_node.specs.Runs.{run_of}
-use Rattle.vehicle_node.specs.Safe.{Safe}
+use Rattle.vehicle_runs.specs.Runs.{run_of}
+use Rattle.vehicle_runs.specs.Safe.{Safe}
 use Rattle.script_board.specs.Taking.{events_of}
 use Rattle.replay.specs.Histories.{Ran, IsRun, History}
 use Rattle.replay.specs.Keeping.{Leaves, EachLeaves, all_lines, LeavesLine}

@@ -4,8 +4,8 @@ use Rattle.flash_traits.specs.Words.{Words}
 use Rattle.flash_traits.specs.Losses.{Received, SentFrame}
 use Rattle.guard_row.specs.Row.{IsGuardRow}
 use Rattle.sector_image.specs.Stands.{Stands}
-use Rattle.vehicle_node.specs.Guard.{MayWear}
-use Rattle.vehicle_node.specs.Safe.{Safe}
+use Rattle.vehicle_runs.specs.Guard.{MayWear}
+use Rattle.vehicle_runs.specs.Safe.{Safe}
 use Rattle.vehicle_node.specs.Standing.{Node, StandsForRun, StaysWithin}
 use Rattle.script_lines.specs.Script.{ScriptLine}
 use Rattle.script_board.specs.Taking.{events_in, events_of}

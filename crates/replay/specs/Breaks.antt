@@ -1,5 +1,6 @@
 -- What holds by how a run broke off.
-use Rattle.std.specs.Prelude.{ℕ}
+use Rattle.std.specs.Prelude.{ℕ, Result, Ok, Err}
+use Rattle.flash_traits.specs.Counts.{raised}
 use Rattle.sector_image.specs.FirstBad.{Place, foreign_place}
 use Rattle.replay.specs.declared.Stop.{Stop}
 use Rattle.replay.specs.declared.Stop.TheVariants as stop
@@ -69,3 +70,36 @@ BetweenEvents P stop.Memory = Unit {0}
 BetweenEvents P (stop.Foreign region offset word) = Unit {0}
 BetweenEvents P (stop.Worn count) = Unit {0}
 BetweenEvents P stop.Output = Unit {0}
+
+-- how often the source has failed where it stopped so: once more where the source failed
+abbrev pub input_counted : Stop → ℕ → ℕ
+input_counted stop.Input before = raised before
+input_counted stop.Memory before = before
+input_counted (stop.Foreign region offset word) before = before
+input_counted (stop.Worn count) before = before
+input_counted (stop.Refused line) before = before
+input_counted stop.Output before = before
+
+-- how often the sink has failed where it stopped so: once more where the sink failed
+abbrev pub output_counted : Stop → ℕ → ℕ
+output_counted stop.Output before = raised before
+output_counted stop.Memory before = before
+output_counted (stop.Foreign region offset word) before = before
+output_counted (stop.Worn count) before = before
+output_counted (stop.Refused line) before = before
+output_counted stop.Input before = before
+
+-- a count where a run broke off: as it was at a loss
+abbrev pub counted_at : (Stop → ℕ → ℕ) → Break → ℕ → ℕ
+counted_at counted Lost before = before
+counted_at counted (Stopped why) before = counted why before
+
+-- a count after a run's call, which changes only where it stopped
+abbrev pub after_break : {T : Type 0} → (Stop → ℕ → ℕ) → Result T Break → ℕ → ℕ
+after_break counted (Ok t) before = before
+after_break counted (Err how) before = counted_at counted how before
+
+-- the same after a replay
+abbrev pub after_stop : {T : Type 0} → (Stop → ℕ → ℕ) → Result T Stop → ℕ → ℕ
+after_stop counted (Ok t) before = before
+after_stop counted (Err why) before = counted why before

@@ -4,10 +4,9 @@ use Rattle.std.specs.Prelude.{◌≡◌, ℕ, ◌+◌, ◌*◌, List, length}
 use Rattle.flash_traits.specs.Words.{Words}
 use Rattle.flash_traits.specs.Losses.{Received}
 use Rattle.vehicle_core.specs.Acts.{Act}
-use Rattle.vehicle_node.specs.Guard.{CountsUpTo}
-use Rattle.vehicle_node.specs.Reading.{Reads, no_rests}
-use Rattle.vehicle_node.specs.Runs.{run_of}
-use Rattle.vehicle_node.specs.Standing.{raised_in}
+use Rattle.vehicle_runs.specs.Guard.{CountsUpTo, raised_in}
+use Rattle.vehicle_runs.specs.Reading.{Reads, no_rests}
+use Rattle.vehicle_runs.specs.Runs.{run_of}
 
 -- From these bytes on, the run over these events issues so many lines, those of boot among them.
 pub record Issues (budget : ℕ) (b : List ℕ) (events : List Received) (number : ℕ) : Type 0 where

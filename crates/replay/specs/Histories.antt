@@ -7,11 +7,11 @@ use Rattle.guard_row.specs.Row.{IsGuardRow}
 use Rattle.storage_lines.specs.Lines.{after}
 use Rattle.sector_image.specs.Stands.{Stands}
 use Rattle.vehicle_core.specs.Acts.{Act}
-use Rattle.vehicle_node.specs.Frames.{AreFramesOf}
-use Rattle.vehicle_node.specs.Guard.{CountsUpTo}
-use Rattle.vehicle_node.specs.Reading.{Reads, no_rests}
-use Rattle.vehicle_node.specs.Runs.{run_of}
-use Rattle.vehicle_node.specs.Safe.{Safe}
+use Rattle.vehicle_runs.specs.Frames.{AreFramesOf}
+use Rattle.vehicle_runs.specs.Guard.{CountsUpTo}
+use Rattle.vehicle_runs.specs.Reading.{Reads, no_rests}
+use Rattle.vehicle_runs.specs.Runs.{run_of}
+use Rattle.vehicle_runs.specs.Safe.{Safe}
 use Rattle.script_lines.specs.Script.{ScriptLine, LossNow, HasNoEnd}
 use Rattle.script_board.specs.Taking.{events_of}
 use Rattle.script_board.specs.Printing.{frame_lines, loss_line}

@@ -5,9 +5,9 @@ use Rattle.storage_lines.specs.declared.lines.LineWrite.{LineWrite}
 use Rattle.storage_lines.specs.Lines.{after, line_of}
 use Rattle.sector_image.specs.Stands.{Stands}
 use Rattle.vehicle_core.specs.Acts.{Act}
-use Rattle.vehicle_node.specs.Reading.{Reads, no_rests}
-use Rattle.vehicle_node.specs.Frames.{acknowledged}
-use Rattle.vehicle_node.specs.Runs.{run_of, floor_of}
+use Rattle.vehicle_runs.specs.Reading.{Reads, no_rests}
+use Rattle.vehicle_runs.specs.Frames.{acknowledged}
+use Rattle.vehicle_runs.specs.Runs.{run_of, floor_of}
 use Rattle.script_board.specs.Taking.{events_of}
 use Rattle.replay.specs.Histories.{Ran, History}
 

@@ -1,14 +1,13 @@
 -- What one call of a node does over a board that runs a script.
-use Rattle.std.specs.Prelude.{◌≡◌, ◌⊎◌, ℕ, ◌+◌, true, false, length, List, [], ◌++◌, Result, Ok}
-use Rattle.std.specs.Prelude.{Err}
+use Rattle.std.specs.Prelude.{◌≡◌, ◌⊎◌, ℕ, ◌+◌, true, false, length, List, [], ◌++◌, Result, Ok, Err}
 use Rattle.flash_traits.specs.Words.{Words}
 use Rattle.flash_traits.specs.Losses.{Received, SentFrame}
 use Rattle.guard_row.specs.Row.{IsGuardRow}
 use Rattle.storage_lines.specs.Lines.{after}
 use Rattle.sector_image.specs.Stands.{Stands}
-use Rattle.vehicle_node.specs.Runs.{Run}
-use Rattle.vehicle_node.specs.Safe.{Safe}
-use Rattle.vehicle_node.specs.Guard.{MayWear}
+use Rattle.vehicle_runs.specs.Runs.{Run}
+use Rattle.vehicle_runs.specs.Safe.{Safe}
+use Rattle.vehicle_runs.specs.Guard.{MayWear}
 use Rattle.vehicle_node.specs.Standing.{Node, StandsAt, StandsForRun, StaysWithin}
 use Rattle.script_lines.specs.Script.{ScriptLine, HasNoEnd}
 use Rattle.script_board.specs.Taking.{events_of}

@@ -5,10 +5,10 @@
 #![tactic(auto)]
 
 ghost use Rattle.std.specs.Prelude.{◌≡◌, ◌≢◌, ◌≤◌, ◌+◌, ◌++◌, [], List, ℕ, IfOk, IfErr, OnOk};
-ghost use Rattle.std.specs.Prelude.{OnErr};
+ghost use Rattle.std.specs.Prelude.{Err};
 ghost use Rattle.flash_traits.specs.Words.{Words};
 ghost use Rattle.flash_traits.specs.Losses.{SentFrame};
-ghost use Rattle.flash_traits.specs.Causes.{Rose};
+ghost use Rattle.flash_traits.specs.Causes.{HasOneCause};
 ghost use Rattle.flash_traits.specs.declared.numbers.TheConstants.{GUARD_HALFWORDS};
 ghost use Rattle.sector_image.specs.FirstBad.{FirstBad};
 ghost use Rattle.sector_image.specs.Stands.{Stands};
@@ -17,8 +17,8 @@ ghost use Rattle.script_lines.specs.Script.{ScriptLine};
 ghost use Rattle.script_board.specs.Taking.{events_of};
 ghost use Rattle.script_board.specs.Printing.{loss_line};
 ghost use Rattle.script_board.specs.Hearing.{FewWait};
-ghost use Rattle.replay.specs.Breaks.{OnLost, OnStopped, OnRefused, OnForeign, OnWorn, OnInput};
-ghost use Rattle.replay.specs.Breaks.{OnOutput};
+ghost use Rattle.replay.specs.Breaks.{OnLost, OnStopped, OnRefused, OnForeign, OnWorn};
+ghost use Rattle.replay.specs.Breaks.{after_break, after_stop, input_counted, output_counted};
 ghost use Rattle.replay.specs.Histories.{AreNext, Replayed, CutShort};
 ghost use Rattle.replay.specs.Playing.{AddsLines, OpenEnds, EventEnds, CloseEnds, RunEnds, TurnUses};
 ghost use Rattle.replay.specs.Playing.{PlayUses, QuietUses};
@@ -73,6 +73,11 @@ pub trait Player {
     /// The source and the sink tell their bytes, and none of the printed lines failed.
     ghost told: { Self → Type 0 };
 
+    /// None of the printed lines failed.
+    ghost unfailed: { Self → Type 0 };
+
+    ghost told_unfailed: { (p : Self) → told p → unfailed p };
+
     ghost words: { Self → Words };
 
     /// These are the lines of the script taken so far.
@@ -120,12 +125,12 @@ pub trait Player {
         ensures worn { IfErr result
             (OnStopped (OnWorn (λ count. count ≡ GUARD_HALFWORDS))) }
         ensures refused { IfErr result (OnStopped (OnRefused (λ line. ⊥))) }
-        ensures input { IfErr result
-            (OnStopped (OnInput (Rose (input_faults self.old) (input_faults self.new)))) }
-        ensures output { IfErr result
-            (OnStopped (OnOutput (Rose (output_faults self.old) (output_faults self.new)))) }
-        ensures input_counts { input_faults self.old ≤ input_faults self.new }
-        ensures output_counts { output_faults self.old ≤ output_faults self.new };
+        ensures unfailed { unfailed self.old → result ≢ Err (Break.Stopped Stop.Output)
+            → unfailed self.new }
+        ensures input_counts { input_faults self.new
+            ≡ after_break input_counted result (input_faults self.old) }
+        ensures output_counts { output_faults self.new
+            ≡ after_break output_counted result (output_faults self.old) };
 
     /// Takes lines up to an event, and finishes it.
     fn event(&mut self, node: &mut Node) -> Result<Turn, Break>
@@ -150,12 +155,12 @@ pub trait Player {
         ensures worn { IfErr result
             (OnStopped (OnWorn (λ count. count ≡ GUARD_HALFWORDS))) }
         ensures refused { IfErr result (OnStopped (OnRefused (refuses self.new))) }
-        ensures input { IfErr result
-            (OnStopped (OnInput (Rose (input_faults self.old) (input_faults self.new)))) }
-        ensures output { IfErr result
-            (OnStopped (OnOutput (Rose (output_faults self.old) (output_faults self.new)))) }
-        ensures input_counts { input_faults self.old ≤ input_faults self.new }
-        ensures output_counts { output_faults self.old ≤ output_faults self.new };
+        ensures unfailed { unfailed self.old → result ≢ Err (Break.Stopped Stop.Output)
+            → unfailed self.new }
+        ensures input_counts { input_faults self.new
+            ≡ after_break input_counted result (input_faults self.old) }
+        ensures output_counts { output_faults self.new
+            ≡ after_break output_counted result (output_faults self.old) };
 
     /// Closes the node. No line is taken and nothing is printed.
     fn close(&mut self, node: Node) -> Result<(), Break>
@@ -175,12 +180,12 @@ pub trait Player {
         ensures worn { IfErr result
             (OnStopped (OnWorn (λ count. count ≡ GUARD_HALFWORDS))) }
         ensures refused { IfErr result (OnStopped (OnRefused (λ line. ⊥))) }
-        ensures input { IfErr result
-            (OnStopped (OnInput (Rose (input_faults self.old) (input_faults self.new)))) }
-        ensures output { IfErr result
-            (OnStopped (OnOutput (Rose (output_faults self.old) (output_faults self.new)))) }
-        ensures input_counts { input_faults self.old ≤ input_faults self.new }
-        ensures output_counts { output_faults self.old ≤ output_faults self.new };
+        ensures unfailed { unfailed self.old → result ≢ Err (Break.Stopped Stop.Output)
+            → unfailed self.new }
+        ensures input_counts { input_faults self.new
+            ≡ after_break input_counted result (input_faults self.old) }
+        ensures output_counts { output_faults self.new
+            ≡ after_break output_counted result (output_faults self.old) };
 
     /// Prints `loss`.
     fn print_loss(&mut self) -> Result<(), Failed>
@@ -193,9 +198,9 @@ pub trait Player {
         ensures printed { OnOk result
             (told self.new → printed self.new ≡ printed self.old ++ loss_line) }
         ensures remaining { remaining self.new ≤ remaining self.old }
-        ensures output { OnErr result (Rose (output_faults self.old) (output_faults self.new)) }
-        ensures input_counts { input_faults self.old ≤ input_faults self.new }
-        ensures output_counts { output_faults self.old ≤ output_faults self.new };
+        ensures unfailed { OnOk result (unfailed self.old → unfailed self.new) }
+        ensures input_counts { input_faults self.new ≡ input_faults self.old }
+        ensures output { HasOneCause (output_faults self.old) (output_faults self.new) result };
 }
 
 // Events until the end.
@@ -220,12 +225,12 @@ fn play<P: Player>(player: &mut P, node: &mut Node) -> Result<(), Break>
     ensures worn { IfErr result
         (OnStopped (OnWorn (λ count. count ≡ GUARD_HALFWORDS))) }
     ensures refused { IfErr result (OnStopped (OnRefused (P.refuses player.new))) }
-    ensures input { IfErr result
-        (OnStopped (OnInput (Rose (P.input_faults player.old) (P.input_faults player.new)))) }
-    ensures output { IfErr result
-        (OnStopped (OnOutput (Rose (P.output_faults player.old) (P.output_faults player.new)))) }
-    ensures input_counts { P.input_faults player.old ≤ P.input_faults player.new }
-    ensures output_counts { P.output_faults player.old ≤ P.output_faults player.new }
+    ensures unfailed { P.unfailed player.old → result ≢ Err (Break.Stopped Stop.Output)
+        → P.unfailed player.new }
+    ensures input_counts { P.input_faults player.new
+        ≡ after_break input_counted result (P.input_faults player.old) }
+    ensures output_counts { P.output_faults player.new
+        ≡ after_break output_counted result (P.output_faults player.old) }
 {
     'events: loop {
         match player.event(node)? {
@@ -256,12 +261,12 @@ fn run_once<P: Player>(alloc: Global, player: &mut P) -> Result<(), Break>
     ensures worn { IfErr result
         (OnStopped (OnWorn (λ count. count ≡ GUARD_HALFWORDS))) }
     ensures refused { IfErr result (OnStopped (OnRefused (P.refuses player.new))) }
-    ensures input { IfErr result
-        (OnStopped (OnInput (Rose (P.input_faults player.old) (P.input_faults player.new)))) }
-    ensures output { IfErr result
-        (OnStopped (OnOutput (Rose (P.output_faults player.old) (P.output_faults player.new)))) }
-    ensures input_counts { P.input_faults player.old ≤ P.input_faults player.new }
-    ensures output_counts { P.output_faults player.old ≤ P.output_faults player.new }
+    ensures unfailed { P.unfailed player.old → result ≢ Err (Break.Stopped Stop.Output)
+        → P.unfailed player.new }
+    ensures input_counts { P.input_faults player.new
+        ≡ after_break input_counted result (P.input_faults player.old) }
+    ensures output_counts { P.output_faults player.new
+        ≡ after_break output_counted result (P.output_faults player.old) }
 {
     let mut node = player.open(alloc)?;
     play(player, &mut node)?;
@@ -294,12 +299,13 @@ pub fn replay<P: Player>(alloc: Global, player: &mut P) -> Result<(), Stop>
         (λ place. P.told player.new → (b : List ℕ) → Stands (P.words player.old) b → ⊥)) }
     ensures worn { IfErr result (OnWorn (λ count. count ≡ GUARD_HALFWORDS)) }
     ensures refused { IfErr result (OnRefused (P.refuses player.new)) }
-    ensures input { IfErr result
-        (OnInput (Rose (P.input_faults player.old) (P.input_faults player.new))) }
-    ensures output { IfErr result
-        (OnOutput (Rose (P.output_faults player.old) (P.output_faults player.new))) }
-    ensures input_counts { P.input_faults player.old ≤ P.input_faults player.new }
-    ensures output_counts { P.output_faults player.old ≤ P.output_faults player.new }
+    // None of the printed lines failed, unless it says so.
+    ensures unfailed { P.unfailed player.old → result ≢ Err Stop.Output → P.unfailed player.new }
+    // The source and the sink failed once where it says so, and else not at all.
+    ensures input_counts { P.input_faults player.new
+        ≡ after_stop input_counted result (P.input_faults player.old) }
+    ensures output_counts { P.output_faults player.new
+        ≡ after_stop output_counted result (P.output_faults player.old) }
 {
     'runs: loop {
         match run_once(alloc, player) {

@@ -106,20 +106,20 @@ module _ (front lines : List ScriptLine) (ends : lines ≡ front ++ LossNow ∷ 
   length-lost = let long = ap length ends ∙ length-append front (LossNow ∷ []) in omega (arith, long)
 
 -- a reception that heard no event
-module _ (mark_before mark_now : Option ScriptMark) (failures : ℕ) (lines : List ScriptLine) (faulted : Type 0) (line : ℕ) (refused : Type 0) where
-  pub no_events-unheard : IsUnheard mark_before mark_now failures lines faulted line refused → events_of lines ≡ []
-  no_events-unheard (inl (front, ends, losses, mark)) = no_events-lost front lines ends losses
+module _ (mark_before mark_now : Option ScriptMark) (failures : ℕ) (lines : List ScriptLine) (faults_before faults_now line : ℕ) (refused : Type 0) where
+  pub no_events-unheard : IsUnheard mark_before mark_now failures lines faults_before faults_now line refused → events_of lines ≡ []
+  no_events-unheard (inl (front, ends, losses, mark, still)) = no_events-lost front lines ends losses
   no_events-unheard (inr (inl (losses, fault, mark))) = no_events-losses lines losses
-  no_events-unheard (inr (inr (losses, refusal, mark))) = no_events-losses lines losses
+  no_events-unheard (inr (inr (losses, refusal, mark, still))) = no_events-losses lines losses
 
-  pub no_end-unheard : IsUnheard mark_before mark_now failures lines faulted line refused → HasNoEnd lines
-  no_end-unheard (inl (front, ends, losses, mark)) = no_end-lost front lines ends losses
+  pub no_end-unheard : IsUnheard mark_before mark_now failures lines faults_before faults_now line refused → HasNoEnd lines
+  no_end-unheard (inl (front, ends, losses, mark, still)) = no_end-lost front lines ends losses
   no_end-unheard (inr (inl (losses, fault, mark))) = no_end-losses lines losses
-  no_end-unheard (inr (inr (losses, refusal, mark))) = no_end-losses lines losses
+  no_end-unheard (inr (inr (losses, refusal, mark, still))) = no_end-losses lines losses
 
   -- the events of a reception's lines
   pub events-result : (r : Result Event Failed) (buffer : List ℕ)
-      → MatchResult r (λ event. IsEventHeard event buffer lines) (λ failed. IsUnheard mark_before mark_now failures lines faulted line refused)
+      → MatchResult r (λ event. IsEventHeard event buffer lines) (λ failed. IsUnheard mark_before mark_now failures lines faults_before faults_now line refused)
       → MatchResult r (λ event. events_of lines ≡ received event buffer ∷ []) (λ failed. events_of lines ≡ [])
   events-result (Ok event) buffer heard = events-heard event buffer lines heard
   events-result (Err failed) buffer unheard = no_events-unheard unheard

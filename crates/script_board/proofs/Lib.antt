@@ -7,3 +7,4 @@ pub mod Waits
 pub mod Listed
 pub mod FrameLines
 pub mod Leaving
+pub mod Counting

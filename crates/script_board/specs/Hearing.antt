@@ -1,6 +1,7 @@
 -- The event that comes next.
 use Rattle.std.specs.Prelude.{◌≡◌, ◌≢◌, ◌⊎◌, ℕ, ◌+◌, ◌≤◌, List, [], ◌∷◌, ◌++◌, length, Option}
 use Rattle.std.specs.Prelude.{Result, Ok, Err}
+use Rattle.flash_traits.specs.Counts.{raised}
 use Rattle.flash_traits.specs.Losses.{received}
 use Rattle.flash_traits.specs.declared.board.Event.{Event}
 use Rattle.flash_traits.specs.declared.board.Event.TheVariants as event
@@ -28,6 +29,38 @@ waiting_after waiting (Datagram station bytes) = waiting
 waiting_after waiting Idle = waiting
 waiting_after waiting LossNow = waiting
 waiting_after waiting End = waiting
+
+-- the losses that wait after these lines
+abbrev pub waits_by : List Waiting → List ScriptLine → List Waiting
+waits_by waiting [] = waiting
+waits_by waiting (line ∷ lines) = waits_by (waiting_after waiting line) lines
+
+-- where a loss begins to wait alone, calls are counted from there
+abbrev pub since_when : List Waiting → ℕ → ℕ
+since_when [] since = 0
+since_when (first ∷ waiting) since = since
+
+-- how many calls were counted since then, behind a line
+abbrev pub since_taken : List Waiting → ℕ → ScriptLine → ℕ
+since_taken waiting since (LossLater call how) = since_when waiting since
+since_taken waiting since (Datagram station bytes) = since
+since_taken waiting since Idle = since
+since_taken waiting since LossNow = since
+since_taken waiting since End = since
+
+-- the same where power was lost at once by the line `x`: they are counted anew
+abbrev pub since_after : List Waiting → ℕ → ScriptLine → ℕ
+since_after waiting since (LossLater call how) = since_when waiting since
+since_after waiting since (Datagram station bytes) = since
+since_after waiting since Idle = since
+since_after waiting since LossNow = 0
+since_after waiting since End = since
+
+-- the same after these lines
+abbrev pub since_by : List Waiting → ℕ → List ScriptLine → ℕ
+since_by waiting since [] = since
+since_by waiting since (line ∷ lines) =
+    since_by (waiting_after waiting line) (since_after waiting since line) lines
 
 -- The next line is refused: so many lines were taken that no more are, or the unread bytes begin
 -- with no line of the grammar, or with a loss where sixteen wait.
@@ -77,15 +110,17 @@ IsEventHeard event buffer lines = (front : List ScriptLine) × (last : ScriptLin
     × (events_in last ≡ received event buffer ∷ [])
 
 -- Why no event came behind the losses at later calls: a line `x` was the last one taken, or the
--- source failed, or the next line is refused. Each leaves its mark, but for a fault of the source
--- where the script had failed before.
-abbrev pub IsUnheard : Option ScriptMark → Option ScriptMark → ℕ → List ScriptLine → Type 0 → ℕ
+-- source failed, which is one fault more of it, or the next line is refused. Each leaves its mark,
+-- but for a fault of the source where the script had failed before.
+abbrev pub IsUnheard : Option ScriptMark → Option ScriptMark → ℕ → List ScriptLine → ℕ → ℕ → ℕ
     → Type 0 → Type 0
-IsUnheard mark_before mark_now failures lines faulted line refused =
+IsUnheard mark_before mark_now failures lines faults_before faults_now line refused =
     ((front : List ScriptLine) × (lines ≡ front ++ LossNow ∷ []) × AreLosses front
-    × (mark_now ≡ marked mark_before Lost))
-    ⊎ (AreLosses lines × faulted × (failures ≡ 0 → mark_now ≡ marked mark_before Input))
-    ⊎ (AreLosses lines × refused × (mark_now ≡ marked mark_before (Refused line)))
+    × (mark_now ≡ marked mark_before Lost) × (faults_now ≡ faults_before))
+    ⊎ (AreLosses lines × (faults_now ≡ raised faults_before)
+    × (failures ≡ 0 → mark_now ≡ marked mark_before Input))
+    ⊎ (AreLosses lines × refused × (mark_now ≡ marked mark_before (Refused line))
+    × (faults_now ≡ faults_before))
 
 -- how many losses wait behind a reception: the end forgets them
 abbrev pub waiting_behind : Result Event Failed → ℕ → List ScriptLine → ℕ
@@ -93,3 +128,10 @@ waiting_behind (Ok event.End) waiting lines = 0
 waiting_behind (Ok event.Idle) waiting lines = waiting + loses lines
 waiting_behind (Ok (event.Datagram peer len)) waiting lines = waiting + loses lines
 waiting_behind (Err e) waiting lines = waiting + loses lines
+
+-- which losses wait behind a reception
+abbrev pub waits_behind : Result Event Failed → List Waiting → List ScriptLine → List Waiting
+waits_behind (Ok event.End) waiting lines = []
+waits_behind (Ok event.Idle) waiting lines = waits_by waiting lines
+waits_behind (Ok (event.Datagram peer len)) waiting lines = waits_by waiting lines
+waits_behind (Err e) waiting lines = waits_by waiting lines

@@ -3,7 +3,7 @@ use Rattle.std.specs.Prelude.{◌≡◌, ◌≢◌, ℕ, ◌<◌, ◌-◌, ◌^�
 use Rattle.flash_traits.specs.declared.stream.Source as source
 use Rattle.flash_traits.specs.declared.stream.Sink as sink
 use Rattle.flash_traits.specs.declared.board.Fault.{Fault}
-use Rattle.flash_traits.specs.declared.board.Fault.TheVariants.{Attach, Read, Flash, Recv, Send}
+use Rattle.flash_traits.specs.Causes.{counts_by_kind}
 use Rattle.flash_traits.specs.Losses.{Received, SentFrame, Moment}
 use Rattle.script_lines.specs.Script.{ScriptLine}
 use Rattle.script_board.specs.Taking.{AreTaken, events_of}
@@ -52,8 +52,5 @@ moment_of b = record {
 -- how often each kind of call has failed
 abbrev pub failures : {S K : Type 0} (g : source.Ghosts S) (h : sink.Ghosts K)
     → ScriptBoard S K g h → Fault → ℕ
-failures g h b Attach = slice_index b.faults 0
-failures g h b Read = slice_index b.faults 1
-failures g h b Flash = slice_index b.faults 2
-failures g h b Recv = reception_faults g b
-failures g h b Send = h.faults b.out.now
+failures g h b = counts_by_kind (slice_index b.faults 0) (slice_index b.faults 1)
+    (slice_index b.faults 2) (reception_faults g b) (h.faults b.out.now)

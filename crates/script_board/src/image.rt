@@ -12,6 +12,11 @@ use flash_traits::{ERASED, GUARD_HALFWORDS, Region};
 /// The bytes of the largest image, with sectors of 131,072 bytes.
 pub const IMAGE_BYTES: usize = 278_528;
 
+/// The size has this number.
+pub fn sizes()
+    ensures { IMAGE_BYTES ≡ 278528 }
+{}
+
 /// Where a region begins, in bytes.
 fn start_of(sector_bytes: u32, region: Region) -> usize
     requires { sector_bytes ≤ 131072 }

@@ -14,7 +14,7 @@ mod taking;
 mod waiting;
 
 pub use board::{ScriptBoard, ScriptMark};
-pub use image::IMAGE_BYTES;
+pub use image::{IMAGE_BYTES, sizes};
 pub use printing::FRAME_LINE_BYTES;
 pub use script_lines::Waiting;
-pub use waiting::WAITING_LOSSES;
+pub use waiting::{WAITING_LOSSES, limits};

@@ -25,8 +25,8 @@ impl<'a, S: Source, K: Sink> ScriptBoard<'a, S, K> {
     ghost use Rattle.std.specs.Prelude.{◌≡◌, ◌⊎◌, ◌<◌, ◌≤◌, ◌+◌, ◌-◌, ◌^◌, [], min, List, ℕ};
     ghost use Rattle.std.specs.Prelude.{length, slice_set, slice_index, Some, Ok, IsSome, OnOk};
     ghost use Rattle.std.specs.Prelude.{OnErr, IfOk, MatchResult};
-    ghost use Rattle.flash_traits.specs.Counts.{raised_by};
-    ghost use Rattle.flash_traits.specs.Causes.{HasOneCause, Rose};
+    ghost use Rattle.flash_traits.specs.Counts.{raised, raised_by};
+    ghost use Rattle.flash_traits.specs.Causes.{HasOneCause};
     ghost use Rattle.flash_traits.specs.declared.numbers.TheConstants.{DATAGRAM_BYTES};
     ghost use Rattle.flash_traits.specs.Losses.{received, IsEventInRange};
     ghost use Rattle.script_lines.specs.Script as script;
@@ -35,6 +35,7 @@ impl<'a, S: Source, K: Sink> ScriptBoard<'a, S, K> {
     ghost use Rattle.script_board.specs.Taking.{Took};
     ghost use Rattle.script_board.specs.Hearing.{taken_lines, waiting_after, waiting_behind, FewWait};
     ghost use Rattle.script_board.specs.Hearing.{IsRefused, IsEventHeard, IsUnheard};
+    ghost use Rattle.script_board.specs.Hearing.{waits_behind, since_taken, since_by};
     ghost use Rattle.script_board.specs.Boards.{unread_in, reception_faults, OnlyScript};
     ghost use Rattle.script_board.specs.declared.board.ScriptMark.TheVariants.{Lost, Refused};
     ghost use Rattle.script_board.specs.declared.board.ScriptMark.TheVariants.{Input, Output};
@@ -73,15 +74,20 @@ impl<'a, S: Source, K: Sink> ScriptBoard<'a, S, K> {
         ensures waits { IfOk result (λ line.
             self.new.waiting.items ≡ waiting_after self.old.waiting.items (script_line_of line)) }
         ensures no_more { OnErr result (self.new.waiting.items ≡ self.old.waiting.items) }
+        ensures since { IfOk result (λ line. self.new.since
+            ≡ since_taken self.old.waiting.items self.old.since (script_line_of line)) }
+        ensures same_since { OnErr result (self.new.since ≡ self.old.since) }
         ensures few { OnOk result (length self.old.waiting.items ≤ WAITING_LOSSES
             → length self.new.waiting.items ≤ WAITING_LOSSES) }
         ensures why { OnErr result
-            ((Rose (S.faults self.old.input.now) (S.faults self.new.input.now)
+            (((S.faults self.new.input.now ≡ raised (S.faults self.old.input.now))
             × (slice_index self.old.faults 3 ≡ 0 → self.new.mark ≡ marked self.old.mark Input))
             ⊎ (IsRefused self.new.line self.new.waiting.items (unread_in self.new)
             (S.tells_rest self.new.input.now) (S.rest self.new.input.now)
-            × (self.new.mark ≡ marked self.old.mark (Refused (self.new.line + 1))))) }
-        ensures source { S.faults self.old.input.now ≤ S.faults self.new.input.now }
+            × (self.new.mark ≡ marked self.old.mark (Refused (self.new.line + 1)))
+            × (S.faults self.new.input.now ≡ S.faults self.old.input.now))) }
+        ensures source { OnOk result
+            (S.faults self.new.input.now ≡ S.faults self.old.input.now) }
         ensures unmarked { OnOk result (self.new.mark ≡ self.old.mark) }
         ensures marked { OnErr result (slice_index self.old.faults 3 ≡ 0 → IsSome self.new.mark) }
         ensures output { self.old.mark ≡ Some Output → self.new.mark ≡ Some Output }
@@ -119,8 +125,8 @@ impl<'a, S: Source, K: Sink> ScriptBoard<'a, S, K> {
         ensures faults { self.new.faults ≡ slice_set self.old.faults 3
             (min (slice_index self.old.faults 3 + 1) (2 ^ 64 - 1)) }
         ensures since { self.new.since ≡ 0 }
-        ensures cause { Rose (reception_faults S.Source self.old)
-            (reception_faults S.Source self.new) }
+        ensures cause { reception_faults S.Source self.new
+            ≡ raised (reception_faults S.Source self.old) }
         ensures line { self.new.line ≡ self.old.line }
         ensures input { self.new.input ≡ self.old.input }
         ensures unread { unread_in self.new ≡ unread_in self.old }
@@ -148,13 +154,16 @@ impl<'a, S: Source, K: Sink> ScriptBoard<'a, S, K> {
             ≡ waiting_behind result (length self.old.waiting.items) lines)
             × MatchResult result (λ event. IsEventHeard event into.new lines)
             (λ _. IsUnheard self.old.mark self.new.mark (slice_index self.old.faults 3) lines
-            (Rose (S.faults self.old.input.now) (S.faults self.new.input.now)) (self.new.line + 1)
+            (S.faults self.old.input.now) (S.faults self.new.input.now) (self.new.line + 1)
             (IsRefused self.new.line self.new.waiting.items (unread_in self.new)
             (S.tells_rest self.new.input.now) (S.rest self.new.input.now)))
-            × FewWait (length self.old.waiting.items) lines }
+            × FewWait (length self.old.waiting.items) lines
+            × (self.new.waiting.items ≡ waits_behind result self.old.waiting.items lines)
+            × (self.new.since ≡ since_by self.old.waiting.items self.old.since lines) }
         ensures unfailed { OnOk result
             (slice_index self.new.faults 3 ≡ slice_index self.old.faults 3) }
-        ensures source { S.faults self.old.input.now ≤ S.faults self.new.input.now }
+        ensures source { OnOk result
+            (S.faults self.new.input.now ≡ S.faults self.old.input.now) }
         ensures last { result ≡ Ok Event.End → self.new.waiting.items ≡ [] }
         ensures unmarked { OnOk result (self.new.mark ≡ self.old.mark) }
         ensures marked { OnErr result (slice_index self.old.faults 3 ≡ 0 → IsSome self.new.mark) }

@@ -2,12 +2,18 @@
 ghost use Rattle.std.specs.Prelude.{◌≡◌, ◌≢◌, ◌<◌, ◌++◌, [], ◌∷◌, true, false, length, drop};
 ghost use Rattle.std.specs.Prelude.{IfSome, IfNone};
 ghost use Rattle.script_board.specs.Waiting.{falls_now, calls_counted, first_leaves};
+ghost use Rattle.script_board.specs.Hearing.{since_when};
 
 use arrayvec::ArrayVec;
 use script_lines::Waiting;
 
 /// The most losses that wait at once.
 pub const WAITING_LOSSES: usize = 16;
+
+/// The limit has this number.
+pub fn limits()
+    ensures { WAITING_LOSSES ≡ 16 }
+{}
 
 /// Counts a program or erase call. Where the first waiting loss falls in it, that loss waits no
 /// more, and the result is what it leaves.
@@ -39,8 +45,7 @@ pub(crate) fn next_call(
 pub(crate) fn wait(waiting: &mut ArrayVec<Waiting, WAITING_LOSSES>, since: &mut u32, loss: Waiting)
     requires { length waiting.old.items < WAITING_LOSSES }
     ensures waits { waiting.new.items ≡ waiting.old.items ++ loss ∷ [] }
-    ensures alone { waiting.old.items ≡ [] → since.new ≡ 0 }
-    ensures more { waiting.old.items ≢ [] → since.new ≡ since.old }
+    ensures since { since.new ≡ since_when waiting.old.items since.old }
 {
     if waiting.is_empty() {
         *since = 0;

@@ -13,7 +13,7 @@ mod reading;
 
 pub use laws::{one_reading, one_script};
 pub use line::{ScriptLine, Waiting};
-pub use numbers::{LAST_CALL, LOSS_WAYS, READ_BYTES, SCRIPT_LINE_BYTES, SCRIPT_LINES};
+pub use numbers::{LAST_CALL, LOSS_WAYS, READ_BYTES, SCRIPT_LINE_BYTES, SCRIPT_LINES, limits};
 pub use parsing::parse;
 pub use reading::{Next, next_text};
 

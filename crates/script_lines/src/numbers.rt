@@ -1,5 +1,7 @@
 //! The limits of a script and of the numbers in it.
 
+ghost use Rattle.std.specs.Prelude.{◌≡◌};
+
 /// The most lines of a script, the line `e` among them.
 pub const SCRIPT_LINES: u32 = 100_000;
 
@@ -14,3 +16,9 @@ pub const LAST_CALL: u32 = 1_000_000;
 
 /// How many ways there are of losing power at a call.
 pub const LOSS_WAYS: u8 = 3;
+
+/// The limits of a script have these numbers.
+pub fn limits()
+    ensures lines { (SCRIPT_LINES ≡ 100000) × (SCRIPT_LINE_BYTES ≡ 4200) }
+    ensures losses { (LAST_CALL ≡ 1000000) × (LOSS_WAYS ≡ 3) }
+{}

@@ -72,7 +72,7 @@ fn fill<S: Source>(
     let mut piece = [0; PIECE_BYTES];
     let count = match input.read(&mut piece) {
         Ok(count) => count,
-        Err(failed) => return Err(failed),
+        Err(fault) => return Err(fault),
     };
     match buffer.try_extend_from_slice(&piece[..count]) {
         Ok(()) => {}

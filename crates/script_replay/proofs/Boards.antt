@@ -6,8 +6,8 @@ use Rattle.flash_traits.specs.declared.board.Board as board
 use Rattle.flash_traits.specs.declared.board.Event.{Event}
 use Rattle.flash_traits.specs.declared.stream.Source as source
 use Rattle.flash_traits.specs.declared.stream.Sink as sink
-use Rattle.vehicle_node.specs.Guard.{RisesWithin}
-use Rattle.vehicle_node.specs.Safe.{Safe, SafeSince}
+use Rattle.vehicle_runs.specs.Guard.{RisesWithin}
+use Rattle.vehicle_runs.specs.Safe.{Safe, SafeSince}
 use Rattle.vehicle_node.specs.Standing.{Node, Finished}
 use Rattle.vehicle_node.specs.declared.NodeError.{NodeError}
 use Rattle.vehicle_node.specs.declared.Turn.{Turn}
@@ -133,8 +133,8 @@ module _ {S K N : Type 0} {g : source.Ghosts S} {h : sink.Ghosts K} (n : start.G
   }
 
 -- the events of the lines are those that were heard
-pub events_same : (room : Bool) (heard : Option Event) (buffer : List ℕ) (m : Option ScriptMark) (before now : ℕ) (faulted refused : Type 0) (next : ℕ) (lines : List ScriptLine)
-    → HasHeard room heard buffer m before now faulted next refused lines → events_of lines ≡ events_heard heard buffer
-events_same room None buffer m before now faulted refused next lines (inl (none, waits)) = ap events_of none
-events_same room None buffer m before now faulted refused next lines (inr (has_room, un, waits)) = no_events-unheard None m 0 lines faulted next refused un
-events_same room (Some heard) buffer m before now faulted refused next lines hears = events-heard heard buffer lines hears.0
+pub events_same : (room : Bool) (heard : Option Event) (buffer : List ℕ) (m : Option ScriptMark) (before now was here : ℕ) (refused : Type 0) (next : ℕ) (lines : List ScriptLine)
+    → HasHeard room heard buffer m before now was here next refused lines → events_of lines ≡ events_heard heard buffer
+events_same room None buffer m before now was here refused next lines (inl (none, waits)) = ap events_of none
+events_same room None buffer m before now was here refused next lines (inr (has_room, un, waits)) = no_events-unheard None m 0 lines was here next refused un
+events_same room (Some heard) buffer m before now was here refused next lines hears = events-heard heard buffer lines hears.0

@@ -1,23 +1,24 @@
 -- How a call ended, by the mark and by the node's answer.
-use Rattle.std.proofs.Common.{◌≡◌, ◌≢◌, ℕ, ◌+◌, List, [], ◌++◌, Option, Some, None, Result, Ok, Err, IfOk, IfErr, refl, ◌∙◌, ap, arith}
+use Rattle.std.proofs.Common.{◌≡◌, ◌≢◌, ℕ, ◌+◌, List, [], ◌++◌, Option, Some, None, Result, Ok, Err, IfOk, IfErr, refl, sym, ◌∙◌, ap, arith, ◌⊎◌, inl, inr}
 use Rattle.flash_traits.specs.Words.{Words}
-use Rattle.flash_traits.specs.Causes.{Rose}
+use Rattle.flash_traits.specs.Causes.{counts_by_kind, counts_after, raised_at, told_by}
+use Rattle.flash_traits.specs.Counts.{raised}
 use Rattle.flash_traits.specs.Losses.{Received, SentFrame}
 use Rattle.flash_traits.specs.declared.board.Fault.{Fault}
 use Rattle.flash_traits.specs.declared.board.Fault.TheVariants.{Attach, Read, Flash, Recv, Send}
 use Rattle.sector_image.specs.FirstBad.{Place}
 use Rattle.sector_image.specs.Stands.{Stands}
+use Rattle.vehicle_runs.specs.Safe.{Safe}
+use Rattle.vehicle_runs.specs.Guard.{MayWear}
 use Rattle.vehicle_node.specs.Refusals as refusals
-use Rattle.vehicle_node.specs.Safe.{Safe}
 use Rattle.vehicle_node.specs.Standing.{Node, StandsForRun, StaysWithin}
-use Rattle.vehicle_node.specs.Guard.{MayWear}
 use Rattle.guard_row.specs.Row.{IsGuardRow}
 use Rattle.vehicle_node.specs.declared.NodeError.{NodeError}
 use Rattle.vehicle_node.specs.declared.NodeError.TheVariants.{Memory, Fault as Failing, Foreign, Worn}
 use Rattle.vehicle_node.specs.declared.Turn.{Turn}
 use Rattle.script_board.specs.declared.board.ScriptMark.{ScriptMark}
 use Rattle.script_board.specs.declared.board.ScriptMark.TheVariants.{Lost, Refused, Input, Output}
-use Rattle.replay.specs.Breaks.{OnStopped, OnForeign, OnWorn, OnRefused, OnInput, OnOutput}
+use Rattle.replay.specs.Breaks.{OnStopped, OnForeign, OnWorn, OnRefused, after_break, input_counted, output_counted}
 use Rattle.replay.specs.Guard.{Rises}
 use Rattle.replay.specs.Playing.{Opens, OpenEnds, CloseEnds, EventEnds, GoesOn, QuietUses}
 use Rattle.replay.specs.declared.Break.{Break}
@@ -25,26 +26,48 @@ use Rattle.replay.specs.declared.Break.TheVariants.{Stopped}
 use Rattle.replay.specs.declared.Stop.TheVariants as stops
 use Rattle.script_replay.specs.Steps.Answers.{ended}
 use Rattle.script_replay.specs.Calls.{WaitsBy}
-use Rattle.script_replay.specs.Held.{failures}
+use Rattle.script_replay.specs.Held.{input_marked, output_marked}
 
--- only an attach is counted by itself
-pub never : (kind : Fault) (x y f0 f1 : ℕ) → f0 ≡ 0 → f1 ≡ 0 → kind ≢ Attach → Rose (failures x f0 kind) (failures y f1 kind) → ⊥
-never Attach x y f0 f1 before now other rose = other refl
-never Read x y f0 f1 before now other rose = omega (arith, before, now, rose)
-never Flash x y f0 f1 before now other rose = omega (arith, before, now, rose)
-never Recv x y f0 f1 before now other rose = omega (arith, before, now, rose)
-never Send x y f0 f1 before now other rose = omega (arith, before, now, rose)
+-- a count that rose isn't 0
+not_none : (before now : ℕ) → now ≡ 0 → now ≡ raised before → ⊥
+not_none before now none rose = omega (arith, none, rose)
+
+-- where no call failed but attaches, an answer is no fault
+module _ (Kinds : Fault → Type 0) (other : (kind : Fault) → Kinds kind → kind ≢ Attach) (a r p v s : ℕ) (none : (r ≡ 0) × (p ≡ 0) × (v ≡ 0) × (s ≡ 0)) (before : Fault → ℕ) where
+  never : (kind : Fault) → Kinds kind → counts_by_kind a r p v s ≡ counts_after (Some kind) before → ⊥
+  never Attach is counts = other Attach is refl
+  never Read is counts = not_none (before Read) r none.0 (ap (λ (f : Fault → ℕ). f Read) counts)
+  never Flash is counts = not_none (before Flash) p none.1 (ap (λ (f : Fault → ℕ). f Flash) counts)
+  never Recv is counts = not_none (before Recv) v none.2 (ap (λ (f : Fault → ℕ). f Recv) counts)
+  never Send is counts = not_none (before Send) s none.3 (ap (λ (f : Fault → ℕ). f Send) counts)
+
+  pub no_fault : (T : Type 0) (x : Result T NodeError) → counts_by_kind a r p v s ≡ counts_after (told_by refusals.fault_in x) before → IfErr x (λ e. refusals.OnFault e Kinds) → IfErr x (λ e. refusals.OnFault e (λ kind. ⊥))
+  no_fault T (Ok value) counts why = tt
+  no_fault T (Err Memory) counts why = tt
+  no_fault T (Err (Failing kind)) counts why = never kind why counts
+  no_fault T (Err (Foreign region offset word)) counts why = tt
+  no_fault T (Err (Worn count)) counts why = tt
+
+-- a read, a program and an erase are no attach
+pub no_attach : (kind : Fault) → (kind ≡ Read) ⊎ (kind ≡ Flash) → kind ≢ Attach
+no_attach kind (inl read) attach = let other : Read ≡ Attach = sym read ∙ attach in cc
+no_attach kind (inr flash) attach = let other : Flash ≡ Attach = sym flash ∙ attach in cc
+
+pub no_attach_of_four : (kind : Fault) → (kind ≡ Read) ⊎ ((kind ≡ Flash) ⊎ ((kind ≡ Recv) ⊎ (kind ≡ Send))) → kind ≢ Attach
+no_attach_of_four kind (inl read) attach = let other : Read ≡ Attach = sym read ∙ attach in cc
+no_attach_of_four kind (inr (inl flash)) attach = let other : Flash ≡ Attach = sym flash ∙ attach in cc
+no_attach_of_four kind (inr (inr (inl recv))) attach = let other : Recv ≡ Attach = sym recv ∙ attach in cc
+no_attach_of_four kind (inr (inr (inr send))) attach = let other : Send ≡ Attach = sym send ∙ attach in cc
+
+-- counts of which none ever rises tell no fault
+pub never_raised : (kind : Fault) → (λ (k : Fault). 0) ≡ raised_at kind (λ (k : Fault). 0) → ⊥
+never_raised Attach counts = not_none 0 0 refl (ap (λ (f : Fault → ℕ). f Attach) counts)
+never_raised Read counts = not_none 0 0 refl (ap (λ (f : Fault → ℕ). f Read) counts)
+never_raised Flash counts = not_none 0 0 refl (ap (λ (f : Fault → ℕ). f Flash) counts)
+never_raised Recv counts = not_none 0 0 refl (ap (λ (f : Fault → ℕ). f Recv) counts)
+never_raised Send counts = not_none 0 0 refl (ap (λ (f : Fault → ℕ). f Send) counts)
 
 module _ {T : Type 0} where
-  -- where no call failed, an answer is no fault
-  pub no_fault : (a : Result T NodeError) (Kinds : Fault → Type 0) → ((kind : Fault) → Kinds kind → kind ≢ Attach) → (x y f0 f1 : ℕ) → f0 ≡ 0 → f1 ≡ 0
-      → IfErr a (λ e. refusals.OnFault e (λ kind. Kinds kind × Rose (failures x f0 kind) (failures y f1 kind))) → IfErr a (λ e. refusals.OnFault e (λ kind. ⊥))
-  no_fault (Ok v) Kinds other x y f0 f1 before now why = tt
-  no_fault (Err Memory) Kinds other x y f0 f1 before now why = tt
-  no_fault (Err (Failing kind)) Kinds other x y f0 f1 before now why = never kind x y f0 f1 before now (other kind why.0) why.1
-  no_fault (Err (Foreign region offset word)) Kinds other x y f0 f1 before now why = tt
-  no_fault (Err (Worn count)) Kinds other x y f0 f1 before now why = tt
-
   -- what holds where the node answers, also where its answer isn't taken
   pub on_ok : (P : T → Type 0) (m : Option ScriptMark) (a : Result T NodeError) → IfOk a P → IfOk (ended m a) P
   on_ok P (Some Lost) a is = tt
@@ -91,27 +114,28 @@ module _ {T : Type 0} where
   on_refused P None (Err (Foreign region offset word)) why = tt
   on_refused P None (Err (Worn count)) why = tt
 
-  pub on_input : (P : Type 0) (m : Option ScriptMark) (a : Result T NodeError) → (m ≡ Some Input → P) → IfErr (ended m a) (OnStopped (OnInput P))
-  on_input P (Some Lost) a why = tt
-  on_input P (Some (Refused line)) a why = tt
-  on_input P (Some Input) a why = why refl
-  on_input P (Some Output) a why = tt
-  on_input P None (Ok v) why = tt
-  on_input P None (Err Memory) why = tt
-  on_input P None (Err (Failing kind)) why = tt
-  on_input P None (Err (Foreign region offset word)) why = tt
-  on_input P None (Err (Worn count)) why = tt
+  -- the counts of the source and of the sink
+  pub ended_input : (m : Option ScriptMark) (a : Result T NodeError) (before : ℕ) → input_marked m before ≡ after_break input_counted (ended m a) before
+  ended_input (Some Lost) a before = refl
+  ended_input (Some (Refused line)) a before = refl
+  ended_input (Some Input) a before = refl
+  ended_input (Some Output) a before = refl
+  ended_input None (Ok v) before = refl
+  ended_input None (Err Memory) before = refl
+  ended_input None (Err (Failing kind)) before = refl
+  ended_input None (Err (Foreign region offset word)) before = refl
+  ended_input None (Err (Worn count)) before = refl
 
-  pub on_output : (P : Type 0) (m : Option ScriptMark) (a : Result T NodeError) → (m ≡ Some Output → P) → IfErr (ended m a) (OnStopped (OnOutput P))
-  on_output P (Some Lost) a why = tt
-  on_output P (Some (Refused line)) a why = tt
-  on_output P (Some Input) a why = tt
-  on_output P (Some Output) a why = why refl
-  on_output P None (Ok v) why = tt
-  on_output P None (Err Memory) why = tt
-  on_output P None (Err (Failing kind)) why = tt
-  on_output P None (Err (Foreign region offset word)) why = tt
-  on_output P None (Err (Worn count)) why = tt
+  pub ended_output : (m : Option ScriptMark) (a : Result T NodeError) (before : ℕ) → output_marked m before ≡ after_break output_counted (ended m a) before
+  ended_output (Some Lost) a before = refl
+  ended_output (Some (Refused line)) a before = refl
+  ended_output (Some Input) a before = refl
+  ended_output (Some Output) a before = refl
+  ended_output None (Ok v) before = refl
+  ended_output None (Err Memory) before = refl
+  ended_output None (Err (Failing kind)) before = refl
+  ended_output None (Err (Foreign region offset word)) before = refl
+  ended_output None (Err (Worn count)) before = refl
 
   -- a mark of the sink is told by the result
   pub no_output : (r : Result T Break) (m : Option ScriptMark) (a : Result T NodeError) → r ≡ ended m a → r ≢ Err (Stopped stops.Output) → m ≢ Some Output

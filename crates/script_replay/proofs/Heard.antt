@@ -26,58 +26,42 @@ not_lost line is = cc
 not_input : (line : ℕ) → Some Input ≡ Some (Refused line) → ⊥
 not_input line is = cc
 
-lost_input : Some Lost ≡ Some Input → ⊥
-lost_input is = cc
-
 same_line : (a b : ℕ) → Some (Refused a) ≡ Some (Refused b) → b ≡ a
 same_line a b is = cc
 
 pub waits_refused : (m : Option ScriptMark) (line would now : ℕ) → m ≡ Some (Refused line) → WaitsBy m would now → ⊥
 waits_refused m line would now is waits = subst (λ (n : Option ScriptMark). WaitsBy n would now) is waits
 
-pub waits_input : (m : Option ScriptMark) (would now : ℕ) → m ≡ Some Input → WaitsBy m would now → ⊥
-waits_input m would now is waits = subst (λ (n : Option ScriptMark). WaitsBy n would now) is waits
-
-module _ (buffer : List ℕ) (m : Option ScriptMark) (before now : ℕ) (faulted refused : Type 0) (next : ℕ) (lines : List ScriptLine) where
+module _ (buffer : List ℕ) (m : Option ScriptMark) (before now was here : ℕ) (refused : Type 0) (next : ℕ) (lines : List ScriptLine) where
   -- a call that has no room for a reception takes no line, where it received nothing
-  pub quiet : (heard : Option Event) (room : Bool) → [] ≡ events_heard heard buffer → room ≡ false → HasHeard room heard buffer m before now faulted next refused lines → (lines ≡ []) × WaitsBy m before now
+  pub quiet : (heard : Option Event) (room : Bool) → [] ≡ events_heard heard buffer → room ≡ false → HasHeard room heard buffer m before now was here next refused lines → (lines ≡ []) × WaitsBy m before now
   quiet None room none shut (inl only) = only
   quiet None room none shut (inr (has_room, un, waits)) = absurd (closed (sym shut ∙ has_room))
   quiet (Some heard) room none shut hears = absurd (empty _ none)
 
-  refused_by : (line : ℕ) → m ≡ Some (Refused line) → IsUnheard None m 0 lines faulted next refused → (line ≡ next) × refused
-  refused_by line is (inl (front, lines_are, losses, mark)) = absurd (not_lost line (sym mark ∙ is))
+  refused_by : (line : ℕ) → m ≡ Some (Refused line) → IsUnheard None m 0 lines was here next refused → (line ≡ next) × refused
+  refused_by line is (inl (front, lines_are, losses, mark, still)) = absurd (not_lost line (sym mark ∙ is))
   refused_by line is (inr (inl (losses, fault, mark))) = absurd (not_input line (sym (mark refl) ∙ is))
-  refused_by line is (inr (inr (losses, refusal, mark))) = (same_line next line (sym mark ∙ is), refusal)
+  refused_by line is (inr (inr (losses, refusal, mark, still))) = (same_line next line (sym mark ∙ is), refusal)
 
-  pub refused_so : (heard : Option Event) (room : Bool) (line : ℕ) → HasHeard room heard buffer m before now faulted next refused lines → m ≡ Some (Refused line) → (line ≡ next) × refused
+  pub refused_so : (heard : Option Event) (room : Bool) (line : ℕ) → HasHeard room heard buffer m before now was here next refused lines → m ≡ Some (Refused line) → (line ≡ next) × refused
   refused_so None room line (inl only) is = absurd (waits_refused m line before now is only.1)
   refused_so None room line (inr (has_room, un, waits)) is = refused_by line is un
   refused_so (Some heard) room line hears is = absurd (waits_refused m line _ now is hears.1)
 
-  input_by : m ≡ Some Input → IsUnheard None m 0 lines faulted next refused → faulted
-  input_by is (inl (front, lines_are, losses, mark)) = absurd (lost_input (sym mark ∙ is))
-  input_by is (inr (inl (losses, fault, mark))) = fault
-  input_by is (inr (inr (losses, refusal, mark))) = absurd (not_input next (sym is ∙ mark))
-
-  pub input_so : (heard : Option Event) (room : Bool) → HasHeard room heard buffer m before now faulted next refused lines → m ≡ Some Input → faulted
-  input_so None room (inl only) is = absurd (waits_input m before now is only.1)
-  input_so None room (inr (has_room, un, waits)) is = input_by is un
-  input_so (Some heard) room hears is = absurd (waits_input m _ now is hears.1)
-
-  some_by : (heard : Option Event) (room : Bool) (turn : Turn) → HasHeard room heard buffer m before now faulted next refused lines → CameBy (Ok turn) (events_heard heard buffer) → 1 ≤ length lines
+  some_by : (heard : Option Event) (room : Bool) (turn : Turn) → HasHeard room heard buffer m before now was here next refused lines → CameBy (Ok turn) (events_heard heard buffer) → 1 ≤ length lines
   some_by None room turn hears came = absurd (empty came.0 came.1)
   some_by (Some heard) room turn hears came = length-heard heard buffer lines hears.0
 
 -- an event that came took a line at least
-module _ (buffer : List ℕ) (before now : ℕ) (faulted refused : Type 0) (next : ℕ) (lines : List ScriptLine) where
-  pub some_lines : (m : Option ScriptMark) (a : Result Turn NodeError) (heard : Option Event) (room : Bool) → HasHeard room heard buffer m before now faulted next refused lines
+module _ (buffer : List ℕ) (before now was here : ℕ) (refused : Type 0) (next : ℕ) (lines : List ScriptLine) where
+  pub some_lines : (m : Option ScriptMark) (a : Result Turn NodeError) (heard : Option Event) (room : Bool) → HasHeard room heard buffer m before now was here next refused lines
       → CameBy a (events_heard heard buffer) → OnOk (ended m a) (1 ≤ length lines)
   some_lines (Some Lost) a heard room hears came = tt
   some_lines (Some (Refused line)) a heard room hears came = tt
   some_lines (Some Input) a heard room hears came = tt
   some_lines (Some Output) a heard room hears came = tt
-  some_lines None (Ok turn) heard room hears came = some_by buffer None before now faulted refused next lines heard room turn hears came
+  some_lines None (Ok turn) heard room hears came = some_by buffer None before now was here refused next lines heard room turn hears came
   some_lines None (Err Memory) heard room hears came = tt
   some_lines None (Err (Failing kind)) heard room hears came = tt
   some_lines None (Err (Foreign region offset word)) heard room hears came = tt

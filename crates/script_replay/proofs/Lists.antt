@@ -4,7 +4,6 @@ use Rattle.std.specs.Option.{is_some}
 use Rattle.flash_traits.specs.declared.stream.Source as source
 use Rattle.flash_traits.specs.declared.stream.Sink as sink
 use Rattle.flash_traits.specs.Losses.{Received, SentFrame}
-use Rattle.flash_traits.specs.Causes.{Rose}
 use Rattle.flash_traits.specs.declared.board.Event.{Event}
 use Rattle.script_lines.specs.Script.{ScriptLine}
 use Rattle.script_lines.specs.declared.line.Waiting.{Waiting}
@@ -26,23 +25,23 @@ pub none_no_output : (let none : Option ScriptMark = None in none) ≡ Some Outp
 none_no_output is = cc
 
 -- a script without a failure heard the event that it was asked for
-pub on_heard : (faulted refused : Type 0) (next : ℕ) (lines : List ScriptLine) → IsUnheard None None 0 lines faulted next refused → ⊥
-on_heard faulted refused next lines (inl (front, ends, losses, mark)) = cc
-on_heard faulted refused next lines (inr (inl (losses, fault, mark))) = let is = mark refl in cc
-on_heard faulted refused next lines (inr (inr (losses, refusal, mark))) = cc
+pub on_heard : (was here : ℕ) (refused : Type 0) (next : ℕ) (lines : List ScriptLine) → IsUnheard None None 0 lines was here next refused → ⊥
+on_heard was here refused next lines (inl (front, ends, losses, mark, still)) = cc
+on_heard was here refused next lines (inr (inl (losses, fault, mark))) = let is = mark refl in cc
+on_heard was here refused next lines (inr (inr (losses, refusal, mark, still))) = cc
 
 -- what a call that takes no line does to the losses that wait, where the script had not failed
-pub heard_then : (room : Bool) (heard : Option Event) (buffer : List ℕ) (mark : Option ScriptMark) (before now later next more : ℕ) (faulted refused fault refusal : Type 0) (lines : List ScriptLine)
+pub heard_then : (room : Bool) (heard : Option Event) (buffer : List ℕ) (mark : Option ScriptMark) (before now later next more was here first last : ℕ) (refused refusal : Type 0) (lines : List ScriptLine)
     → ((would : ℕ) → now ≡ would → WaitsBy mark would later)
-    → HasHeard room heard buffer None before now faulted next refused lines → HasHeard room heard buffer mark before later fault more refusal lines
-heard_then room None buffer mark before now later next more faulted refused fault refusal lines waits (inl (none, same)) = inl (none, waits before same)
-heard_then room None buffer mark before now later next more faulted refused fault refusal lines waits (inr (roomy, unheard, same)) = absurd (on_heard faulted refused next lines unheard)
-heard_then room (Some event) buffer mark before now later next more faulted refused fault refusal lines waits (heard, same) = (heard, waits _ same)
+    → HasHeard room heard buffer None before now was here next refused lines → HasHeard room heard buffer mark before later first last more refusal lines
+heard_then room None buffer mark before now later next more was here first last refused refusal lines waits (inl (none, same)) = inl (none, waits before same)
+heard_then room None buffer mark before now later next more was here first last refused refusal lines waits (inr (roomy, unheard, same)) = absurd (on_heard was here refused next lines unheard)
+heard_then room (Some event) buffer mark before now later next more was here first last refused refusal lines waits (heard, same) = (heard, waits _ same)
 
 -- what was heard, by the parts of the board that tell it
 abbrev HasHeardOf : {S : Type 0} → Bool → ℕ → ℕ → source.Ghosts S → Option Event → List ℕ → List ScriptLine → S → List ℕ → ℕ → Option ScriptMark → List Waiting → Type 0
 HasHeardOf room waited faults g heard buffer lines s unread line mark waiting =
-    HasHeard room heard buffer mark waited (length waiting) (Rose faults (g.faults s)) (line + 1) (IsRefused line waiting unread (g.tells_rest s) (g.rest s)) lines
+    HasHeard room heard buffer mark waited (length waiting) faults (g.faults s) (line + 1) (IsRefused line waiting unread (g.tells_rest s) (g.rest s)) lines
 
 module _ {S K N : Type 0} {g : source.Ghosts S} {h : sink.Ghosts K} (n : start.Ghosts N) (a b : ScriptBoard S K g h) where
   -- the board is the same
@@ -83,8 +82,8 @@ module _ {S K N : Type 0} {g : source.Ghosts S} {h : sink.Ghosts K} (n : start.G
     printed = λ other tells. prints other tells (had.printed (λ is. none_no_output (sym on ∙ is)) (told tells));
     lines = had.lines;
     line = line ∙ had.line;
-    hears = heard_then n.room heard buffer b.mark n.waiting (length a.waiting.items) (length b.waiting.items) _ _ _ _ _ _ had.lines waits
-        (subst (λ (m : Option ScriptMark). HasHeard n.room heard buffer m n.waiting (length a.waiting.items) (Rose n.input_faults (g.faults a.input.now)) (a.line + 1)
+    hears = heard_then n.room heard buffer b.mark n.waiting (length a.waiting.items) (length b.waiting.items) _ _ _ _ _ _ _ _ had.lines waits
+        (subst (λ (m : Option ScriptMark). HasHeard n.room heard buffer m n.waiting (length a.waiting.items) n.input_faults (g.faults a.input.now) (a.line + 1)
         (IsRefused a.line a.waiting.items (unread_in a) (g.tells_rest a.input.now) (g.rest a.input.now)) had.lines) on had.hears);
     takes = λ told. subst (λ (s : S). Takes n.unread n.rest (unread_in b) (g.rest s) had.lines) (sym input)
         (subst (λ (u : List ℕ). Takes n.unread n.rest u (g.rest a.input.now) had.lines) (sym unread) (had.takes (subst (λ (s : S). g.tells_rest s) input told)));

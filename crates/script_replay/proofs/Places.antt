@@ -1,14 +1,13 @@
 -- From one place of the board to the next.
 use Rattle.std.proofs.Common.{◌≡◌, ◌⊎◌, inl, inr, ℕ, Bool, true, false, List, [], ◌++◌, length, drop, Option, IsSome, Result, Ok, Err, IfErr, refl, sym, ◌∙◌, ap, subst, arith, length-append, append_assoc}
 use Rattle.std.proofs.lemmas.List.{take-append-drop}
-use Rattle.flash_traits.specs.Causes.{Rose}
 use Rattle.flash_traits.specs.Losses.{SentFrame}
 use Rattle.flash_traits.specs.declared.stream.Source as source
 use Rattle.flash_traits.specs.declared.stream.Sink as sink
 use Rattle.sector_image.specs.FirstBad.{Place}
 use Rattle.script_lines.specs.Script.{ScriptLine}
 use Rattle.script_board.specs.declared.board.ScriptBoard.{ScriptBoard}
-use Rattle.replay.specs.Breaks.{OnStopped, OnForeign, OnOutput}
+use Rattle.replay.specs.Breaks.{OnStopped, OnForeign}
 use Rattle.replay.specs.Histories.{AreNext}
 use Rattle.replay.specs.Playing.{AddsLines}
 use Rattle.replay.specs.declared.Break.{Break}
@@ -56,8 +55,8 @@ module _ {S K : Type 0} {g : source.Ghosts S} {h : sink.Ghosts K} where
   }
 
   module _ {N : Type 0} (room : Bool) (old new : Option (ScriptBoard S K g h)) (back : Returns (now_at {N = N} room old) new) where
-    pub grows_then : {M : Type 0} (m : beginning.Ghosts M) (before : Bool) → HoldsAt m before old → TellsWritten new → (text : List ℕ) × (written_at new ≡ m.written ++ text)
-    grows_then m before holds told =
+    pub grows_then : {M : Type 0} (m : beginning.Ghosts M) → HoldsAt m old → TellsWritten new → (text : List ℕ) × (written_at new ≡ m.written ++ text)
+    grows_then m holds told =
         let was = holds.grows (back.told_written told) in
         let more = drop (length (written_at old)) (written_at new) in (
           was.0 ++ more,
@@ -65,24 +64,16 @@ module _ {S K : Type 0} {g : source.Ghosts S} {h : sink.Ghosts K} where
         )
 
     -- the player still holds its board
-    pub holds_then : {M : Type 0} (m : beginning.Ghosts M) (before now : Bool) → HoldsAt m before old → (now ≡ false → (before ≡ false) ⊎ Rose (output_faults_at old) (output_faults_at new))
-        → HoldsAt m now new
-    holds_then m before now holds fails = record {
+    pub holds_then : {M : Type 0} (m : beginning.Ghosts M) → HoldsAt m old → HoldsAt m new
+    holds_then m holds = record {
       some = back.some;
       input = back.input ∙ holds.input;
       out = back.out ∙ holds.out;
       size = back.size ∙ holds.size;
       told_rest = λ t. holds.told_rest (back.told_rest t);
       told_written = λ t. holds.told_written (back.told_written t);
-      grows = λ t. grows_then m before holds t;
-      input_counts = omega (arith, back.input_counts, holds.input_counts);
-      output_counts = omega (arith, back.output_counts, holds.output_counts);
-      failed = λ is. failed_by (fails is);
+      grows = λ t. grows_then m holds t;
     }
-      where
-        failed_by : (before ≡ false) ⊎ Rose (output_faults_at old) (output_faults_at new) → Rose m.output_faults (output_faults_at new)
-        failed_by (inl was) = let rose = holds.failed was in omega (arith, rose, back.output_counts)
-        failed_by (inr rose) = omega (arith, rose, holds.output_counts)
 
     pub told_then : (before now : Bool) → (now ≡ true → before ≡ true) → ToldAt now new → ToldAt before old
     told_then before now so told = record { unfailed = so told.unfailed; rest = back.told_rest told.rest; written = back.told_written told.written }
@@ -108,11 +99,3 @@ foreign_less P Q so (Err (Stopped (stops.Worn count))) is = tt
 foreign_less P Q so (Err (Stopped (stops.Refused line))) is = tt
 foreign_less P Q so (Err (Stopped stops.Input)) is = tt
 foreign_less P Q so (Err (Stopped stops.Output)) is = tt
-
--- where a line failed in a call, the sink did
-pub output_rose : {T : Type 0} (P : Type 0) (r : Result T Break) → IfErr r (OnStopped (OnOutput P)) → r ≡ Err (Stopped stops.Output) → P
-output_rose {T} P r why is = subst (λ (x : Result T Break). IfErr x (OnStopped (OnOutput P))) is why
-
-pub fails_by : {T : Type 0} (P : Type 0) (r : Result T Break) (before : Bool) → IfErr r (OnStopped (OnOutput P)) → (before ≡ false) ⊎ (r ≡ Err (Stopped stops.Output)) → (before ≡ false) ⊎ P
-fails_by P r before why (inl was) = inl was
-fails_by P r before why (inr is) = inr (output_rose P r why is)

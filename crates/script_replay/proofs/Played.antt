@@ -7,9 +7,9 @@ use Rattle.flash_traits.specs.declared.board.Board as board
 use Rattle.flash_traits.specs.declared.board.Event.{Event}
 use Rattle.flash_traits.specs.declared.stream.Source as source
 use Rattle.flash_traits.specs.declared.stream.Sink as sink
-use Rattle.vehicle_node.specs.Guard.{MayWear, RisesWithin}
+use Rattle.vehicle_runs.specs.Guard.{MayWear, RisesWithin}
+use Rattle.vehicle_runs.specs.Safe.{Safe, SafeSince}
 use Rattle.vehicle_node.specs.Refusals as refusals
-use Rattle.vehicle_node.specs.Safe.{Safe, SafeSince}
 use Rattle.vehicle_node.specs.Standing.{Node, Fits, StandsForRun, StaysWithin}
 use Rattle.vehicle_node.specs.declared.NodeError.{NodeError}
 use Rattle.vehicle_node.specs.declared.Turn.{Turn}
@@ -44,21 +44,20 @@ module _ {S K N : Type 0} {g : source.Ghosts S} {h : sink.Ghosts K} (n : start.G
       → (Q : ℕ → Type 0) → ((full : ℕ) → Q full → Wears budget old (events_heard heard buffer)) → IfErr a (λ x. refusals.OnWorn x Q) → Plays n budget (Some b) old new r
   played is lists room came goes safe rises Q wears worn =
       let came_so : CameBy a (events_heard heard buffer) = subst (λ (l : List Received). CameBy a l) lists.events_are came in
-      let faulted = Rose n.input_faults (g.faults b.input.now) in
       let refused = IsRefused b.line b.waiting.items (unread_in b) (g.tells_rest b.input.now) (g.rest b.input.now) in
-      let same : events_of lists.lines ≡ events_heard heard buffer = events_same n.room heard buffer b.mark n.waiting (length b.waiting.items) faulted refused (b.line + 1) lists.lines lists.hears in
+      let same : events_of lists.lines ≡ events_heard heard buffer = events_same n.room heard buffer b.mark n.waiting (length b.waiting.items) n.input_faults (g.faults b.input.now) refused (b.line + 1) lists.lines lists.hears in
       record {
         lines = lists.lines;
         frames = f;
         finished = finished_by a;
         added = record { line = lists.line; takes = lists.takes };
         uses = subst (λ (x : Result Turn Break). TurnUses x lists.lines (finished_by a) n.waiting (length b.waiting.items)) (sym is)
-            (turn_uses buffer lists.lines n.waiting (length b.waiting.items) heard a b.mark faulted refused (b.line + 1)
-            (subst (λ (x : Bool). HasHeard x heard buffer b.mark n.waiting (length b.waiting.items) faulted (b.line + 1) refused lists.lines) room lists.hears) came_so);
+            (turn_uses buffer lists.lines n.waiting (length b.waiting.items) heard a b.mark n.input_faults (g.faults b.input.now) refused (b.line + 1)
+            (subst (λ (x : Bool). HasHeard x heard buffer b.mark n.waiting (length b.waiting.items) n.input_faults (g.faults b.input.now) (b.line + 1) refused lists.lines) room lists.hears) came_so);
         some = subst (λ (x : Result Turn Break). OnOk x (1 ≤ length lists.lines)) (sym is)
-            (some_lines buffer n.waiting (length b.waiting.items) faulted refused (b.line + 1) lists.lines b.mark a heard n.room lists.hears came_so);
+            (some_lines buffer n.waiting (length b.waiting.items) n.input_faults (g.faults b.input.now) refused (b.line + 1) lists.lines b.mark a heard n.room lists.hears came_so);
         few_wait = lists.few;
-        few = few_heard n.room heard buffer b.mark n.waiting (length b.waiting.items) faulted refused (b.line + 1) lists.lines lists.hears;
+        few = few_heard n.room heard buffer b.mark n.waiting (length b.waiting.items) n.input_faults (g.faults b.input.now) refused (b.line + 1) lists.lines lists.hears;
         printed = λ other told. (lists.printed (no_output r b.mark a is other) told).0;
         ends = λ other told. subst (λ (x : Result Turn Break). EventEnds budget x old new (events_of lists.lines) f (finished_by a) (words_in b)) (sym is)
             (subst (λ (l : List Received). EventEnds budget (ended b.mark a) old new l f (finished_by a) (words_in b)) (sym same)

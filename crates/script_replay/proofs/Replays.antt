@@ -18,12 +18,9 @@ use Rattle.script_replay.specs.Steps.Replaying.{Begins, RanSo, ReplaysAt, StopsA
 use Rattle.script_replay.specs.declared.start.Beginning as beginning
 use Rattle.script_replay.proofs.Scripts.{takes_none}
 
-shut : true ≡ false → ⊥
-shut is = cc
-
 module _ {S K : Type 0} {g : source.Ghosts S} {h : sink.Ghosts K} {M : Type 0} (m : beginning.Ghosts M) (old : Option (ScriptBoard S K g h)) (begins : Begins m old) where
   -- the player holds the board at the start, and no loss waits
-  pub holds_begins : HoldsAt m true old
+  pub holds_begins : HoldsAt m old
   holds_begins = record {
     some = begins.some;
     input = begins.input;
@@ -32,9 +29,6 @@ module _ {S K : Type 0} {g : source.Ghosts S} {h : sink.Ghosts K} {M : Type 0} (
     told_rest = begins.tells_rest;
     told_written = begins.tells_written;
     grows = λ told. ([], begins.written ∙ sym (append-nil m.written));
-    input_counts = let same = begins.input_faults in omega (arith, same);
-    output_counts = let same = begins.output_faults in omega (arith, same);
-    failed = λ is. absurd (shut is);
   }
 
   pub none_waits : waiting_at old ≡ 0

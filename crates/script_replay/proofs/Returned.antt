@@ -1,7 +1,6 @@
 -- What one call leaves of the board that was held for it.
 use Rattle.std.proofs.Common.{◌≡◌, ◌≢◌, ℕ, ◌+◌, ◌≤◌, Bool, true, false, List, [], ◌++◌, length, Option, Some, Result, Ok, Err, IfOk, IfErr, OnOk, refl, sym, ◌∙◌, ap, subst, arith, append-nil}
 use Rattle.flash_traits.specs.Budget.{budget_of}
-use Rattle.flash_traits.specs.Causes.{Rose}
 use Rattle.flash_traits.specs.Losses.{Received, SentFrame, Outcome, After}
 use Rattle.flash_traits.specs.declared.board.Board as board
 use Rattle.flash_traits.specs.declared.stream.Source as source
@@ -9,9 +8,9 @@ use Rattle.flash_traits.specs.declared.stream.Sink as sink
 use Rattle.sector_image.specs.Stands.{Stands}
 use Rattle.flash_traits.specs.Words.{Words}
 use Rattle.guard_row.specs.Row.{IsGuardRow}
-use Rattle.vehicle_node.specs.Guard.{MayWear, RisesWithin}
+use Rattle.vehicle_runs.specs.Guard.{MayWear, RisesWithin}
+use Rattle.vehicle_runs.specs.Safe.{Safe, SafeSince}
 use Rattle.vehicle_node.specs.Refusals as refusals
-use Rattle.vehicle_node.specs.Safe.{Safe, SafeSince}
 use Rattle.vehicle_node.specs.Standing.{Node, Fits, StandsForRun, StaysWithin}
 use Rattle.vehicle_node.specs.declared.NodeError.{NodeError}
 use Rattle.script_lines.specs.Script.{ScriptLine}
@@ -60,8 +59,6 @@ module _ {S K N : Type 0} {g : source.Ghosts S} {h : sink.Ghosts K} (n : start.G
     told_rest = lists.told_rest;
     told_written = lists.told_written;
     grows = held.kept;
-    input_counts = held.input_counts;
-    output_counts = held.output_counts;
   }
 
   -- a loss at the end of the call leaves what is safe, whatever run it went on with
@@ -88,7 +85,7 @@ module _ {S K N : Type 0} {g : source.Ghosts S} {h : sink.Ghosts K} (n : start.G
 
   module _ (lists : HasLists n held.board held.heard held.buffer [] []) (shut : n.room ≡ false) where
     pub quiet_so : (lists.lines ≡ []) × WaitsBy held.board.mark n.waiting (length held.board.waiting.items)
-    quiet_so = quiet held.buffer held.board.mark n.waiting (length held.board.waiting.items) (Rose n.input_faults (g.faults held.board.input.now))
+    quiet_so = quiet held.buffer held.board.mark n.waiting (length held.board.waiting.items) n.input_faults (g.faults held.board.input.now)
         (IsRefused held.board.line held.board.waiting.items (unread_in held.board) (g.tells_rest held.board.input.now) (g.rest held.board.input.now)) (held.board.line + 1) lists.lines held.heard n.room
         lists.events_are shut lists.hears
 

@@ -56,11 +56,11 @@ behind_most event.Idle before lines = omega arith
 behind_most event.End before lines = omega arith
 
 -- a call adds no more waiting losses than it took
-pub few_heard : (room : Bool) (heard : Option Event) (buffer : List ℕ) (m : Option ScriptMark) (before now : ℕ) (faulted refused : Type 0) (next : ℕ) (lines : List ScriptLine)
-    → HasHeard room heard buffer m before now faulted next refused lines → now ≤ before + loses lines
-few_heard room None buffer m before now faulted refused next lines (inl (none, waits)) = omega (arith, waits_most m before now waits)
-few_heard room None buffer m before now faulted refused next lines (inr (has_room, un, waits)) = omega (arith, waits)
-few_heard room (Some heard) buffer m before now faulted refused next lines hears = omega (arith, waits_most m _ now hears.1, behind_most heard before lines)
+pub few_heard : (room : Bool) (heard : Option Event) (buffer : List ℕ) (m : Option ScriptMark) (before now was here : ℕ) (refused : Type 0) (next : ℕ) (lines : List ScriptLine)
+    → HasHeard room heard buffer m before now was here next refused lines → now ≤ before + loses lines
+few_heard room None buffer m before now was here refused next lines (inl (none, waits)) = omega (arith, waits_most m before now waits)
+few_heard room None buffer m before now was here refused next lines (inr (has_room, un, waits)) = omega (arith, waits)
+few_heard room (Some heard) buffer m before now was here refused next lines hears = omega (arith, waits_most m _ now hears.1, behind_most heard before lines)
 
 -- The line that is refused stays refused where what is left is told.
 no_line_told : (unread : List ℕ) (told : Type 0) (rest : List ℕ) → told → HasNoLine unread told rest → HasNoLine unread (Unit {0}) rest

@@ -3,27 +3,12 @@ use Rattle.std.proofs.Common.{◌≡◌, inr, ℕ, ◌≤◌, List, Err, ap, ari
 use Rattle.flash_traits.specs.declared.stream.Source as source
 use Rattle.flash_traits.specs.declared.stream.Sink as sink
 use Rattle.flash_traits.specs.Words.{Words}
-use Rattle.flash_traits.specs.Counts.{raised}
-use Rattle.flash_traits.specs.Causes.{HasCause}
-use Rattle.flash_traits.specs.declared.board.Fault.{Fault}
-use Rattle.flash_traits.specs.declared.board.Fault.TheVariants as fault
 use Rattle.flash_traits.specs.Losses.{Received, SentFrame, Moment, IsUpTo, Outcome, After, OnWords, ChangesWords, Elapses}
 use Rattle.script_board.specs.Boards.{words_in}
 use Rattle.script_board.specs.Lists.{moment_of}
-use Rattle.script_replay.specs.Held.{StandsFor, HasLeft, failures}
+use Rattle.script_replay.specs.Held.{StandsFor, HasLeft}
 use Rattle.script_replay.specs.declared.start.Start as start
 use Rattle.script_replay.specs.declared.held.Held.{Held}
-
--- a reception that fails is counted
-pub recv_fails : {T E : Type 0} (attaches old new : ℕ) (e : E) → new ≡ raised old → HasCause {T = T} {E = E} fault.Recv (failures attaches old) (failures attaches new) (Err e)
-recv_fails attaches old new e is = record { later = later; failed = omega (arith, is) }
-  where
-    later : (k : Fault) → failures attaches old k ≤ failures attaches new k
-    later fault.Attach = omega arith
-    later fault.Read = omega (arith, is)
-    later fault.Flash = omega (arith, is)
-    later fault.Recv = omega (arith, is)
-    later fault.Send = omega (arith, is)
 
 module _ {S K N : Type 0} {g : source.Ghosts S} {h : sink.Ghosts K} {n : start.Ghosts N} (old new : Held S K N g h n) where
   -- the clause of a call of the device

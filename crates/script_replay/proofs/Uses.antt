@@ -77,11 +77,11 @@ module _ (buffer : List ℕ) (lines : List ScriptLine) (before now : ℕ) where
     (no_end-losses lines losses, waits),
   )
 
-  unheard : (m : Option ScriptMark) (e : NodeError) (faulted refused : Type 0) (next : ℕ) → IsUnheard None m 0 lines faulted next refused → now ≡ before + loses lines
+  unheard : (m : Option ScriptMark) (e : NodeError) (was here : ℕ) (refused : Type 0) (next : ℕ) → IsUnheard None m 0 lines was here next refused → now ≡ before + loses lines
       → TurnUses (ended m (Err e)) lines 0 before now
-  unheard m e faulted refused next (inl (front, is, losses, mark)) waits = cut m e mark front is losses waits
-  unheard m e faulted refused next (inr (inl (losses, fault, mark))) waits = unread m e (mark refl) losses
-  unheard m e faulted refused next (inr (inr (losses, refusal, mark))) waits = refuses m e next mark losses waits
+  unheard m e was here refused next (inl (front, is, losses, mark, still)) waits = cut m e mark front is losses waits
+  unheard m e was here refused next (inr (inl (losses, fault, mark))) waits = unread m e (mark refl) losses
+  unheard m e was here refused next (inr (inr (losses, refusal, mark, still))) waits = refuses m e next mark losses waits
 
   -- an event that isn't the end was heard, or the end
   module _ (heard : Event) (is : IsEventHeard heard buffer lines) where
@@ -116,9 +116,9 @@ module _ (buffer : List ℕ) (lines : List ScriptLine) (before now : ℕ) where
   by_event event.Idle a m is waits came = more event.Idle is a idle_end m waits came
   by_event event.End a m is waits came = ended_so is a m waits came
 
-  pub turn_uses : (heard : Option Event) (a : Result Turn NodeError) (m : Option ScriptMark) (faulted refused : Type 0) (next : ℕ) → HasHeard true heard buffer m before now faulted next refused lines
+  pub turn_uses : (heard : Option Event) (a : Result Turn NodeError) (m : Option ScriptMark) (was here : ℕ) (refused : Type 0) (next : ℕ) → HasHeard true heard buffer m before now was here next refused lines
       → CameBy a (events_heard heard buffer) → TurnUses (ended m a) lines (finished_by a) before now
-  turn_uses None (Ok answer) m faulted refused next hears came = absurd (empty came.0 came.1)
-  turn_uses None (Err e) m faulted refused next (inl (none, waits)) came = nothing m e none waits
-  turn_uses None (Err e) m faulted refused next (inr (room, un, waits)) came = unheard m e faulted refused next un waits
-  turn_uses (Some heard) a m faulted refused next hears came = by_event heard a m hears.0 hears.1 came
+  turn_uses None (Ok answer) m was here refused next hears came = absurd (empty came.0 came.1)
+  turn_uses None (Err e) m was here refused next (inl (none, waits)) came = nothing m e none waits
+  turn_uses None (Err e) m was here refused next (inr (room, un, waits)) came = unheard m e was here refused next un waits
+  turn_uses (Some heard) a m was here refused next hears came = by_event heard a m hears.0 hears.1 came

@@ -1,5 +1,5 @@
 -- The whole replay, over an image and from the source to the sink.
-use Rattle.std.proofs.Common.{◌≡◌, ◌≢◌, ℕ, ◌+◌, false, true, List, [], ◌++◌, length, Option, Some, None, IsSome, IfSome, Result, Ok, Err, IfOk, IfErr, sym, ◌∙◌, ap, subst}
+use Rattle.std.proofs.Common.{◌≡◌, ◌≢◌, ◌≤◌, ◌<◌, inl, inr, ℕ, ◌+◌, false, true, List, [], ◌∷◌, ◌++◌, arith, append-nil, length-append, length, Option, Some, None, IsSome, IfSome, Result, Ok, Err, IfOk, IfErr, sym, ◌∙◌, ap, subst}
 use Rattle.std.specs.Borrow.{MutBor}
 use Rattle.flash_traits.specs.Budget.{budget_of}
 use Rattle.flash_traits.specs.Words.{Words}
@@ -9,9 +9,11 @@ use Rattle.sha2.specs.Sha256.{sha256}
 use Rattle.sector_image.specs.FirstBad.{Place, FirstBad}
 use Rattle.sector_image.specs.Laws.{OneOfBoth}
 use Rattle.sector_image.specs.Stands.{Stands}
-use Rattle.script_lines.specs.Script.{ScriptLine}
+use Rattle.script_lines.specs.Script.{ScriptLine, End, HasNoEnd, AreLines, IsScript, line_feed}
 use Rattle.script_board.specs.Boards.{words_in, unread_in}
 use Rattle.script_board.specs.Hearing.{IsRefused}
+use Rattle.script_board.specs.Taking.{AreTaken}
+use Rattle.script_lines.specs.declared.numbers.TheConstants.{SCRIPT_LINES}
 use Rattle.script_board.specs.Image.{words_of}
 use Rattle.script_board.specs.declared.board.ScriptBoard.{ScriptBoard}
 use Rattle.replay.specs.Breaks.{OnForeign, OnRefused}
@@ -42,6 +44,33 @@ on_foreign_bad P Q so (stops.Worn count) bad = tt
 on_foreign_bad P Q so (stops.Refused line) bad = tt
 on_foreign_bad P Q so stops.Input bad = tt
 on_foreign_bad P Q so stops.Output bad = tt
+
+-- no more lines were taken than a script may have
+few_lines : (count : ℕ) (lines : List ScriptLine) → count ≤ SCRIPT_LINES → count ≡ length lines → length lines ≤ SCRIPT_LINES
+few_lines count lines few is = subst (λ (n : ℕ). n ≤ SCRIPT_LINES) is few
+
+-- lines that were taken up to the end are the script that the source began with
+is_script : (lines front : List ScriptLine) (before unread now : List ℕ) → Takes [] before unread now lines → lines ≡ front ++ End ∷ [] → HasNoEnd front → length lines ≤ SCRIPT_LINES
+    → IsScript front (unread ++ now) before
+is_script lines front before unread now took are none few =
+    let long : length lines ≡ length front + 1 = ap length are ∙ length-append front (End ∷ []) in
+    by_end took.whole (omega (arith, few, long))
+  where
+    by_end : AreTaken lines took.bytes (unread ++ now) → length front < SCRIPT_LINES → IsScript front (unread ++ now) before
+    by_end (inl reads) short = record {
+      bytes = took.bytes;
+      reads = subst (λ (l : List ScriptLine). AreLines l took.bytes) are reads;
+      before = none;
+      few = short;
+      whole = inl took.split;
+    }
+    by_end (inr (reads, nothing)) short = record {
+      bytes = took.bytes ++ line_feed ∷ [];
+      reads = subst (λ (l : List ScriptLine). AreLines l (took.bytes ++ line_feed ∷ [])) are reads;
+      before = none;
+      few = short;
+      whole = inr (ap (λ (l : List ℕ). l ++ line_feed ∷ []) (took.split ∙ ap (λ (l : List ℕ). took.bytes ++ l) nothing ∙ append-nil took.bytes), nothing);
+    }
 
 module _ {S K : Type 0} {g : source.Ghosts S} {h : sink.Ghosts K} where
   -- what is known of a place that was made of these
@@ -91,6 +120,9 @@ module _ {S K : Type 0} {g : source.Ghosts S} {h : sink.Ghosts K} where
               now = words_in b;
               replayed = subst (λ (w : Words). Replayed (budget_of size) w ran.lines ran.text (words_in b)) made.words
                   (subst (λ (n : ℕ). Replayed (budget_of n) (words_at first) ran.lines ran.text (words_in b)) made.size_is ran.is);
+              front = ran.is.ends.0;
+              lines_are = ran.is.ends.1;
+              script = is_script ran.lines ran.is.ends.0 _ (unread_in b) _ (lines_so _ ran) ran.is.ends.1 ran.is.ends.2 (few_lines b.line ran.lines b.few ran.count);
               bytes = bytes;
               stands = stands;
               digest_is = is;
@@ -129,6 +161,7 @@ module _ {S K : Type 0} {g : source.Ghosts S} {h : sink.Ghosts K} where
             takes = lines_so _ ran;
             waiting = b.waiting.items;
             now = words_in b;
+            few = few_lines b.line ran.lines b.few ran.count;
             cut = subst (λ (w : Words). CutShort (budget_of size) w ran.lines ran.text stop (length b.waiting.items) (words_in b)) made.words
                 (subst (λ (n : ℕ). CutShort (budget_of n) (words_at first) ran.lines ran.text stop (length b.waiting.items) (words_in b)) made.size_is ran.is.0);
             refused = refused_so stop (length ran.lines) ran.count tells ran.is.1;

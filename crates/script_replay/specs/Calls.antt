@@ -48,13 +48,13 @@ WaitsBy (Some Output) would now = now ≡ would
 
 -- The lines that a call took: none, where it received nothing; or those up to where no event came,
 -- where it has room for one; or those up to the event that came.
-abbrev pub HasHeard : Bool → Option Event → List ℕ → Option ScriptMark → ℕ → ℕ → Type 0 → ℕ
+abbrev pub HasHeard : Bool → Option Event → List ℕ → Option ScriptMark → ℕ → ℕ → ℕ → ℕ → ℕ
     → Type 0 → List ScriptLine → Type 0
-HasHeard room None buffer mark before now faulted next refused lines =
+HasHeard room None buffer mark before now faults_before faults_now next refused lines =
     ((lines ≡ []) × WaitsBy mark before now)
-    ⊎ ((room ≡ true) × IsUnheard None mark 0 lines faulted next refused
+    ⊎ ((room ≡ true) × IsUnheard None mark 0 lines faults_before faults_now next refused
     × (now ≡ before + loses lines))
-HasHeard room (Some event) buffer mark before now faulted next refused lines =
+HasHeard room (Some event) buffer mark before now faults_before faults_now next refused lines =
     IsEventHeard event buffer lines × WaitsBy mark (waiting_behind (Ok event) before lines) now
 
 -- more receptions than a call of a node makes: one, or none

@@ -1,16 +1,15 @@
 -- The events and the frames of a board since a call of a node began.
-use Rattle.std.specs.Prelude.{◌≡◌, ◌≢◌, ℕ, ◌+◌, ◌≤◌, Bool, true, false, Option, Some, List, length}
+use Rattle.std.specs.Prelude.{◌≡◌, ◌≢◌, ℕ, ◌+◌, ◌≤◌, Bool, true, false, Option, Some, None, List, length}
 use Rattle.flash_traits.specs.declared.stream.Source as source
 use Rattle.flash_traits.specs.declared.stream.Sink as sink
 use Rattle.flash_traits.specs.Losses.{Received, SentFrame, Outcome}
-use Rattle.flash_traits.specs.Causes.{Rose}
+use Rattle.flash_traits.specs.Counts.{raised}
 use Rattle.flash_traits.specs.declared.board.Event.{Event}
-use Rattle.flash_traits.specs.declared.board.Fault.{Fault}
-use Rattle.flash_traits.specs.declared.board.Fault.TheVariants.{Attach, Read, Flash, Recv, Send}
 use Rattle.script_lines.specs.Script.{ScriptLine}
 use Rattle.script_board.specs.Boards.{words_in, unread_in}
 use Rattle.script_board.specs.Hearing.{FewWait, IsRefused}
-use Rattle.script_board.specs.declared.board.ScriptMark.TheVariants.{Output}
+use Rattle.script_board.specs.declared.board.ScriptMark.{ScriptMark}
+use Rattle.script_board.specs.declared.board.ScriptMark.TheVariants.{Lost, Refused, Input, Output}
 use Rattle.script_board.specs.declared.board.ScriptBoard.{ScriptBoard}
 use Rattle.script_replay.specs.Calls.{Takes, ArePrinted, HasHeard, events_heard, too_many}
 use Rattle.script_replay.specs.declared.start.Start as start
@@ -29,7 +28,7 @@ module _ {S K N : Type 0} {g : source.Ghosts S} {h : sink.Ghosts K} (n : start.G
     pub lines : List ScriptLine
     pub line : b.line ≡ n.line + length lines
     pub hears : HasHeard n.room heard buffer b.mark n.waiting (length b.waiting.items)
-        (Rose n.input_faults (g.faults b.input.now)) (b.line + 1)
+        n.input_faults (g.faults b.input.now) (b.line + 1)
         (IsRefused b.line b.waiting.items (unread_in b) (g.tells_rest b.input.now)
         (g.rest b.input.now))
         lines
@@ -54,10 +53,18 @@ module _ {S K N : Type 0} {g : source.Ghosts S} {h : sink.Ghosts K} (n : start.G
     pub events : o.events ≡ events_heard heard buffer
     pub frames : ArePrinted n.written (h.written b.out.now) o.frames
 
--- how often each kind of call has failed: an attach does always, and the others are counted as one
-abbrev pub failures : ℕ → ℕ → Fault → ℕ
-failures attaches failed Attach = attaches
-failures attaches failed Read = failed
-failures attaches failed Flash = failed
-failures attaches failed Recv = failed
-failures attaches failed Send = failed
+-- how often the source has failed since a call of a node began: once where the mark says so
+abbrev pub input_marked : Option ScriptMark → ℕ → ℕ
+input_marked None before = before
+input_marked (Some Lost) before = before
+input_marked (Some (Refused line)) before = before
+input_marked (Some Input) before = raised before
+input_marked (Some Output) before = before
+
+-- the same of the sink
+abbrev pub output_marked : Option ScriptMark → ℕ → ℕ
+output_marked None before = before
+output_marked (Some Lost) before = before
+output_marked (Some (Refused line)) before = before
+output_marked (Some Input) before = before
+output_marked (Some Output) before = raised before

@@ -1,10 +1,11 @@
 -- What a replay has done with a script, from the bytes that the source had left on.
-use Rattle.std.specs.Prelude.{◌≡◌, ℕ, ◌+◌, List, [], length}
+use Rattle.std.specs.Prelude.{◌≡◌, ℕ, ◌+◌, ◌≤◌, List, [], ◌∷◌, ◌++◌, length}
 use Rattle.flash_traits.specs.Words.{Words}
 use Rattle.sha2.specs.Sha256.{sha256}
 use Rattle.sector_image.specs.Stands.{Stands}
-use Rattle.script_lines.specs.Script.{ScriptLine}
+use Rattle.script_lines.specs.Script.{ScriptLine, End, IsScript}
 use Rattle.script_lines.specs.declared.line.Waiting.{Waiting}
+use Rattle.script_lines.specs.declared.numbers.TheConstants.{SCRIPT_LINES}
 use Rattle.script_board.specs.Hearing.{IsRefused}
 use Rattle.replay.specs.Histories.{Replayed, CutShort}
 use Rattle.replay.specs.Breaks.{OnRefused}
@@ -20,6 +21,10 @@ pub record ReplaysWhole (budget : ℕ) (before : Words) (rest_before rest_now te
   pub takes : Takes [] rest_before unread rest_now lines
   pub now : Words
   pub replayed : Replayed budget before lines text now
+  -- they are the script that the source began with, which has no more lines than a script may have
+  pub front : List ScriptLine
+  pub lines_are : lines ≡ front ++ End ∷ []
+  pub script : IsScript front (unread ++ rest_now) rest_before
   pub bytes : List ℕ
   pub stands : Stands now bytes
   pub digest_is : digest ≡ sha256 bytes
@@ -34,5 +39,6 @@ pub record ReplaysPart (budget : ℕ) (before : Words) (rest_before rest_now tex
   pub waiting : List Waiting
   pub now : Words
   pub cut : CutShort budget before lines text stop (length waiting) now
+  pub few : length lines ≤ SCRIPT_LINES
   pub refused : OnRefused (λ line. (line ≡ length lines + 1)
       × IsRefused (length lines) waiting unread (Unit {0}) rest_now) stop

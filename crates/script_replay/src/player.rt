@@ -1,7 +1,7 @@
 //! The calls of a node over a script's board, for a replay.
-ghost use Rattle.std.specs.Prelude.{◌≡◌, ◌≢◌, ◌⊎◌, ◌≤◌, ◌+◌, ◌++◌, [], true, false, None, Some};
-ghost use Rattle.std.specs.Prelude.{Err, List, ℕ, length, IfOk, IfErr, OnOk, OnErr};
-ghost use Rattle.flash_traits.specs.Causes.{Rose};
+ghost use Rattle.std.specs.Prelude.{◌≡◌, ◌≢◌, ◌++◌, [], true, false, None, Some};
+ghost use Rattle.std.specs.Prelude.{Err, IfOk, IfErr, OnOk};
+ghost use Rattle.flash_traits.specs.Causes.{HasOneCause};
 ghost use Rattle.flash_traits.specs.Losses.{Outcome};
 ghost use Rattle.flash_traits.specs.declared.numbers.TheConstants.{GUARD_HALFWORDS};
 ghost use Rattle.flash_traits.specs.Budget.{budget_of};
@@ -10,7 +10,8 @@ ghost use Rattle.vehicle_node.specs.Refusals.{OnFault};
 ghost use Rattle.vehicle_node.specs.Standing as standing;
 ghost use Rattle.script_lines.specs.Script as script;
 ghost use Rattle.script_board.specs.Printing.{loss_line};
-ghost use Rattle.replay.specs.Breaks.{OnStopped, OnRefused, OnForeign, OnWorn, OnInput, OnOutput};
+ghost use Rattle.replay.specs.Breaks.{OnStopped, OnRefused, OnForeign, OnWorn};
+ghost use Rattle.replay.specs.Breaks.{after_break, input_counted, output_counted};
 ghost use Rattle.replay.specs.Playing.{OpenEnds, CloseEnds, QuietUses};
 ghost use Rattle.replay.specs.declared.Break.TheVariants as breaks;
 ghost use Rattle.replay.specs.declared.Stop.TheVariants as stops;
@@ -73,7 +74,6 @@ fn hold<'a, S: Source, K: Sink, N: Start>(
 ) -> Held<'a, S, K, N>
     requires starts { Starts N.Start place.old }
     requires room { room ≡ N.room }
-    ensures unfailed { (result.failed ≡ 0) × (result.attaches ≡ 0) }
     ensures lists { StandsFor N.Start result.room result.over result.board result.heard
         result.buffer [] [] }
     ensures anew { (o : Outcome)
@@ -94,8 +94,11 @@ fn hold<'a, S: Source, K: Sink, N: Start>(
         over: false,
         heard: None,
         buffer: empty_buffer(),
-        failed: 0,
         attaches: 0,
+        reads: 0,
+        writes: 0,
+        receptions: 0,
+        sendings: 0,
         names: PhantomData::<N>,
     }
 }
@@ -114,8 +117,11 @@ fn put_back<'a, S: Source, K: Sink, N: Start>(
         over: _,
         heard: _,
         buffer: _,
-        failed: _,
         attaches: _,
+        reads: _,
+        writes: _,
+        receptions: _,
+        sendings: _,
         names: _,
     } = held;
     let mark = board.mark;
@@ -143,10 +149,10 @@ fn open_on<'a, S: Source, K: Sink, N: Start>(
         (OnStopped (OnForeign (λ word. FirstBad (words_at place.old) word))) }
     ensures worn { IfErr result (OnStopped (OnWorn (λ count. count ≡ GUARD_HALFWORDS))) }
     ensures refused { IfErr result (OnStopped (OnRefused (λ line. ⊥))) }
-    ensures input { IfErr result
-        (OnStopped (OnInput (Rose N.input_faults (input_faults_at place.new)))) }
-    ensures output { IfErr result
-        (OnStopped (OnOutput (Rose N.output_faults (output_faults_at place.new)))) }
+    ensures input_counts { input_faults_at place.new
+        ≡ after_break input_counted result N.input_faults }
+    ensures output_counts { output_faults_at place.new
+        ≡ after_break output_counted result N.output_faults }
 {
     let mut held = hold::<S, K, N>(place, false);
     let answer = Node::open(alloc, &mut held);
@@ -167,10 +173,10 @@ fn event_on<'a, S: Source, K: Sink, N: Start>(
     ensures foreign { IfErr result (OnStopped (OnForeign (λ word. ⊥))) }
     ensures worn { IfErr result (OnStopped (OnWorn (λ count. count ≡ GUARD_HALFWORDS))) }
     ensures refused { IfErr result (OnStopped (OnRefused (RefusesAt place.new))) }
-    ensures input { IfErr result
-        (OnStopped (OnInput (Rose N.input_faults (input_faults_at place.new)))) }
-    ensures output { IfErr result
-        (OnStopped (OnOutput (Rose N.output_faults (output_faults_at place.new)))) }
+    ensures input_counts { input_faults_at place.new
+        ≡ after_break input_counted result N.input_faults }
+    ensures output_counts { output_faults_at place.new
+        ≡ after_break output_counted result N.output_faults }
 {
     let mut held = hold::<S, K, N>(place, true);
     let mut buffer = empty_buffer();
@@ -196,10 +202,10 @@ fn close_on<'a, S: Source, K: Sink, N: Start>(
     ensures foreign { IfErr result (OnStopped (OnForeign (λ word. ⊥))) }
     ensures worn { IfErr result (OnStopped (OnWorn (λ count. count ≡ GUARD_HALFWORDS))) }
     ensures refused { IfErr result (OnStopped (OnRefused (λ line. ⊥))) }
-    ensures input { IfErr result
-        (OnStopped (OnInput (Rose N.input_faults (input_faults_at place.new)))) }
-    ensures output { IfErr result
-        (OnStopped (OnOutput (Rose N.output_faults (output_faults_at place.new)))) }
+    ensures input_counts { input_faults_at place.new
+        ≡ after_break input_counted result N.input_faults }
+    ensures output_counts { output_faults_at place.new
+        ≡ after_break output_counted result N.output_faults }
 {
     let mut held = hold::<S, K, N>(place, false);
     let answer = node.close(&mut held);
@@ -217,7 +223,8 @@ fn print_on<'a, S: Source, K: Sink, N: Start>(
         (TellsWritten place.new → written_at place.new ≡ N.written ++ loss_line) }
     ensures words { words_at place.new ≡ words_at place.old }
     ensures waiting { waiting_at place.new ≡ N.waiting }
-    ensures output { OnErr result (Rose N.output_faults (output_faults_at place.new)) }
+    ensures input_counts { input_faults_at place.new ≡ N.input_faults }
+    ensures output { HasOneCause N.output_faults (output_faults_at place.new) result }
 {
     let Some(mut board) = place.take() else {
         unreachable!();
@@ -231,8 +238,8 @@ fn print_on<'a, S: Source, K: Sink, N: Start>(
 fn still_printed<T>(printed: bool, answer: &Result<T, Break>) -> bool
     ensures before { result ≡ true → printed ≡ true }
     ensures unfailed { result ≡ true → answer.now ≢ Err (breaks.Stopped stops.Output) }
-    ensures failed { result ≡ false
-        → (printed ≡ false) ⊎ (answer.now ≡ Err (breaks.Stopped stops.Output)) }
+    ensures kept { printed ≡ true → answer.now ≢ Err (breaks.Stopped stops.Output)
+        → result ≡ true }
 {
     match answer {
         Err(Break::Stopped(Stop::Output)) => false,
@@ -252,9 +259,13 @@ pub(crate) struct ScriptPlayer<'a, S: Source, K: Sink, M: Beginning> {
 impl<'a, S: Source, K: Sink, M: Beginning> Player for ScriptPlayer<'a, S, K, M> {
     ghost use Rattle.script_replay.specs.Steps.Places.{HoldsAt, ToldAt, TookAt};
 
-    ghost holds = { λ p. HoldsAt M.Beginning p.printed p.place };
+    ghost holds = { λ p. HoldsAt M.Beginning p.place };
 
     ghost told = { λ p. ToldAt p.printed p.place };
+
+    ghost unfailed = { λ p. p.printed ≡ true };
+
+    ghost told_unfailed = { λ p told. told.unfailed };
 
     ghost words = { λ p. words_at p.place };
 

@@ -9,6 +9,7 @@ ghost use Rattle.sector_image.specs.Stands.{Stands};
 ghost use Rattle.script_board.specs.Image.{words_of};
 ghost use Rattle.script_board.specs.declared.image.TheConstants.{IMAGE_BYTES};
 ghost use Rattle.replay.specs.Breaks.{OnForeign, OnWorn, OnInput, OnOutput};
+ghost use Rattle.replay.specs.Breaks.{after_stop, input_counted, output_counted};
 ghost use Rattle.replay.specs.declared.Stop.TheVariants as stops;
 ghost use Rattle.sha2.specs.Sha256.{sha256};
 ghost use Rattle.sector_image.specs.FirstBad.{FirstBad};
@@ -107,7 +108,7 @@ fn replay_on<'a, S: Source, K: Sink, M: Beginning>(
     place: &mut Option<ScriptBoard<'a, S, K>>,
 ) -> Result<(), Stop>
     requires begins { Begins M.Beginning place.old }
-    ensures holds { HoldsAt M.Beginning true place.new }
+    ensures holds { HoldsAt M.Beginning place.new }
     ensures replayed { OnOk result (ReplaysAt M.Beginning (words_at place.old) place.new) }
     ensures cut_short { IfErr result
         (λ stop. stop ≢ stops.Output → StopsAt M.Beginning (words_at place.old) place.new stop) }
@@ -116,10 +117,10 @@ fn replay_on<'a, S: Source, K: Sink, M: Beginning>(
         → (b : List ℕ) → Stands (words_at place.old) b → ⊥)) }
     ensures worn { IfErr result
         (OnWorn (λ count. count ≡ GUARD_HALFWORDS)) }
-    ensures input { IfErr result
-        (OnInput (Rose M.input_faults (input_faults_at place.new))) }
-    ensures output { IfErr result
-        (OnOutput (Rose M.output_faults (output_faults_at place.new))) }
+    ensures input_counts { input_faults_at place.new
+        ≡ after_stop input_counted result M.input_faults }
+    ensures output_counts { output_faults_at place.new
+        ≡ after_stop output_counted result M.output_faults }
 {
     let mut player = ScriptPlayer {
         place: place.take(),
@@ -183,8 +184,11 @@ pub fn replay_script<S: Source, K: Sink>(
     ensures output { IfErr result
         (OnOutput (Rose (K.faults out.old) (K.faults out.new))) }
 
-    ensures input_counts { S.faults input.old ≤ S.faults input.new }
-    ensures output_counts { K.faults out.old ≤ K.faults out.new }
+    // The source and the sink failed once where it says so, and else not at all.
+    ensures input_counts { S.faults input.new
+        ≡ after_stop input_counted result (S.faults input.old) }
+    ensures output_counts { K.faults out.new
+        ≡ after_stop output_counted result (K.faults out.old) }
     ensures told_rest { S.tells_rest input.new → S.tells_rest input.old }
     ensures told_written { K.tells_written out.new → K.tells_written out.old }
 {

@@ -15,7 +15,7 @@ use Rattle.flash_traits.specs.declared.board.Region.{Region}
 use Rattle.flash_traits.specs.declared.board.Region.TheVariants.{Guard}
 use Rattle.flash_traits.specs.Losses.{Outcome}
 use Rattle.flash_traits.specs.Calls.{OnlyReads}
-use Rattle.flash_traits.specs.Causes.{Rose}
+use Rattle.flash_traits.specs.Causes.{counts_after, told_by}
 use Rattle.flash_traits.proofs.Moments.{reads_then}
 use Rattle.flash_traits.specs.declared.board.Mark.{Mark}
 use Rattle.flash_traits.specs.declared.board.Mark.TheVariants.{Available, InUse, Full}
@@ -44,7 +44,7 @@ use Rattle.sector_image.specs.Stands.{home_mark, beside, only_in_use, IsBoth, St
 use Rattle.guard_row.specs.Home.{first_of, second_of}
 use Rattle.sector_image.specs.FirstBad.{Place, foreign_place, At, AreHeads, FirstBad, HomeHead, OtherHead, HomeLog, OtherLog, NoRoom, OnlyHead, OnlyLog}
 use Rattle.sector_image.specs.Fits.{IsKeptState, OneLogWords, TwoLogWords, mark_of, parity_of, torn_chunk}
-use Rattle.sector_image.specs.Refusals.{OnForeign, OnSurveyFault}
+use Rattle.sector_image.specs.Refusals.{OnForeign, OnSurveyFault, fault_in}
 use Rattle.sector_image.specs.Steps.Calls.{ReadsOrRefuses, FindsImage}
 use Rattle.sector_image.specs.Steps.Errors.{error_of_guard}
 use Rattle.sector_image.specs.Surveys.{AreLogs}
@@ -178,18 +178,14 @@ pub on_row_fault : (e : GuardError) (P : Fault → Type 0) → OnFault e P → O
 on_row_fault (guard_errors.Fault kind) P is = is
 on_row_fault (guard_errors.Word offset word) P is = tt
 
--- a count that rose since a later moment rose since an earlier one
-rose_before : (before mid now : ℕ) → before ≤ mid → Rose mid now → Rose before now
-rose_before before mid now later rose = omega (arith, later, rose)
-
 -- A refusal is handed on, maybe after another call that reads.
 module _ {B : Type 0} (g : Ghosts B) (reads : (b : B) (o : Outcome) → g.now b o → g.tells b × (o.words ≡ g.words b)) where
-  pub refuses_after : {T : Type 0} {a b c : B} {P Q : Place → Type 0} (r : Result T SurveyError) → OnlyReads g a b → ((place : Place) → g.tells c → P place → Q place) → ReadsOrRefuses g P b r c → ReadsOrRefuses g Q a r c
-  refuses_after {a = a} {b = b} {c = c} {P = P} {Q = Q} r first more second = record {
+  pub refuses_after : {T : Type 0} {a b c : B} {P Q : Place → Type 0} (r : Result T SurveyError) → OnlyReads g a b → g.faults b ≡ g.faults a → ((place : Place) → g.tells c → P place → Q place) → ReadsOrRefuses g P b r c → ReadsOrRefuses g Q a r c
+  refuses_after {a = a} {b = b} {c = c} {P = P} {Q = Q} r first same more second = record {
     reads = reads_then g reads first second.reads;
     foreign = foreign_through r (λ place. g.tells c → P place) (λ place. g.tells c → Q place) (λ place bad told. more place told (bad told)) second.foreign;
-    fault = fault_through r (λ kind. (kind ≡ Read) × Rose (g.faults b Read) (g.faults c Read)) (λ kind. (kind ≡ Read) × Rose (g.faults a Read) (g.faults c Read))
-        (λ kind is. (is.0, rose_before (g.faults a Read) (g.faults b Read) (g.faults c Read) (first.counts Read) is.1)) second.fault;
+    fault = second.fault;
+    counts = second.counts ∙ ap (counts_after (told_by fault_in r)) same;
   }
 
   pub refuses_still : {T U : Type 0} {a b : B} {P Q : Place → Type 0} (r : Result U SurveyError) (e : SurveyError) → IsErrAnd r (λ f. f ≡ e) → ((place : Place) → g.tells b → P place → Q place) → ReadsOrRefuses {T = T} g P a (Err e) b → ReadsOrRefuses g Q a r b
@@ -198,16 +194,17 @@ module _ {B : Type 0} (g : Ghosts B) (reads : (b : B) (o : Outcome) → g.now b 
     reads = call.reads;
     foreign = subst (λ (d : SurveyError). OnForeign d (λ place. g.tells b → Q place)) (sym is) (on_foreign e (λ place. g.tells b → P place) (λ place. g.tells b → Q place) (λ place bad told. more place told (bad told)) call.foreign);
     fault = rw is call.fault;
+    counts = rw is call.counts;
   }
 
-  pub refuses_then : {T U : Type 0} {a b c : B} {P Q : Place → Type 0} (r : Result U SurveyError) (e : SurveyError) → IsErrAnd r (λ f. f ≡ e) → OnlyReads g a b → ((place : Place) → g.tells c → P place → Q place) → ReadsOrRefuses {T = T} g P b (Err e) c
+  pub refuses_then : {T U : Type 0} {a b c : B} {P Q : Place → Type 0} (r : Result U SurveyError) (e : SurveyError) → IsErrAnd r (λ f. f ≡ e) → OnlyReads g a b → g.faults b ≡ g.faults a → ((place : Place) → g.tells c → P place → Q place) → ReadsOrRefuses {T = T} g P b (Err e) c
       → ReadsOrRefuses g Q a r c
-  refuses_then {P = P} r e is first more call = refuses_after {P = P} r first more (refuses_still {P = P} r e is (λ place told bad. bad) call)
+  refuses_then {P = P} r e is first same more call = refuses_after {P = P} r first same more (refuses_still {P = P} r e is (λ place told bad. bad) call)
 
   -- the words are read again, and are the same
-  pub surveys_after : {T : Type 0} {a b c : B} (r : Result T SurveyError) → OnlyReads g a b → ReadsOrRefuses g (FirstBad (g.words b)) b r c → ReadsOrRefuses g (FirstBad (g.words a)) a r c
-  surveys_after r first second =
-      refuses_after {P = FirstBad (g.words _)} r first (λ place told bad. subst (λ (w : Words). FirstBad w place) (first.changes.content (second.reads.changes.told told)) bad) second
+  pub surveys_after : {T : Type 0} {a b c : B} (r : Result T SurveyError) → OnlyReads g a b → g.faults b ≡ g.faults a → ReadsOrRefuses g (FirstBad (g.words b)) b r c → ReadsOrRefuses g (FirstBad (g.words a)) a r c
+  surveys_after r first same second =
+      refuses_after {P = FirstBad (g.words _)} r first same (λ place told bad. subst (λ (w : Words). FirstBad w place) (first.changes.content (second.reads.changes.told told)) bad) second
 
   pub finds_after : {a b c : B} {whole upper : List ℕ} (r : Result Survey SurveyError) → OnlyReads g a b → OnlyReads g b c → FindsImage g b r c whole upper → FindsImage g a r c whole upper
   finds_after {whole = whole} r first second found = record {

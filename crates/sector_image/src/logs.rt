@@ -4,7 +4,7 @@ ghost use Rattle.std.specs.Option.{is_some};
 ghost use Rattle.flash_traits.specs.declared.board.Fault.TheVariants.{Read};
 ghost use Rattle.flash_traits.specs.declared.board.Mark.{Mark};
 ghost use Rattle.flash_traits.specs.Words.{halfwords_in, IsSectorRegion, IsSectorSize};
-ghost use Rattle.flash_traits.specs.Causes.{Rose};
+ghost use Rattle.flash_traits.specs.Causes.{FailsBy};
 ghost use Rattle.sector_log.specs.Storage.{storage_bytes};
 ghost use Rattle.sector_log.specs.Entries.{Entry};
 ghost use Rattle.sector_log.specs.Sector.{IsSector, HasHead, BadHead, BadLog};
@@ -114,8 +114,7 @@ pub(crate) fn is_completable<B: Board>(board: &mut B, log: Log, whole: &[u8]) ->
         (mark : Mark) (entries : List Entry) → IsLogOf log log.region mark entries
         → IsSector (halfwords_in (B.words board.old) log.region) mark entries →
         completable ≡ is_some (finishing whole.now entries)) }
-    ensures fault { IfErr result
-        (λ kind. (kind ≡ Read) × Rose (B.faults board.old Read) (B.faults board.new Read)) }
+    ensures fails { FailsBy Read (B.faults board.old) (B.faults board.new) result }
     ensures reads { OnlyReads B.Board board.old board.new }
 {
     let Some(torn) = log.torn else {

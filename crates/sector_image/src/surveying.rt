@@ -4,7 +4,7 @@ ghost use Rattle.std.specs.Prelude.{◌≡◌, ◌%◌, ◌/◌, ◌≤◌, IsTr
 ghost use Rattle.flash_traits.specs.declared.board.Fault.TheVariants.{Read};
 ghost use Rattle.flash_traits.specs.declared.board.Mark.TheVariants.{Available, InUse, Full};
 ghost use Rattle.flash_traits.specs.Words.{IsSectorSize};
-ghost use Rattle.flash_traits.specs.Causes.{Rose};
+ghost use Rattle.flash_traits.specs.Causes.{counts_after, told_by};
 ghost use Rattle.guard_row.specs.Row.{IsGuardRow};
 ghost use Rattle.sector_log.specs.Storage.{storage_bytes};
 ghost use Rattle.sector_log.specs.Appends.{IsLogIn};
@@ -15,7 +15,7 @@ ghost use Rattle.sector_image.specs.Stands.{home_mark, beside, Stands};
 ghost use Rattle.sector_image.specs.FirstBad.{Place, FirstBad, AreHeads};
 ghost use Rattle.sector_image.specs.Fits.{FitsShape, mark_of, other_mark_of, parity_of};
 ghost use Rattle.sector_image.specs.Surveys.{AreLogs};
-ghost use Rattle.sector_image.specs.Refusals.{OnForeign, OnSurveyFault};
+ghost use Rattle.sector_image.specs.Refusals.{OnForeign, OnSurveyFault, fault_in};
 ghost use Rattle.sector_image.specs.Steps.Calls.{CanSurvey, ReadsOrRefuses, FindsImage};
 
 use crate::chunks::torn_chunk;
@@ -28,7 +28,7 @@ use sector_log::{Log, Marks};
 
 /// Reads the image: its state, and its bytes into `images`. Nothing is programmed.
 ///
-/// Each halfword is read at most four times.
+/// Each halfword is read at most four times (not proved: no board counts its reads).
 pub fn survey<B: Board>(board: &mut B, images: &mut Images) -> Result<Survey, SurveyError>
     requires attached { IsSectorSize (B.sector_bytes board.old) }
     ensures fits { IfOk result
@@ -36,8 +36,9 @@ pub fn survey<B: Board>(board: &mut B, images: &mut Images) -> Result<Survey, Su
     ensures stands { OnOk result (B.tells board.new → Stands (B.words board.old) images.new.whole) }
     ensures foreign { IfErr result (λ e. OnForeign e
         (λ place. B.tells board.new → FirstBad (B.words board.old) place)) }
-    ensures fault { IfErr result (λ e. OnSurveyFault e
-        (λ kind. (kind ≡ Read) × Rose (B.faults board.old Read) (B.faults board.new Read))) }
+    ensures fault { IfErr result (λ e. OnSurveyFault e (λ kind. kind ≡ Read)) }
+    ensures counts { B.faults board.new
+        ≡ counts_after (told_by fault_in result) (B.faults board.old) }
     ensures reads { OnlyReads B.Board board.old board.new }
 {
     let guard = count(board)?;

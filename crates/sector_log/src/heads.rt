@@ -7,10 +7,10 @@ ghost use Rattle.flash_traits.specs.Words.{halfwords_in, IsSectorRegion, IsSecto
 ghost use Rattle.flash_traits.specs.Losses.{ByResult};
 ghost use Rattle.flash_traits.specs.Counts.{raised_by};
 ghost use Rattle.flash_traits.specs.Calls.{Changes, ErasesNothing, OnlyReads};
-ghost use Rattle.flash_traits.specs.Causes.{Rose, FailsBy};
+ghost use Rattle.flash_traits.specs.Causes.{FailsBy, counts_after, told_by};
 ghost use Rattle.flash_traits.specs.Marks.{mark_word};
 ghost use Rattle.flash_traits.specs.Pairs.{ProgramsPair, PairMayLeave};
-ghost use Rattle.sector_log.specs.Errors.{OnWord, OnFault};
+ghost use Rattle.sector_log.specs.Errors.{OnWord, OnFault, fault_in};
 ghost use Rattle.sector_log.specs.Heads.{may_stand};
 ghost use Rattle.sector_log.specs.Sector.{HasHead, BadHead};
 
@@ -52,8 +52,9 @@ pub fn read_head<B: Board>(board: &mut B, region: Region, marks: Marks) -> Resul
         (λ mark. B.tells board.new → HasHead (halfwords_in (B.words board.old) region) mark) }
     ensures word { IfErr result (λ e. OnWord e (λ place word. B.tells board.new →
         BadHead (may_stand marks) (halfwords_in (B.words board.old) region) place word)) }
-    ensures fault { IfErr result (λ e. OnFault e (λ kind. (kind ≡ Read)
-        × Rose (B.faults board.old Read) (B.faults board.new Read))) }
+    ensures fault { IfErr result (λ e. OnFault e (λ kind. kind ≡ Read)) }
+    ensures counts { B.faults board.new
+        ≡ counts_after (told_by fault_in result) (B.faults board.old) }
     ensures reads { OnlyReads B.Board board.old board.new }
 {
     let word = read_halfword(board, region, 0)?;

@@ -1,12 +1,12 @@
 //! The scan that reads a sector's log.
 ghost use Rattle.std.specs.Prelude.{◌≡◌, ◌∷◌, ◌^◌, ◌+◌, ◌*◌, ◌/◌, ◌<◌, ◌≤◌, List, ℕ, length, take, drop, slice_index, All, Option, IfOk, OnOk, OnErr, IfErr, IfSome, MatchOption};
 ghost use Rattle.flash_traits.specs.Words.{halfwords_in, region_length, IsSectorRegion, IsSectorSize, bytes_of};
-ghost use Rattle.flash_traits.specs.Causes.{Rose};
+ghost use Rattle.flash_traits.specs.Causes.{counts_after, told_by};
 ghost use Rattle.flash_traits.specs.declared.board.Fault.TheVariants.{Read};
 ghost use Rattle.sector_log.specs.declared.log.Log.{Log};
 ghost use Rattle.sector_log.specs.Storage.{storage_bytes};
 ghost use Rattle.sector_log.specs.Header.{IsLawful, header_word};
-ghost use Rattle.sector_log.specs.Errors.{OnWord, OnFault};
+ghost use Rattle.sector_log.specs.Errors.{OnWord, OnFault, fault_in};
 ghost use Rattle.flash_traits.specs.Calls.{OnlyReads};
 ghost use Rattle.sector_log.specs.Sector.{HasHead, FirstBad, IsSector, Splits};
 ghost use Rattle.sector_log.specs.Entries.{Entry, NoEntry};
@@ -284,7 +284,8 @@ fn log_behind<B: Board>(
 /// Reads the log of a sector, and puts its valid entries at their lines of the storage, in order.
 ///
 /// A Word is the first place where the sector breaks the grammar. `into` then holds the entries
-/// before it, and after a Fault those that were read. Each halfword is read at most once.
+/// before it, and after a Fault those that were read. Each halfword is read at most once
+/// (not proved: no board counts its reads).
 pub fn scan<B: Board>(board: &mut B, region: Region, into: &mut [u8]) -> Result<Log, LogError>
     requires attached { IsSectorSize (B.sector_bytes board.old) }
     requires sector { IsSectorRegion region }
@@ -308,9 +309,9 @@ pub fn scan<B: Board>(board: &mut B, region: Region, into: &mut [u8]) -> Result<
         IsReadUpTo (halfwords_in (B.words board.old) region) place into.old into.new)) }
     ensures read { OnErr result (B.tells board.new
         → IsReadSoFar (halfwords_in (B.words board.old) region) into.old into.new) }
-    ensures fault { IfErr result
-        (λ e. OnFault e (λ kind. (kind ≡ Read)
-        × Rose (B.faults board.old Read) (B.faults board.new Read))) }
+    ensures fault { IfErr result (λ e. OnFault e (λ kind. kind ≡ Read)) }
+    ensures counts { B.faults board.new
+        ≡ counts_after (told_by fault_in result) (B.faults board.old) }
     ensures reads { OnlyReads B.Board board.old board.new }
 {
     let len = board.geometry().sector_bytes / 2;

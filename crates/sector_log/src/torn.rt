@@ -3,7 +3,7 @@ ghost use Rattle.std.specs.Prelude.{◌≡◌, ◌+◌, ◌*◌, ◌/◌, ◌<�
 ghost use Rattle.flash_traits.specs.declared.board.Fault.TheVariants.{Read};
 ghost use Rattle.flash_traits.specs.declared.board.Mark.{Mark};
 ghost use Rattle.flash_traits.specs.Words.{halfwords_in, region_length, IsSectorSize, halfwords_of};
-ghost use Rattle.flash_traits.specs.Causes.{Rose};
+ghost use Rattle.flash_traits.specs.Causes.{FailsBy};
 ghost use Rattle.sector_log.specs.Entries.{Entry};
 ghost use Rattle.sector_log.specs.Bytes.{programmable};
 ghost use Rattle.flash_traits.specs.Calls.{OnlyReads};
@@ -39,8 +39,7 @@ pub fn torn_fits<B: Board>(board: &mut B, log: Log, bytes: &[u8]) -> Result<bool
         → (mark : Mark) (entries : List Entry) (line lines : ℕ) (content : List ℕ)
         → IsTornLast log (B.words board.old) mark entries line lines content
         → fits ≡ programmable content (halfwords_of bytes.now)) }
-    ensures fault { IfErr result
-        (λ kind. (kind ≡ Read) × Rose (B.faults board.old Read) (B.faults board.new Read)) }
+    ensures fails { FailsBy Read (B.faults board.old) (B.faults board.new) result }
     ensures reads { OnlyReads B.Board board.old board.new }
 {
     let Some(torn) = log.torn else { unreachable!() };

@@ -4,13 +4,13 @@ ghost use Rattle.flash_traits.specs.declared.numbers.TheConstants.{GUARD_HALFWOR
 ghost use Rattle.flash_traits.specs.declared.board.Fault.{Fault};
 ghost use Rattle.flash_traits.specs.declared.board.Fault.TheVariants.{Flash};
 ghost use Rattle.flash_traits.specs.Calls.{Changes, ErasesNothing};
-ghost use Rattle.flash_traits.specs.Causes.{HasCause, Rose};
+ghost use Rattle.flash_traits.specs.Causes.{HasCause, counts_after, told_by};
 ghost use Rattle.flash_traits.specs.Counts.{raised_by};
 ghost use Rattle.sector_image.specs.Images.{Bytes};
 ghost use Rattle.sector_image.specs.Losses.{KeepsBytes};
 ghost use Rattle.sector_switch.specs.States.{FitsCopied, voided_from, settled_from};
 ghost use Rattle.sector_image.specs.Fits.{FitsAlone, FitsVoided};
-ghost use Rattle.sector_switch.specs.Refusals.{OnVoidWorn, OnVoidFault};
+ghost use Rattle.sector_switch.specs.Refusals.{OnVoidWorn, OnVoidFault, void_fault_in};
 ghost use Rattle.sector_switch.specs.Steps.Calls.{OnlyPrograms};
 
 use crate::{Alone, Kept, Voided};
@@ -67,9 +67,9 @@ impl Copied {
         ensures erases { ErasesNothing B.Board board.old board.new }
         ensures programs { (B.moment board.new).programs ≤ raised_by 1
             (B.moment board.old).programs }
-        ensures fault { IfErr result (λ e. OnVoidFault e
-            (λ kind. (kind ≡ Flash) × Rose (B.faults board.old Flash) (B.faults board.new Flash))) }
-        ensures counts { (k : Fault) → B.faults board.old k ≤ B.faults board.new k }
+        ensures fault { IfErr result (λ e. OnVoidFault e (λ kind. kind ≡ Flash)) }
+        ensures counts { B.faults board.new
+            ≡ counts_after (told_by void_fault_in result) (B.faults board.old) }
     {
         let kept = self.kept;
         if kept.guard as u32 == GUARD_HALFWORDS {
@@ -95,9 +95,9 @@ impl Copied {
             ≤ raised_by 1 (B.moment board.old).erases }
         ensures programs { (B.moment board.new).programs ≤ raised_by 4
             (B.moment board.old).programs }
-        ensures fault { IfErr result (λ e. OnVoidFault e (λ kind. (kind ≡ Flash)
-            × Rose (B.faults board.old Flash) (B.faults board.new Flash))) }
-        ensures counts { (k : Fault) → B.faults board.old k ≤ B.faults board.new k }
+        ensures fault { IfErr result (λ e. OnVoidFault e (λ kind. kind ≡ Flash)) }
+        ensures counts { B.faults board.new
+            ≡ counts_after (told_by void_fault_in result) (B.faults board.old) }
     {
         let voided = self.void(board)?;
         let alone = voided.settle(board)?;

@@ -6,7 +6,7 @@ ghost use Rattle.flash_traits.specs.declared.board.Fault.TheVariants.{Flash};
 ghost use Rattle.flash_traits.specs.Losses.{ByResult};
 ghost use Rattle.flash_traits.specs.Calls.{Changes, ErasesNothing};
 ghost use Rattle.flash_traits.specs.declared.board.Fault.{Fault};
-ghost use Rattle.flash_traits.specs.Causes.{HasCause, Rose};
+ghost use Rattle.flash_traits.specs.Causes.{HasCause, counts_after, told_by};
 ghost use Rattle.sector_image.specs.declared.kept.Kept.{Kept};
 ghost use Rattle.sector_image.specs.Images.{IsFirstLeft, with_chunk};
 ghost use Rattle.sector_log.specs.Storage.{storage_bytes};
@@ -19,7 +19,7 @@ ghost use Rattle.flash_traits.specs.Budget.{chunks};
 ghost use Rattle.sector_image.specs.Losses.{KeepsBytes, Puts, MayPut};
 ghost use Rattle.sector_image.specs.Fits.{FitsAlone, FitsSpilled, free_of, left_chunks};
 ghost use Rattle.sector_switch.specs.States.{FitsCopied, left_in, taken_of, room_of, with_appended};
-ghost use Rattle.sector_switch.specs.Refusals.{kept_in, is_whole, OnSwitchWorn, OnSwitchFault};
+ghost use Rattle.sector_switch.specs.Refusals.{kept_in, is_whole, OnSwitchWorn, OnSwitchFault, switch_fault_in};
 ghost use Rattle.sector_switch.specs.Steps.Calls.{OnlyPrograms};
 
 use crate::{Alone, Copied, Images, Kept, VoidError};
@@ -176,9 +176,9 @@ impl Spilled {
             × (kept.home ≡ self.home) × (kept.sector_bytes ≡ self.sector_bytes))) }
         ensures used_up { self.guard ≡ GUARD_HALFWORDS → IfOk result (λ _. ⊥) }
 
-        ensures fault { IfErr result (λ e. OnSwitchFault e (λ kind. (kind ≡ Flash)
-            × Rose (B.faults board.old Flash) (B.faults board.new Flash))) }
-        ensures counts { (k : Fault) → B.faults board.old k ≤ B.faults board.new k }
+        ensures fault { IfErr result (λ e. OnSwitchFault e (λ kind. kind ≡ Flash)) }
+        ensures counts { B.faults board.new
+            ≡ counts_after (told_by switch_fault_in result) (B.faults board.old) }
     {
         let copied = self.copy(board, images)?;
         let alone = copied.settle(board)?;

@@ -4,14 +4,15 @@ use Rattle.flash_traits.specs.declared.board.Board.{Ghosts}
 use Rattle.flash_traits.specs.Calls.{Passes}
 use Rattle.flash_traits.specs.Losses.{Received, End, SentFrame, Outcome, After}
 use Rattle.flash_traits.proofs.Moments.{started, chained}
+use Rattle.vehicle_runs.specs.Safe.{Safe, SafeSince, Adds}
+use Rattle.vehicle_runs.specs.Arming.{is_armed_after_all, IsArmedOnce}
+use Rattle.vehicle_runs.specs.Reading.{IsEvent, Reads}
+use Rattle.vehicle_runs.specs.Guard.{MayWear}
 use Rattle.vehicle_node.specs.declared.Turn.{Turn}
 use Rattle.vehicle_node.specs.declared.Turn.TheVariants as turn
-use Rattle.vehicle_node.specs.Safe.{Safe, SafeSince, Adds}
 use Rattle.vehicle_core.specs.Acts.{Act}
-use Rattle.vehicle_node.specs.Arming.{is_armed_after_all, IsArmedOnce}
-use Rattle.vehicle_node.specs.Reading.{IsEvent, Reads}
 use Rattle.vehicle_node.specs.Standing.{Node, StandsForRun, StaysWithin, Finished, WasArmed, armed_in}
-use Rattle.vehicle_node.specs.Guard.{MayWear, WearsIn}
+use Rattle.vehicle_node.specs.Guard.{WearsIn}
 use Rattle.vehicle_node.specs.Wearing.{EventUnworn}
 use Rattle.dirty_lines.specs.Lines.{Lines}
 use Rattle.storage_lines.specs.declared.lines.LineWrite.{LineWrite}

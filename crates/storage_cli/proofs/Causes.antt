@@ -1,9 +1,10 @@
 -- Why a serve stops, by the error of its node's opening.
-use Rattle.std.proofs.Common.{◌≡◌, ◌≤◌, ◌⊎◌, inl, inr, ℕ, List, Result, Ok, Err, sym, ◌∙◌, ap, subst, arith}
+use Rattle.std.proofs.Common.{◌≡◌, ◌⊎◌, inl, inr, ℕ, List, Result, Ok, Err, sym, ◌∙◌, ap, subst, arith}
 use Rattle.std.specs.Prelude.{IfErr, IsErrAnd, OnErr}
 use Rattle.flash_traits.specs.declared.board.Fault.{Fault}
 use Rattle.flash_traits.specs.declared.board.Fault.TheVariants as fault
-use Rattle.flash_traits.specs.Causes.{Rose}
+use Rattle.flash_traits.specs.Causes.{Rose, raised_at, counts_after}
+use Rattle.flash_traits.proofs.Counting.{counts_rise}
 use Rattle.flash_traits.specs.Words.{Words}
 use Rattle.sector_image.specs.FirstBad.{Place, FirstBad, foreign_place}
 use Rattle.sector_image.specs.Stands.{Stands, IsUsedUp}
@@ -57,7 +58,7 @@ early_fault fault.Flash is = absurd (cc)
 early_fault fault.Recv is = absurd (cc)
 early_fault fault.Send is = absurd (cc)
 
-module _ (words : Words) (told : Type 0) (before now : Fault → ℕ) where
+module _ (words : Words) (told : Type 0) where
   pub opens_early : (e : NodeError) → node.OnFault e (λ kind. kind ≡ fault.Read)
       → node.OnWorn e (λ count. told → (b : List ℕ) × Stands words b)
       → told → (place : Place) → FirstBad words place → (let r : Result Served Stop = Err (stop_of e) in StopsEarly r)
@@ -75,10 +76,10 @@ module _ (words : Words) (told : Type 0) (before now : Fault → ℕ) where
   worn_fault_stop fault.Send (inl is) = absurd (cc)
   worn_fault_stop fault.Send (inr is) = absurd (cc)
 
-  pub opens_worn : (e : NodeError) → node.OnFault e (λ kind. ((kind ≡ fault.Read) ⊎ (kind ≡ fault.Flash)) × Rose (before kind) (now kind))
+  pub opens_worn : (e : NodeError) → node.OnFault e (λ kind. (kind ≡ fault.Read) ⊎ (kind ≡ fault.Flash))
       → node.OnForeign e (λ place. told → FirstBad words place) → told → IsUsedUp words → (let r : Result Served Stop = Err (stop_of e) in StopsWorn r)
   opens_worn node_error.Memory fails foreign t used = tt
-  opens_worn (node_error.Fault kind) fails foreign t used = worn_fault_stop kind fails.0
+  opens_worn (node_error.Fault kind) fails foreign t used = worn_fault_stop kind fails
   opens_worn (node_error.Foreign region offset word) fails foreign t used = absurd (image.never_both words used.reading (foreign_place region offset word) used.reads (foreign t))
   opens_worn (node_error.Worn count) fails foreign t used = tt
 
@@ -97,46 +98,30 @@ module _ {T : Type 0} (r : Result T Stop) (why : Stop) (is : IsErrAnd r (λ e. e
   pub on_result : (P : Result T Stop → Type 0) → P (Err why) → P r
   on_result P p = subst P (sym stopped_by) p
 
-  pub caused : (before now : Fault → ℕ) → ((k : Fault) → before k ≤ now k) → IsCausedBy why before now → StopsByCause before now r
-  caused before now later cause = record {
-    later = later;
-    cause = λ other same. let one : why ≡ other = err_one why other (sym stopped_by ∙ same) in subst (λ (w : Stop). IsCausedBy w before now) one cause;
-  }
-    where
-      err_one : (a b : Stop) → (let x : Result T Stop = Err a in x ≡ Err b) → a ≡ b
-      err_one a b e = cc
+  pub caused : (before now : Fault → ℕ) → IsCausedBy why before now → StopsByCause before now r
+  caused before now cause = subst (λ (q : Result T Stop). StopsByCause before now q) (sym stopped_by) cause
 
--- a failed call has its cause
-pub fault_cause : (kind : Fault) (before now : Fault → ℕ) → Rose (before kind) (now kind) → IsCausedBy (stop_of_fault kind) before now
-fault_cause fault.Attach before now rose = rose
-fault_cause fault.Read before now rose = rose
-fault_cause fault.Flash before now rose = rose
-fault_cause fault.Recv before now rose = inl rose
-fault_cause fault.Send before now rose = inr rose
+-- a failed call is counted
+pub fault_cause : (kind : Fault) (before now : Fault → ℕ) → now ≡ raised_at kind before → IsCausedBy (stop_of_fault kind) before now
+fault_cause fault.Attach before now raised = raised
+fault_cause fault.Read before now raised = raised
+fault_cause fault.Flash before now raised = raised
+fault_cause fault.Recv before now raised = inl raised
+fault_cause fault.Send before now raised = inr raised
 
-pub rose_later : (a b c : ℕ) → a ≤ b → Rose b c → Rose a c
-rose_later a b c before rose = omega arith
+pub node_cause : (e : NodeError) (before now : Fault → ℕ) → now ≡ counts_after (node.fault_in e) before → IsCausedBy (stop_of e) before now
+node_cause node_error.Memory before now counts = counts
+node_cause (node_error.Fault kind) before now counts = fault_cause kind before now counts
+node_cause (node_error.Foreign region offset word) before now counts = counts
+node_cause (node_error.Worn count) before now counts = counts
 
-pub node_cause : (e : NodeError) (before mid now : Fault → ℕ) (K : Fault → Type 0) → ((k : Fault) → before k ≤ mid k) → node.OnFault e (λ kind. K kind × Rose (mid kind) (now kind)) → IsCausedBy (stop_of e) before now
-node_cause node_error.Memory before mid now K earlier fails = tt
-node_cause (node_error.Fault kind) before mid now K earlier fails = fault_cause kind before now (rose_later (before kind) (mid kind) (now kind) (earlier kind) fails.1)
-node_cause (node_error.Foreign region offset word) before mid now K earlier fails = tt
-node_cause (node_error.Worn count) before mid now K earlier fails = tt
+-- a stop behind a stretch that told none
+pub cause_later : (why : Stop) (before mid now : Fault → ℕ) → mid ≡ before → IsCausedBy why mid now → IsCausedBy why before now
+cause_later why before mid now same cause = subst (λ (f : Fault → ℕ). IsCausedBy why f now) same cause
 
--- the cause of a stop inside a longer stretch
-pub cause_later : (why : Stop) (before mid now : Fault → ℕ) → ((k : Fault) → before k ≤ mid k) → IsCausedBy why mid now → IsCausedBy why before now
-cause_later stop.Words before mid now earlier cause = tt
-cause_later stop.Memory before mid now earlier cause = tt
-cause_later (stop.Foreign found) before mid now earlier cause = tt
-cause_later stop.Read before mid now earlier cause = rose_later (before fault.Read) (mid fault.Read) (now fault.Read) (earlier fault.Read) cause
-cause_later stop.Flash before mid now earlier cause = rose_later (before fault.Flash) (mid fault.Flash) (now fault.Flash) (earlier fault.Flash) cause
-cause_later stop.Link before mid now earlier (inl cause) = inl (rose_later (before fault.Recv) (mid fault.Recv) (now fault.Recv) (earlier fault.Recv) cause)
-cause_later stop.Link before mid now earlier (inr cause) = inr (rose_later (before fault.Send) (mid fault.Send) (now fault.Send) (earlier fault.Send) cause)
-cause_later stop.Worn before mid now earlier cause = tt
-cause_later (stop.Turns n) before mid now earlier cause = tt
-cause_later stop.Attach before mid now earlier cause = rose_later (before fault.Attach) (mid fault.Attach) (now fault.Attach) (earlier fault.Attach) cause
-cause_later stop.Input before mid now earlier cause = tt
-cause_later (stop.Script line) before mid now earlier cause = tt
+-- the count of a fault that is told rose
+pub rose_of : (kind : Fault) (before now : Fault → ℕ) → now ≡ raised_at kind before → Rose (before kind) (now kind)
+rose_of kind before now raised = subst (λ (f : Fault → ℕ). Rose (before kind) (f kind)) (sym raised) (counts_rise kind before)
 
 pub on_err : {T E : Type 0} (r : Result T E) (P : Type 0) → P → OnErr r P
 on_err (Ok x) P p = tt

@@ -5,10 +5,10 @@ use Rattle.flash_traits.specs.Words.{Words}
 use Rattle.flash_traits.specs.Losses.{Received, SentFrame}
 use Rattle.sector_image.specs.Stands.{Stands}
 use Rattle.vehicle_core.specs.Acts.{Act}
-use Rattle.vehicle_node.specs.Frames.{deliveries, numbered}
-use Rattle.vehicle_node.specs.Reading.{Reads, no_rests}
-use Rattle.vehicle_node.specs.Runs.{Run, did_in, take_act, act_done, all_acts, event_done, start, run_from, run_of, floor_of}
-use Rattle.vehicle_node.specs.Safe.{Safe}
+use Rattle.vehicle_runs.specs.Frames.{deliveries, numbered}
+use Rattle.vehicle_runs.specs.Reading.{Reads, no_rests}
+use Rattle.vehicle_runs.specs.Runs.{Run, did_in, take_act, act_done, all_acts, event_done, start, run_from, run_of, floor_of}
+use Rattle.vehicle_runs.specs.Safe.{Safe}
 
 -- as many lists of acts as events
 pub length-acts : (old : List (List ℕ)) (events : List Received) (all : List (List Act)) (rests : List (List ℕ)) → Reads old events all rests → length all ≡ length events

@@ -1,7 +1,9 @@
 -- What the programs of a format make of blank words.
 use Rattle.std.proofs.Common.{◌≡◌, ◌≢◌, ℕ, ◌/◌, ◌<◌, ◌≤◌, List, length, get_or, replicate, bit_and, refl, ◌∙◌, ap, arith, Bool, true, false, cond, Result, Ok, Err, true≢false, eqb-true, get_or-set_other, get_or-set_same, length-set, subst, sym}
 use Rattle.std.specs.Prelude.{◌==◌, is_err, IfOk, OnOk}
+use Rattle.flash_traits.specs.declared.board.Fault.{Fault}
 use Rattle.flash_traits.specs.declared.board.Geometry.{Geometry}
+use Rattle.flash_traits.specs.Causes.{HasCause}
 use Rattle.std.proofs.Math.ListN.{set}
 use Rattle.std.proofs.lemmas.Bool.{eqb-false}
 use Rattle.std.proofs.lemmas.List.{get_or-replicate, length-replicate}
@@ -15,6 +17,11 @@ use Rattle.storage_cli.specs.Fresh.{header_only, fresh_word, IsFreshImage}
 pub on_ok_part : {T E : Type 0} (r : Result T E) (P : Type 0) → is_err r ≡ false → OnOk r P → P
 on_ok_part (Ok x) P ok p = p
 on_ok_part (Err e) P ok p = absurd (true≢false ok)
+
+-- a call that didn't fail has changed no count
+pub no_cause : {T E : Type 0} (r : Result T E) (kind : Fault) (before now : Fault → ℕ) → is_err r ≡ false → HasCause kind before now r → now ≡ before
+no_cause (Ok x) kind before now ok cause = cause
+no_cause (Err e) kind before now ok cause = absurd (true≢false ok)
 
 -- a row whose first two halfwords were programmed
 abbrev with_first : List ℕ → ℕ → List ℕ

@@ -1,16 +1,20 @@
 -- What a status says, by the ending that it comes from.
-use Rattle.std.proofs.Common.{◌≡◌, ◌≢◌, ◌⊎◌, inl, inr, ℕ, List, refl, sym, ◌∙◌, subst, arith, Result, Err}
+use Rattle.std.proofs.Common.{◌≡◌, ◌≢◌, ◌⊎◌, inl, inr, ℕ, List, refl, sym, ◌∙◌, subst, arith, Result, Err, Some, None}
 use Rattle.flash_traits.specs.declared.board.Fault.{Fault}
+use Rattle.flash_traits.specs.declared.board.Fault.TheVariants as fault
+use Rattle.flash_traits.specs.Causes.{Rose}
 use Rattle.flash_traits.specs.Words.{Words}
 use Rattle.sector_image.specs.FirstBad.{foreign_place}
 use Rattle.storage_cli.specs.declared.stop.Served.{Served}
 use Rattle.storage_cli.specs.declared.stop.Foreign.{Foreign}
 use Rattle.storage_cli.specs.declared.stop.Stop.{Stop}
 use Rattle.storage_cli.specs.declared.stop.Stop.TheVariants as stop
-use Rattle.storage_cli.specs.Statuses.{IsServeStatus, IsFormatStatus, IsGenStatus, IsPastAttach, TellsFaults, PrintsStatus}
+use Rattle.storage_cli.specs.Statuses.{IsServeStatus, IsFormatStatus, IsGenStatus, IsPastAttach, TellsFaults, ToldBoard, ToldInput, ToldOutput, PrintsStatus}
 use Rattle.storage_cli.specs.Serving.{NamesForeign}
 use Rattle.storage_cli.specs.Steps.Sessions.{IsSessionStop}
+use Rattle.storage_cli.specs.Steps.Replaying.{input_at}
 use Rattle.storage_cli.specs.Steps.Stops.{status_of_stop, line_of_stop, IsServeStop, IsFormatStop, IsCausedBy, IsFirst, IsAttached, OnForeign, OnMemory, OnWorn, StopsEarly, StopsWorn}
+use Rattle.storage_cli.proofs.Causes.{rose_of}
 
 -- the status of an ending, or that of a failing output
 abbrev pub Gives : ℕ → ℕ → Type 0
@@ -176,6 +180,47 @@ prints_none status printed gives = record {
   attach = not_done status 13 gives (λ z. omega (arith, z)) (λ z. omega (arith, z));
 }
 
+link_rose : (before now : Fault → ℕ) → IsCausedBy stop.Link before now → Rose (before fault.Recv) (now fault.Recv) ⊎ Rose (before fault.Send) (now fault.Send)
+link_rose before now (inl raised) = inl (rose_of fault.Recv before now raised)
+link_rose before now (inr raised) = inr (rose_of fault.Send before now raised)
+
+-- the counts of the board's faults that a status tells
+pub board_same : (status : ℕ) (before now : Fault → ℕ) → now ≡ before → ToldBoard status before now
+board_same status before now same = record { fault = None; counts = same; told = tt }
+
+pub board_stopped : (status : ℕ) (why : Stop) → Gives status (status_of_stop why) → (before now : Fault → ℕ) → IsCausedBy why before now → ToldBoard status before now
+board_stopped status stop.Words gives before now cause = board_same status before now cause
+board_stopped status stop.Memory gives before now cause = board_same status before now cause
+board_stopped status (stop.Foreign found) gives before now cause = board_same status before now cause
+board_stopped status stop.Read gives before now cause = record { fault = Some fault.Read; counts = cause; told = gives }
+board_stopped status stop.Flash gives before now cause = record { fault = Some fault.Flash; counts = cause; told = gives }
+board_stopped status stop.Link gives before now (inl cause) = record { fault = Some fault.Recv; counts = cause; told = gives }
+board_stopped status stop.Link gives before now (inr cause) = record { fault = Some fault.Send; counts = cause; told = gives }
+board_stopped status stop.Worn gives before now cause = board_same status before now cause
+board_stopped status (stop.Turns n) gives before now cause = board_same status before now cause
+board_stopped status stop.Attach gives before now cause = record { fault = Some fault.Attach; counts = cause; told = gives }
+board_stopped status stop.Input gives before now cause = board_same status before now cause
+board_stopped status (stop.Script line) gives before now cause = board_same status before now cause
+
+-- and the count of the input's
+pub input_told : (status : ℕ) (why : Stop) → Gives status (status_of_stop why) → (before now : ℕ) → now ≡ input_at why before → ToldInput status before now
+input_told status stop.Words gives before now same = inl same
+input_told status stop.Memory gives before now same = inl same
+input_told status (stop.Foreign found) gives before now same = inl same
+input_told status stop.Read gives before now same = inl same
+input_told status stop.Flash gives before now same = inl same
+input_told status stop.Link gives before now same = inl same
+input_told status stop.Worn gives before now same = inl same
+input_told status (stop.Turns n) gives before now same = inl same
+input_told status stop.Attach gives before now same = inl same
+input_told status stop.Input gives before now same = inr (same, gives)
+input_told status (stop.Script line) gives before now same = inl same
+
+-- the output's count rose where its status comes
+pub output_rose : (status before now : ℕ) → ToldOutput status before now → status ≡ 10 → Rose before now
+output_rose status before now (inl told) e = omega (arith, told.1)
+output_rose status before now (inr told) e = absurd (told.0 e)
+
 module _ (status : ℕ) (why : Stop) (gives : Gives status (status_of_stop why)) where
   -- the ending that a status tells
   pub ends_words : status ≡ 1 → why ≡ stop.Words
@@ -213,10 +258,10 @@ module _ (status : ℕ) (why : Stop) (gives : Gives status (status_of_stop why))
 
   pub faults_stopped : (before now : Fault → ℕ) → IsCausedBy why before now → TellsFaults status before now
   faults_stopped before now cause = record {
-    attach = λ e. subst (λ (w : Stop). IsCausedBy w before now) (ends_attach e) cause;
-    read = λ e. subst (λ (w : Stop). IsCausedBy w before now) (ends_read e) cause;
-    flash = λ e. subst (λ (w : Stop). IsCausedBy w before now) (ends_flash e) cause;
-    link = λ e. subst (λ (w : Stop). IsCausedBy w before now) (ends_link e) cause;
+    attach = λ e. rose_of fault.Attach before now (subst (λ (w : Stop). IsCausedBy w before now) (ends_attach e) cause);
+    read = λ e. rose_of fault.Read before now (subst (λ (w : Stop). IsCausedBy w before now) (ends_read e) cause);
+    flash = λ e. rose_of fault.Flash before now (subst (λ (w : Stop). IsCausedBy w before now) (ends_flash e) cause);
+    link = λ e. link_rose before now (subst (λ (w : Stop). IsCausedBy w before now) (ends_link e) cause);
   }
 
   pub prints_stopped : (printed : List ℕ → Type 0) → (status ≢ 10 → printed (line_of_stop why)) → PrintsStatus status printed
@@ -261,7 +306,7 @@ attached T status before now stop.Link gives cause past = tt
 attached T status before now stop.Worn gives cause past = tt
 attached T status before now (stop.Turns n) gives cause past = tt
 attached T status before now stop.Attach (inl is) cause past = past.attach is
-attached T status before now stop.Attach (inr is) cause past = past.output is cause
+attached T status before now stop.Attach (inr is) cause past = past.output is (rose_of fault.Attach before now cause)
 attached T status before now stop.Input gives cause past = tt
 attached T status before now (stop.Script line) gives cause past = tt
 

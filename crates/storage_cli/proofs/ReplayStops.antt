@@ -4,12 +4,12 @@ use Rattle.std.specs.Prelude.{IfOk, IfErr}
 use Rattle.flash_traits.specs.Words.{Words}
 use Rattle.flash_traits.specs.declared.board.Fault.{Fault}
 use Rattle.flash_traits.specs.declared.board.Fault.TheVariants as fault
-use Rattle.flash_traits.specs.Causes.{Rose}
+use Rattle.flash_traits.specs.Causes.{Rose, raised_at, counts_after}
 use Rattle.sector_image.specs.FirstBad.{FirstBad, Place, foreign_place}
 use Rattle.sector_image.specs.Refusals as image
 use Rattle.sector_image.specs.declared.kept.SurveyError.{SurveyError}
 use Rattle.sector_image.specs.declared.kept.SurveyError.TheVariants as survey
-use Rattle.replay.specs.Breaks.{OnForeign, OnInput, OnOutput}
+use Rattle.replay.specs.Breaks.{OnForeign, OnInput, OnOutput, input_counted, output_counted}
 use Rattle.replay.specs.declared.Stop as script
 use Rattle.replay.specs.declared.Stop.TheVariants as script_stop
 use Rattle.storage_cli.specs.declared.stop.Stop.{Stop}
@@ -17,7 +17,7 @@ use Rattle.storage_cli.specs.declared.stop.Stop.TheVariants as stop
 use Rattle.storage_cli.specs.declared.replaying.Replayed.{Replayed}
 use Rattle.storage_cli.specs.declared.replaying.Replayed.TheVariants as replayed
 use Rattle.storage_cli.specs.Steps.Stops.{stop_of_fault, stop_of_survey, IsFirst, IsCausedBy, StopsByCause, StopsEarly}
-use Rattle.storage_cli.specs.Steps.Replaying.{ending_of, OnWhole, OnPrefix, HasPart, IsReadStop, IsEarly, StopsBefore, StopsInside}
+use Rattle.storage_cli.specs.Steps.Replaying.{ending_of, OnWhole, OnPrefix, HasPart, IsReadStop, IsEarly, StopsBefore, StopsInside, input_at, input_after, output_after}
 use Rattle.storage_cli.proofs.Causes.{first_fault, fault_cause}
 
 -- the stop of a survey
@@ -32,16 +32,16 @@ read_stop fault.Flash is = absurd (cc)
 read_stop fault.Recv is = absurd (cc)
 read_stop fault.Send is = absurd (cc)
 
-pub read_cause : (kind : Fault) (before now : Fault → ℕ) → kind ≡ fault.Read → Rose (before fault.Read) (now fault.Read) → IsCausedBy (stop_of_fault kind) before now
-read_cause kind before now is rose = fault_cause kind before now (subst (λ (k : Fault). Rose (before k) (now k)) (sym is) rose)
+pub read_cause : (kind : Fault) (before now : Fault → ℕ) → kind ≡ fault.Read → now ≡ raised_at fault.Read before → IsCausedBy (stop_of_fault kind) before now
+read_cause kind before now is raised = fault_cause kind before now (subst (λ (k : Fault). now ≡ raised_at k before) (sym is) raised)
 
-pub survey_stop : (e : SurveyError) (P : Type 0) → image.OnSurveyFault e (λ kind. (kind ≡ fault.Read) × P) → IsReadStop (stop_of_survey e)
-survey_stop (survey.Fault kind) P is = read_stop kind is.0
-survey_stop (survey.Foreign region offset word) P is = tt
+pub survey_stop : (e : SurveyError) → image.OnSurveyFault e (λ kind. kind ≡ fault.Read) → IsReadStop (stop_of_survey e)
+survey_stop (survey.Fault kind) is = read_stop kind is
+survey_stop (survey.Foreign region offset word) is = tt
 
-pub survey_cause : (e : SurveyError) (before now : Fault → ℕ) → image.OnSurveyFault e (λ kind. (kind ≡ fault.Read) × Rose (before fault.Read) (now fault.Read)) → IsCausedBy (stop_of_survey e) before now
-survey_cause (survey.Fault kind) before now is = read_cause kind before now is.0 is.1
-survey_cause (survey.Foreign region offset word) before now is = tt
+pub survey_cause : (e : SurveyError) (before now : Fault → ℕ) → now ≡ counts_after (image.fault_in e) before → IsCausedBy (stop_of_survey e) before now
+survey_cause (survey.Fault kind) before now counts = fault_cause kind before now counts
+survey_cause (survey.Foreign region offset word) before now counts = counts
 
 pub early_read : (why : Stop) → IsReadStop why → IsEarly why
 early_read stop.Read reads = tt
@@ -49,22 +49,38 @@ early_read (stop.Foreign found) reads = tt
 early_read _ reads = absurd reads
 
 -- what an ending is, by the stop of the script
-err_one : (a b : Stop) → (let x : Result Replayed Stop = Err a in x ≡ Err b) → b ≡ a
-err_one a b e = cc
-
 never_ok : (r : Replayed) (a : Stop) → (let x : Result Replayed Stop = Ok r in x ≡ Err a) → ⊥
 never_ok r a e = cc
 
-caused_at : (before now : Fault → ℕ) (a b : Stop) → (let x : Result Replayed Stop = Err a in x ≡ Err b) → IsCausedBy a before now → IsCausedBy b before now
-caused_at before now a b e cause = subst (λ (w : Stop). IsCausedBy w before now) (sym (err_one a b e)) cause
+ending_caused : (why : script.Stop) (before now : Fault → ℕ) → now ≡ before → StopsByCause before now (ending_of why)
+ending_caused script_stop.Memory before now same = same
+ending_caused (script_stop.Foreign region offset word) before now same = same
+ending_caused (script_stop.Worn count) before now same = same
+ending_caused (script_stop.Refused line) before now same = same
+ending_caused script_stop.Input before now same = same
+ending_caused script_stop.Output before now same = same
 
-ending_caused : (why : script.Stop) (before now : Fault → ℕ) (own : Stop) → ending_of why ≡ Err own → IsCausedBy own before now
-ending_caused script_stop.Memory before now own is = caused_at before now stop.Memory own is tt
-ending_caused (script_stop.Foreign region offset word) before now own is = caused_at before now (stop.Foreign (record { region = region; offset = offset; word = word })) own is tt
-ending_caused (script_stop.Worn count) before now own is = caused_at before now stop.Worn own is tt
-ending_caused (script_stop.Refused line) before now own is = caused_at before now (stop.Script line) own is tt
-ending_caused script_stop.Input before now own is = caused_at before now stop.Input own is tt
-ending_caused script_stop.Output before now own is = absurd (never_ok replayed.Prefix own is)
+ending_input : (why : script.Stop) (before now : ℕ) → now ≡ input_counted why before → now ≡ input_after (ending_of why) before
+ending_input script_stop.Memory before now same = same
+ending_input (script_stop.Foreign region offset word) before now same = same
+ending_input (script_stop.Worn count) before now same = same
+ending_input (script_stop.Refused line) before now same = same
+ending_input script_stop.Input before now same = same
+ending_input script_stop.Output before now same = same
+
+ending_output : (why : script.Stop) (before now : ℕ) → now ≡ output_counted why before → now ≡ output_after (ending_of why) before
+ending_output script_stop.Memory before now same = same
+ending_output (script_stop.Foreign region offset word) before now same = same
+ending_output (script_stop.Worn count) before now same = same
+ending_output (script_stop.Refused line) before now same = same
+ending_output script_stop.Input before now same = same
+ending_output script_stop.Output before now same = same
+
+-- the source wasn't read before the image was
+pub read_input : (why : Stop) (n : ℕ) → IsReadStop why → n ≡ input_at why n
+read_input stop.Read n reads = refl
+read_input (stop.Foreign found) n reads = refl
+read_input _ n reads = absurd reads
 
 never_whole_in : (why : script.Stop) (P : List ℕ → Type 0) → IfOk (ending_of why) (λ r. OnWhole r P)
 never_whole_in script_stop.Memory P = tt
@@ -105,8 +121,14 @@ module _ (why : script.Stop) (result : Result Replayed Stop) (is : result ≡ en
   pub output_failed : (P : Type 0) → OnOutput P why → IfOk result (λ r. OnPrefix r P)
   output_failed P p = subst (λ (r : Result Replayed Stop). IfOk r (λ x. OnPrefix x P)) (sym is) (output_in why P p)
 
-  pub ending_causes : (before now : Fault → ℕ) → ((k : Fault) → before k ≤ now k) → StopsByCause before now result
-  ending_causes before now later = record { later = later; cause = λ own same. ending_caused why before now own (sym is ∙ same) }
+  pub ending_causes : (before now : Fault → ℕ) → now ≡ before → StopsByCause before now result
+  ending_causes before now same = subst (λ (r : Result Replayed Stop). StopsByCause before now r) (sym is) (ending_caused why before now same)
+
+  pub input_ends : (before now : ℕ) → now ≡ input_counted why before → now ≡ input_after result before
+  input_ends before now same = subst (λ (r : Result Replayed Stop). now ≡ input_after r before) (sym is) (ending_input why before now same)
+
+  pub output_ends : (before now : ℕ) → now ≡ output_counted why before → now ≡ output_after result before
+  output_ends before now same = subst (λ (r : Result Replayed Stop). now ≡ output_after r before) (sym is) (ending_output why before now same)
 
   pub stops_inside : (told : Type 0) (budget : ℕ) (words : Words) (same : Type 0) (rest_before rest_now written_before written_now : List ℕ) (faults_before faults_now : ℕ)
       → (why ≢ script_stop.Output → told → HasPart budget words rest_before rest_now written_before written_now why)

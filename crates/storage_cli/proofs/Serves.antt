@@ -11,12 +11,12 @@ use Rattle.sector_image.specs.Stands.{Stands, IsUsedUp}
 use Rattle.dirty_lines.specs.Lines.{Lines}
 use Rattle.dirty_lines.specs.Losses.{IsWornForNext}
 use Rattle.storage_lines.specs.Lines.{after}
-use Rattle.vehicle_node.specs.Runs.{Run, run_of}
-use Rattle.vehicle_node.specs.Safe.{Safe, SafeSince, Adds}
+use Rattle.vehicle_runs.specs.Runs.{Run, run_of}
+use Rattle.vehicle_runs.specs.Safe.{Safe, SafeSince, Adds}
 use Rattle.flash_traits.specs.Counts.{counts}
-use Rattle.vehicle_node.specs.Arming.{IsArmedOnce}
-use Rattle.vehicle_node.specs.Reading.{Reads, no_rests}
-use Rattle.vehicle_node.specs.Guard.{MayWear}
+use Rattle.vehicle_runs.specs.Arming.{IsArmedOnce}
+use Rattle.vehicle_runs.specs.Reading.{Reads, no_rests}
+use Rattle.vehicle_runs.specs.Guard.{MayWear}
 use Rattle.vehicle_node.specs.Wearing.{AllUnworn, BootUnworn}
 use Rattle.vehicle_node.specs.Standing.{Node, StandsAt, StandsForRun, StaysWithin, armed_in}
 use Rattle.storage_cli.specs.declared.stop.Served.{Served}

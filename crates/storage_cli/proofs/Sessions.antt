@@ -1,8 +1,9 @@
 -- A generated session that was run in memory.
-use Rattle.std.proofs.Common.{inl, inr, ◌⊎◌, ◌≡◌, ◌≢◌, ◌≤◌, ◌+◌, ◌*◌, ◌-◌, ◌^◌, ℕ, List, [], length, sym, ◌∙◌, ap, subst, arith, Result, Ok, Err}
-use Rattle.std.specs.Prelude.{⊤}
+use Rattle.std.proofs.Common.{inl, inr, ◌⊎◌, ◌≡◌, ◌≢◌, ◌≤◌, ◌+◌, ◌*◌, ◌-◌, ◌^◌, ℕ, List, [], length, refl, sym, ◌∙◌, ap, subst, arith, Result, Ok, Err}
+use Rattle.std.specs.Prelude.{Some, ⊤}
 use Rattle.std.proofs.lemmas.Slice.Zip.{AllZip-long}
-use Rattle.flash_traits.specs.Causes.{Rose}
+use Rattle.flash_traits.specs.Causes.{Rose, counts_after}
+use Rattle.flash_traits.proofs.Counting.{counts_rise}
 use Rattle.flash_traits.specs.declared.board.Fault.{Fault}
 use Rattle.flash_traits.specs.declared.board.Fault.TheVariants.{Attach, Read, Flash, Recv, Send}
 use Rattle.flash_traits.specs.Budget.{budget_of}
@@ -25,10 +26,10 @@ use Rattle.session_boards.specs.Laws.{OneSession, SessionEnds}
 use Rattle.session_boards.specs.declared.device.TheConstants.{SECTOR_BYTES}
 use Rattle.session_boards.specs.Session.{AreFirst, EndsOnce}
 use Rattle.vehicle_core.specs.Acts.{Act}
-use Rattle.vehicle_node.specs.Frames.{IsFrameOf}
-use Rattle.vehicle_node.specs.Laws.{EventsAreReadOnce}
-use Rattle.vehicle_node.specs.Reading.{Reads, no_rests}
-use Rattle.vehicle_node.specs.Runs.{run_of}
+use Rattle.vehicle_runs.specs.Frames.{IsFrameOf}
+use Rattle.vehicle_runs.specs.Laws.{EventsAreReadOnce}
+use Rattle.vehicle_runs.specs.Reading.{Reads, no_rests}
+use Rattle.vehicle_runs.specs.Runs.{run_of}
 use Rattle.storage_cli.specs.declared.stop.Served.{Served}
 use Rattle.storage_cli.specs.declared.stop.Stop.{Stop}
 use Rattle.storage_cli.specs.declared.stop.Stop.TheVariants as stop
@@ -39,6 +40,7 @@ use Rattle.storage_cli.specs.Steps.Sessions.{IsSessionStop, IsSummary}
 use Rattle.storage_cli.specs.Steps.Guard.{WearsFrom}
 use Rattle.storage_cli.specs.Steps.Progress.{CompletesServe, IsCounted}
 use Rattle.storage_cli.specs.Steps.Stops.{IsAttached, IsDone, IsServeStop, IsCausedBy, IsFirst, OnWorn}
+use Rattle.storage_cli.proofs.Causes.{rose_of}
 use Rattle.storage_cli.proofs.FreshImage.{fresh_guard, fresh_stands, fresh_size}
 
 -- a count that is 0 hasn't risen
@@ -51,13 +53,13 @@ pub session_stop : (why : Stop) (before now : Fault → ℕ) (words : Words) (by
 session_stop stop.Words before now words bytes serves zero cause law stands first on = serves
 session_stop stop.Memory before now words bytes serves zero cause law stands first on = tt
 session_stop (stop.Foreign found) before now words bytes serves zero cause law stands first on = law.never_both words bytes _ stands first
-session_stop stop.Read before now words bytes serves zero cause law stands first on = never_rose (before Read) (now Read) (zero Read) cause
-session_stop stop.Flash before now words bytes serves zero cause law stands first on = never_rose (before Flash) (now Flash) (zero Flash) cause
-session_stop stop.Link before now words bytes serves zero (inl cause) law stands first on = never_rose (before Recv) (now Recv) (zero Recv) cause
-session_stop stop.Link before now words bytes serves zero (inr cause) law stands first on = never_rose (before Send) (now Send) (zero Send) cause
+session_stop stop.Read before now words bytes serves zero cause law stands first on = never_rose (before Read) (now Read) (zero Read) (rose_of Read before now cause)
+session_stop stop.Flash before now words bytes serves zero cause law stands first on = never_rose (before Flash) (now Flash) (zero Flash) (rose_of Flash before now cause)
+session_stop stop.Link before now words bytes serves zero (inl cause) law stands first on = never_rose (before Recv) (now Recv) (zero Recv) (rose_of Recv before now cause)
+session_stop stop.Link before now words bytes serves zero (inr cause) law stands first on = never_rose (before Send) (now Send) (zero Send) (rose_of Send before now cause)
 session_stop stop.Worn before now words bytes serves zero cause law stands first on = tt
 session_stop (stop.Turns n) before now words bytes serves zero cause law stands first on = absurd (on n (λ i. stop.Turns n))
-session_stop stop.Attach before now words bytes serves zero cause law stands first on = never_rose (before Attach) (now Attach) (zero Attach) cause
+session_stop stop.Attach before now words bytes serves zero cause law stands first on = never_rose (before Attach) (now Attach) (zero Attach) (rose_of Attach before now cause)
 session_stop stop.Input before now words bytes serves zero cause law stands first on = serves
 session_stop (stop.Script line) before now words bytes serves zero cause law stands first on = serves
 
@@ -71,9 +73,11 @@ not_over g budget rounds before board why done law few session n is =
 
 -- a survey of such a board over words that stand for bytes refuses nothing
 pub survey_answers : (e : SurveyError) (words : Words) (bytes : List ℕ) → OneOfBoth → Stands words bytes → survey.OnForeign e (λ place. Unit {0} → FirstBad words place)
-    → survey.OnSurveyFault e (λ kind. (kind ≡ Read) × Rose 0 0) → ⊥
-survey_answers (survey_error.Fault kind) words bytes law stands foreign fault = never_rose 0 0 (λ i. 0) fault.1
-survey_answers (survey_error.Foreign region offset word) words bytes law stands foreign fault = law.never_both words bytes _ stands (foreign tt)
+    → (let none : Fault → ℕ = λ k. 0 in none ≡ counts_after (survey.fault_in e) none) → ⊥
+survey_answers (survey_error.Fault kind) words bytes law stands foreign counts =
+    let at : 0 ≡ counts_after (Some kind) (λ k. 0) kind = ap (λ (f : Fault → ℕ). f kind) counts in
+    never_rose 0 0 refl (subst (λ (n : ℕ). Rose 0 n) (sym at) (counts_rise kind (λ k. 0)))
+survey_answers (survey_error.Foreign region offset word) words bytes law stands foreign counts = law.never_both words bytes _ stands (foreign tt)
 
 -- the run, by the budget of the sectors of a fresh image
 pub counted_at : (n : ℕ) → n ≡ SECTOR_BYTES → (served : Served) (events : List Received) (frames : List SentFrame) (words : Words) → IsCounted (budget_of n) (Ok served) fresh_storage events frames words

@@ -1,6 +1,8 @@
 -- How a command ends that prints a text of an image.
 use Rattle.std.proofs.Common.{◌≡◌, ◌≢◌, ◌⊎◌, inl, inr, ℕ, List, refl, sym, subst, arith, Result, Ok, Err, Option, Some, ap, true, ◌∙◌}
-use Rattle.std.specs.Prelude.{IfErr, is_err, option_map}
+use Rattle.std.specs.Prelude.{IfOk, IfErr, is_err, option_map}
+use Rattle.flash_traits.specs.declared.board.Fault.{Fault}
+use Rattle.flash_traits.specs.Causes.{counts_after}
 use Rattle.flash_traits.specs.Words.{Words}
 use Rattle.command_line.specs.Commands.{command_line_of}
 use Rattle.command_line.specs.Lines.{CommandLine}
@@ -9,7 +11,8 @@ use Rattle.sector_image.specs.FirstBad.{Place, FirstBad}
 use Rattle.sector_image.specs.Stands.{Stands}
 use Rattle.image_report.specs.declared.errors.ReportError.{ReportError}
 use Rattle.image_report.specs.declared.errors.ReportError.TheVariants as errors
-use Rattle.image_report.specs.Refusals.{OnForeign, OnOutput, OnceRead}
+use Rattle.image_report.specs.Refusals.{OnForeign, OnOutput, OnceRead, fault_in}
+use Rattle.image_report.specs.Refusals as refusals
 use Rattle.image_report.specs.Dumps.{IsDump}
 use Rattle.image_report.specs.Reports.{IsReport}
 use Rattle.image_report.specs.Writes.{WritesPrefix}
@@ -20,11 +23,11 @@ use Rattle.storage_cli.specs.declared.printing.ImageText.{ImageText}
 use Rattle.storage_cli.specs.declared.printing.ImageText.TheVariants as image_text
 use Rattle.storage_cli.specs.declared.printing.Printed.{Printed}
 use Rattle.storage_cli.specs.declared.printing.Printed.TheVariants as printed
-use Rattle.storage_cli.specs.Steps.Stops.{status_of_stop, IsFirst}
-use Rattle.storage_cli.specs.Statuses.{IsCutShort, IsTextCutShort}
+use Rattle.storage_cli.specs.Steps.Stops.{status_of_stop, IsFirst, StopsByCause}
+use Rattle.storage_cli.specs.Statuses.{IsCutShort, IsTextCutShort, ToldOutput}
 use Rattle.storage_cli.specs.Texts.{PrintedLine}
-use Rattle.storage_cli.specs.Steps.Printing.{IsTextOf, IsTextStatus, IsTextStop, OnWhole, OnPrefix, status_of_printed, ending_of}
-use Rattle.storage_cli.proofs.Causes.{never_both, first_fault}
+use Rattle.storage_cli.specs.Steps.Printing.{IsTextOf, IsTextStatus, IsTextStop, OnWhole, OnPrefix, status_of_printed, sink_count_at, ending_of}
+use Rattle.storage_cli.proofs.Causes.{never_both, first_fault, fault_cause}
 use Rattle.storage_cli.proofs.Outcomes.{Gives}
 
 -- what holds once the image was read
@@ -82,6 +85,19 @@ stops_ending (errors.Fault kind) told w stands t place bad = refl
 stops_ending (errors.Foreign region offset word) told w stands t place bad = refl
 stops_ending errors.Output told w stands t place bad = absurd (never_both w place (stands t) bad)
 
+-- the counts of an ending
+pub ending_cause : (e : ReportError) (before now : Fault → ℕ) → now ≡ counts_after (fault_in e) before → StopsByCause before now (ending_of e)
+ending_cause errors.Memory before now counts = counts
+ending_cause (errors.Fault kind) before now counts = fault_cause kind before now counts
+ending_cause (errors.Foreign region offset word) before now counts = counts
+ending_cause errors.Output before now counts = counts
+
+pub ending_output : (e : ReportError) (before now : ℕ) → now ≡ refusals.sink_count_at e before → IfOk (ending_of e) (λ p. now ≡ sink_count_at p before)
+ending_output errors.Memory before now counts = tt
+ending_output (errors.Fault kind) before now counts = tt
+ending_output (errors.Foreign region offset word) before now counts = tt
+ending_output errors.Output before now counts = counts
+
 -- the status where a text was printed so far
 module _ (n : ℕ) where
   pub printed_gives : (p : Printed) → n ≡ status_of_printed p → Gives n 0
@@ -95,6 +111,10 @@ module _ (n : ℕ) where
   pub whole_at_0 : (p : Printed) (P : Type 0) → n ≡ status_of_printed p → OnWhole p P → n ≡ 0 → P
   whole_at_0 printed.Whole P is holds e = holds
   whole_at_0 printed.Prefix P is holds e = absurd (omega (arith, is, e))
+
+  pub output_at : (p : Printed) (before now : ℕ) → n ≡ status_of_printed p → now ≡ sink_count_at p before → ToldOutput n before now
+  output_at printed.Whole before now is same = inr (λ e. omega (arith, is, e), same)
+  output_at printed.Prefix before now is same = inl (is, same)
 
   pub text_done : (text : ImageText) → Gives n 0 → IsTextStatus text n
   text_done image_text.Dump (inl is) = inl is

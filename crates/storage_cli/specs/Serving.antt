@@ -9,8 +9,8 @@ use Rattle.flash_traits.specs.Losses.{Received, SentFrame, Moment}
 use Rattle.sector_image.specs.FirstBad.{Place, FirstBad}
 use Rattle.sector_image.specs.Stands.{Stands, IsUsedUp}
 use Rattle.vehicle_core.specs.Acts.{Act}
-use Rattle.vehicle_node.specs.Arming.{is_armed_after_all, IsArmedOnce}
-use Rattle.vehicle_node.specs.Reading.{Reads, no_rests}
+use Rattle.vehicle_runs.specs.Arming.{is_armed_after_all, IsArmedOnce}
+use Rattle.vehicle_runs.specs.Reading.{Reads, no_rests}
 use Rattle.vehicle_node.specs.Wearing.{EventUnworn, AllUnworn, BootUnworn}
 use Rattle.flash_traits.specs.Counts.{counts}
 use Rattle.replay.specs.Histories.{IsWholeRun}

@@ -10,8 +10,8 @@ use Rattle.sector_log.specs.Storage.{storage_bytes}
 use Rattle.session_boards.specs.Session.{AreFirst, IsGenerated}
 use Rattle.session_boards.specs.declared.device.TheConstants.{SECTOR_BYTES}
 use Rattle.vehicle_core.specs.Acts.{Act}
-use Rattle.vehicle_node.specs.Reading.{Reads, no_rests}
-use Rattle.vehicle_node.specs.Runs.{Run, run_of}
+use Rattle.vehicle_runs.specs.Reading.{Reads, no_rests}
+use Rattle.vehicle_runs.specs.Runs.{Run, run_of}
 use Rattle.storage_cli.specs.Texts.{session_line}
 
 -- The bytes of an image without entries, all 0; their number is an argument, so that nothing

@@ -1,9 +1,10 @@
 -- Which statuses a call may end with, and what each tells.
-use Rattle.std.specs.Prelude.{◌≡◌, ◌≢◌, ◌⊎◌, ℕ, List, ◌++◌, map, take, Option, Some, None}
+use Rattle.std.specs.Prelude.{◌≡◌, ◌≢◌, ◌⊎◌, ℕ, List, ◌++◌, map, take, Option, Some, None, IfSome}
 use Rattle.std.specs.Borrow.{Bor}
 use Rattle.flash_traits.specs.declared.board.Fault.{Fault}
 use Rattle.flash_traits.specs.declared.board.Fault.TheVariants.{Attach, Read, Flash, Recv, Send}
-use Rattle.flash_traits.specs.Causes.{Rose}
+use Rattle.flash_traits.specs.Counts.{raised}
+use Rattle.flash_traits.specs.Causes.{Rose, counts_after}
 use Rattle.flash_traits.specs.declared.stream.Sink.{Ghosts}
 use Rattle.command_line.specs.Arguments.{Text}
 use Rattle.flash_traits.specs.Words.{Words}
@@ -120,6 +121,38 @@ pub record TellsFaults (status : ℕ) (before now : Fault → ℕ) : Type 0 wher
   pub flash : status ≡ FLASH_FAILED → Rose (before Flash) (now Flash)
   pub link : status ≡ LINK_FAILED → Rose (before Recv) (now Recv)
       ⊎ Rose (before Send) (now Send)
+
+-- the status that tells a fault of the board
+abbrev pub status_of_fault : Fault → ℕ
+status_of_fault Attach = ATTACH_FAILED
+status_of_fault Read = READ_FAILED
+status_of_fault Flash = FLASH_FAILED
+status_of_fault Recv = LINK_FAILED
+status_of_fault Send = LINK_FAILED
+
+-- At most one call of the board failed, and no count but that of its kind changed. The status is that
+-- of this fault, or that of the output where its line failed too.
+pub record ToldBoard (status : ℕ) (before now : Fault → ℕ) : Type 0 where
+  pub fault : Option Fault
+  pub counts : now ≡ counts_after fault before
+  pub told : IfSome fault (λ kind. (status ≡ status_of_fault kind) ⊎ (status ≡ OUTPUT_FAILED))
+
+-- the same of the reads of the input
+abbrev pub ToldInput : ℕ → ℕ → ℕ → Type 0
+ToldInput status before now = (now ≡ before)
+    ⊎ ((now ≡ raised before) × ((status ≡ INPUT_FAILED) ⊎ (status ≡ OUTPUT_FAILED)))
+
+-- the output failed once where its status comes, and nowhere else
+abbrev pub ToldOutput : ℕ → ℕ → ℕ → Type 0
+ToldOutput status before now = ((status ≡ OUTPUT_FAILED) × (now ≡ raised before))
+    ⊎ ((status ≢ OUTPUT_FAILED) × (now ≡ before))
+
+-- no count of faults changes that the status doesn't tell, and one that is told rises by one
+pub record ToldFaults (status : ℕ) (before now : Fault → ℕ)
+    (input_before input_now output_before output_now : ℕ) : Type 0 where
+  pub board : ToldBoard status before now
+  pub input : ToldInput status input_before input_now
+  pub output : ToldOutput status output_before output_now
 
 -- the sink has this text after what it had, where it tells its bytes
 abbrev pub Prints : {K : Type 0} → Ghosts K → K → K → List ℕ → Type 0

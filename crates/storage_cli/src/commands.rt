@@ -9,13 +9,13 @@ ghost use Rattle.command_line.specs.Lines.{line_of_words};
 ghost use Rattle.sector_image.specs.FirstBad.{Place, FirstBad};
 ghost use Rattle.sector_image.specs.Stands.{Stands, IsUsedUp};
 ghost use Rattle.block_store.specs.Refusals.{IsWorn};
-ghost use Rattle.vehicle_node.specs.Safe.{Safe};
+ghost use Rattle.vehicle_runs.specs.Safe.{Safe};
 ghost use Rattle.image_report.specs.Dumps.{IsDump};
 ghost use Rattle.image_report.specs.Reports.{IsReport};
 ghost use Rattle.image_report.specs.Writes.{WritesOne};
 ghost use Rattle.storage_cli.specs.Texts.{PrintedLine, memory_line, turns_line};
 ghost use Rattle.storage_cli.specs.Fresh.{IsFreshImage};
-ghost use Rattle.storage_cli.specs.Statuses.{texts, IsStatusOf, IsServeStatus, IsReplayStatus, IsFormatStatus, IsPastAttach, IsUnasked, OnServe, OnReplay, OnOthers, OnFormat, OnDump, OnReport, OnReading, TellsFaults, PrintsStatus, Prints, IsCutShort, IsTextCutShort, IsForeignStatus, IsWornStatus, IsGenStatus, IsDoneUnlessMemory, NothingFailed, OnGen};
+ghost use Rattle.storage_cli.specs.Statuses.{texts, IsStatusOf, IsServeStatus, IsReplayStatus, IsFormatStatus, IsPastAttach, IsUnasked, OnServe, OnReplay, OnOthers, OnFormat, OnDump, OnReport, OnReading, TellsFaults, ToldOutput, ToldFaults, PrintsStatus, Prints, IsCutShort, IsTextCutShort, IsForeignStatus, IsWornStatus, IsGenStatus, IsDoneUnlessMemory, NothingFailed, OnGen};
 ghost use Rattle.storage_cli.specs.Replays.{AllTell, PrintsWhole, PrintsPart, PrintsLast, PrintsReplayStatus};
 ghost use Rattle.storage_cli.specs.Steps.Endings.{Ends};
 ghost use Rattle.storage_cli.specs.Steps.Stops.{status_of_stop, line_of_stop};
@@ -38,13 +38,14 @@ use command_line::{Command, command_of};
 use flash_traits::{Board, Sink, Source};
 use session_boards::one_session;
 use std::alloc::{AllocError, Global};
-use vehicle_node::events_are_read_once;
+use vehicle_runs::events_are_read_once;
 
 /// Prints a line, and gives the status, or that of the output where it failed.
 fn print<K: Sink>(out: &mut K, line: &[u8], status: u8) -> Status
     requires { status ≢ OUTPUT_FAILED }
     ensures status { (result.0 ≡ status) ⊎ (result.0 ≡ OUTPUT_FAILED) }
     ensures output { result.0 ≡ OUTPUT_FAILED → Rose (K.faults out.old) (K.faults out.new) }
+    ensures counts { ToldOutput result.0 (K.faults out.old) (K.faults out.new) }
     ensures line { result.0 ≢ OUTPUT_FAILED → Prints K.Sink out.old out.new line.now }
     ensures cut { result.0 ≡ OUTPUT_FAILED → K.tells_written out.new
         → (count : ℕ) × (K.written out.new ≡ K.written out.old ++ take count line.now) }
@@ -60,6 +61,7 @@ fn print<K: Sink>(out: &mut K, line: &[u8], status: u8) -> Status
 fn print_stop<K: Sink>(out: &mut K, stop: Stop) -> Status
     ensures status { (result.0 ≡ status_of_stop stop) ⊎ (result.0 ≡ OUTPUT_FAILED) }
     ensures output { result.0 ≡ OUTPUT_FAILED → Rose (K.faults out.old) (K.faults out.new) }
+    ensures counts { ToldOutput result.0 (K.faults out.old) (K.faults out.new) }
     ensures line { result.0 ≢ OUTPUT_FAILED → Prints K.Sink out.old out.new (line_of_stop stop) }
     ensures cut { result.0 ≡ OUTPUT_FAILED → K.tells_written out.new
         → IsCutShort PrintedLine (K.written out.old) (K.written out.new) }
@@ -131,6 +133,8 @@ fn run_replay<B: Board, S: Source, K: Sink>(
     ensures faults { TellsFaults result.0 (B.faults board.old) (B.faults board.new) }
     ensures input_fault { result.0 ≡ INPUT_FAILED → Rose (S.faults input.old) (S.faults input.new) }
     ensures output { result.0 ≡ OUTPUT_FAILED → Rose (K.faults out.old) (K.faults out.new) }
+    ensures told { ToldFaults result.0 (B.faults board.old) (B.faults board.new)
+        (S.faults input.old) (S.faults input.new) (K.faults out.old) (K.faults out.new) }
     ensures lines { PrintsReplayStatus result.0 (Prints K.Sink out.old out.new)
         (PrintsLast K.Sink out.old out.new) }
     ensures cut_short { result.0 ≡ OUTPUT_FAILED → K.tells_written out.new
@@ -252,6 +256,7 @@ fn run_gen<K: Sink>(alloc: Global, out: &mut K, rounds: u16) -> Status
         × (result.0 ≢ READ_FAILED) × (result.0 ≢ FLASH_FAILED) × (result.0 ≢ LINK_FAILED)
         × (result.0 ≢ TURNS_OVER) × (result.0 ≢ ATTACH_FAILED) }
     ensures output { result.0 ≡ OUTPUT_FAILED → Rose (K.faults out.old) (K.faults out.new) }
+    ensures counts { ToldOutput result.0 (K.faults out.old) (K.faults out.new) }
     ensures lines { PrintsStatus result.0 (Prints K.Sink out.old out.new) }
     ensures cut_short { result.0 ≡ OUTPUT_FAILED → K.tells_written out.new
         → IsCutShort PrintedLine (K.written out.old) (K.written out.new) }
@@ -313,6 +318,11 @@ pub fn run<'a, B: Board, S: Source, K: Sink>(
         ⊎ Rose (B.faults board.old Fault.Send) (B.faults board.new Fault.Send) }
     ensures input_fault { result.0 ≡ INPUT_FAILED → Rose (S.faults input.old) (S.faults input.new) }
     ensures output_fault { result.0 ≡ OUTPUT_FAILED → Rose (K.faults out.old) (K.faults out.new) }
+
+    // And no count changes that the status doesn't tell: at the first failure nothing more is asked
+    // of the object that failed.
+    ensures told_faults { ToldFaults result.0 (B.faults board.old) (B.faults board.new)
+        (S.faults input.old) (S.faults input.new) (K.faults out.old) (K.faults out.new) }
 
     // One line is printed, by the status, or the text of a dump or a report, or what a replay comes
     // to and then its line, and nothing more where that failed.

@@ -1,15 +1,14 @@
 //! A `dump` and a `report`: a text of the image is printed.
-ghost use Rattle.std.specs.Prelude.{◌≡◌, ◌≤◌, List, ℕ, OnOk, OnErr, IfOk, IfErr, IsErr};
-ghost use Rattle.flash_traits.specs.declared.board.Fault.{Fault};
+ghost use Rattle.std.specs.Prelude.{◌≡◌, List, ℕ, OnOk, OnErr, IfOk, IfErr, IsErr};
 ghost use Rattle.flash_traits.specs.declared.board.Fault.TheVariants.{Read};
 ghost use Rattle.flash_traits.specs.Words.{IsSectorSize};
-ghost use Rattle.flash_traits.specs.Causes.{Rose};
+ghost use Rattle.flash_traits.specs.Causes.{counts_after, told_by};
 ghost use Rattle.sector_image.specs.FirstBad.{Place, FirstBad};
 ghost use Rattle.sector_image.specs.Stands.{Stands};
-ghost use Rattle.image_report.specs.Refusals.{OnForeign, OnFault, OnOutput, BeforeOutput, OnceRead};
+ghost use Rattle.image_report.specs.Refusals.{OnForeign, OnFault, OnOutput, BeforeOutput, OnceRead, fault_in, sink_count_after};
 ghost use Rattle.image_report.specs.Writes.{WritesOne};
 ghost use Rattle.storage_cli.specs.Steps.Stops.{IsAttached, IsFirst, StopsByCause};
-ghost use Rattle.storage_cli.specs.Steps.Printing.{IsTextOf, IsRefusing, IsTextStop, OnWhole, OnPrefix, ending_of, status_of_printed};
+ghost use Rattle.storage_cli.specs.Steps.Printing.{IsTextOf, IsRefusing, IsTextStop, OnWhole, OnPrefix, ending_of, sink_count_at, status_of_printed};
 ghost use Rattle.storage_cli.specs.Statuses.{IsCutShort};
 
 use crate::status::{DONE, OUTPUT_FAILED};
@@ -83,13 +82,13 @@ fn write_text<B: Board, K: Sink>(
         → FirstBad (B.words board.old) place)) }
     ensures stands { text ≡ ImageText.Dump → OnceRead result (B.tells board.new
         → (bytes : List ℕ) × Stands (B.words board.old) bytes) }
-    ensures fault { IfErr result (λ e. OnFault e (λ kind. (kind ≡ Read)
-        × Rose (B.faults board.old Read) (B.faults board.new Read))) }
-    ensures output { IfErr result (λ e. OnOutput e (Rose (K.faults out.old) (K.faults out.new))) }
+    ensures fault { IfErr result (λ e. OnFault e (λ kind. kind ≡ Read)) }
+    ensures counts { B.faults board.new
+        ≡ counts_after (told_by fault_in result) (B.faults board.old) }
+    ensures output { K.faults out.new ≡ sink_count_after result (K.faults out.old) }
     ensures told { B.tells board.new → B.tells board.old }
     ensures same_words { B.tells board.new → B.words board.new ≡ B.words board.old }
     ensures moment { B.moment board.new ≡ B.moment board.old }
-    ensures counts { (k : Fault) → B.faults board.old k ≤ B.faults board.new k }
 {
     match text {
         ImageText::Dump => dump(alloc, board, out),
@@ -112,7 +111,7 @@ pub(crate) fn print_text<B: Board, K: Sink>(
         B.tells board.new → K.tells_written out.new
         → IsCutShort (IsTextOf text (B.words board.old)) (K.written out.old) (K.written out.new))) }
     ensures output { IfOk result (λ printed.
-        OnPrefix printed (Rose (K.faults out.old) (K.faults out.new))) }
+        K.faults out.new ≡ sink_count_at printed (K.faults out.old)) }
     ensures quiet { OnErr result (out.new ≡ out.old) }
     ensures stops { IfErr result (IsTextStop text) }
     ensures cause { StopsByCause (B.faults board.old) (B.faults board.new) result }

@@ -1,5 +1,5 @@
 //! A `replay`: a script is run over a copy of the image in memory.
-ghost use Rattle.std.specs.Prelude.{◌≡◌, ◌≤◌, ◌++◌, ◌⊎◌, List, ℕ, length, IfOk, IfErr, OnOk};
+ghost use Rattle.std.specs.Prelude.{◌≡◌, ◌++◌, ◌⊎◌, List, ℕ, length, IfOk, IfErr, OnOk};
 ghost use Rattle.flash_traits.specs.Words.{IsSectorSize};
 ghost use Rattle.flash_traits.specs.Budget.{budget_of};
 ghost use Rattle.flash_traits.specs.Causes.{Rose};
@@ -11,7 +11,7 @@ ghost use Rattle.script_board.specs.declared.image.TheConstants.{IMAGE_BYTES};
 ghost use Rattle.script_replay.specs.Replays.{ReplaysWhole};
 ghost use Rattle.storage_cli.specs.Replays.{AllTell};
 ghost use Rattle.storage_cli.specs.Steps.Stops.{IsAttached, IsFirst, StopsByCause, StopsEarly};
-ghost use Rattle.storage_cli.specs.Steps.Replaying.{ending_of, OnWhole, OnPrefix, IsReadStop, StopsBefore, StopsInside};
+ghost use Rattle.storage_cli.specs.Steps.Replaying.{ending_of, input_after, output_after, OnWhole, OnPrefix, IsReadStop, StopsBefore, StopsInside};
 
 use crate::copying::copy_image;
 use crate::stop::{Foreign, Stop};
@@ -99,7 +99,8 @@ fn replay_image<B: Board, S: Source, K: Sink>(
         → StopsEarly result }
     ensures reads { OnlyReads B.Board board.old board.new }
     ensures cause { StopsByCause (B.faults board.old) (B.faults board.new) result }
-    ensures output_counts { K.faults out.old ≤ K.faults out.new }
+    ensures input_counts { S.faults input.new ≡ input_after result (S.faults input.old) }
+    ensures output_counts { K.faults out.new ≡ output_after result (K.faults out.old) }
 {
     let mut images = Images::new(alloc)?;
     let mut copy = vec![in alloc; 0u8; IMAGE_BYTES]?;
@@ -142,7 +143,8 @@ pub(crate) fn replay_on<B: Board, S: Source, K: Sink>(
         → B.words board.new ≡ B.words board.old }
     ensures moment { B.moment board.new ≡ B.moment board.old }
     ensures cause { StopsByCause (B.faults board.old) (B.faults board.new) result }
-    ensures output_counts { K.faults out.old ≤ K.faults out.new }
+    ensures input_counts { S.faults input.new ≡ input_after result (S.faults input.old) }
+    ensures output_counts { K.faults out.new ≡ output_after result (K.faults out.old) }
 {
     if board.attach(image, 0, None).is_err() {
         return Err(Stop::Attach);

@@ -1,5 +1,7 @@
 //! How a call ended, as the number that the program ends with.
 
+ghost use Rattle.std.specs.Prelude.{◌≡◌};
+
 /// How a call ended: 0 where the command did all of its work.
 #[derive(Clone, Copy, Debug, PartialEq, Eq)]
 pub struct Status(pub u8);
@@ -42,3 +44,12 @@ pub const SCRIPT_REFUSED: u8 = 11;
 
 /// The attach failed.
 pub const ATTACH_FAILED: u8 = 13;
+
+/// The statuses have these numbers.
+pub fn statuses()
+    ensures done { (DONE ≡ 0) × (WORN ≡ 7) × (TURNS_OVER ≡ 8) }
+    ensures refused { (NO_COMMAND ≡ 1) × (NO_MEMORY ≡ 2) × (FOREIGN_WORD ≡ 3)
+        × (SCRIPT_REFUSED ≡ 11) }
+    ensures failed { (READ_FAILED ≡ 4) × (FLASH_FAILED ≡ 5) × (LINK_FAILED ≡ 6)
+        × (INPUT_FAILED ≡ 9) × (OUTPUT_FAILED ≡ 10) × (ATTACH_FAILED ≡ 13) }
+{}

@@ -13,6 +13,11 @@ pub const STORAGE_BYTES: usize = 8 * LINES;
 /// The most line writes of one change.
 pub const BATCH_LINES: usize = 64;
 
+/// The sizes have these numbers.
+pub fn sizes()
+    ensures { (LINES ≡ 1920) × (STORAGE_BYTES ≡ 15360) × (BATCH_LINES ≡ 64) }
+{}
+
 /// Eight bytes for a line, which stands at eight times its number.
 #[derive(Clone, Copy, Debug, PartialEq, Eq, Default, Drop)]
 pub struct LineWrite {

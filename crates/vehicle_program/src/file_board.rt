@@ -130,7 +130,8 @@ impl<'a, R: Files<File = File> + Net + Clock> FileBoard<'a, R> {
 }
 
 impl<'a, R: Files<File = File> + Net + Clock> Board for FileBoard<'a, R> {
-    ghost use Rattle.vehicle_program.specs.Counts.{fault_count_of, untold};
+    ghost use Rattle.flash_traits.specs.Causes.{counts_by_kind};
+    ghost use Rattle.vehicle_program.specs.Counts.{untold};
 
     ghost sector_bytes = { λ b. b.image.sector_bytes };
 
@@ -151,9 +152,8 @@ impl<'a, R: Files<File = File> + Net + Clock> Board for FileBoard<'a, R> {
 
     ghost left = { λ _ _ _. ⊥ };
 
-    ghost faults = { λ b. fault_count_of b.counts.attach_faults b.counts.read_faults
-        b.counts.flash_faults
-        b.counts.recv_faults b.counts.send_faults };
+    ghost faults = { λ b. counts_by_kind b.counts.attach_faults b.counts.read_faults
+        b.counts.flash_faults b.counts.recv_faults b.counts.send_faults };
 
     ghost reads = { λ b o now. absurd now };
 
@@ -163,6 +163,7 @@ impl<'a, R: Files<File = File> + Net + Clock> Board for FileBoard<'a, R> {
 
     ghost shape = { λ b told known. absurd told };
 
+    #[tactic(auto, using(flash_traits::proofs::Counting::raised_attach))]
     fn attach(&mut self, name: &str, port: u16, make: Option<u32>) -> Result<Geometry, Failed> {
         match self.open(name, port, make) {
             Ok(()) => Ok(self.geometry()),
@@ -183,6 +184,7 @@ impl<'a, R: Files<File = File> + Net + Clock> Board for FileBoard<'a, R> {
         Ok(self.image.word(region, at))
     }
 
+    #[tactic(auto, using(flash_traits::proofs::Counting::raised_flash))]
     fn program(&mut self, region: Region, at: u32, word: u16) -> Result<(), Failed> {
         self.counts.programs = self.counts.programs.saturating_add(1);
         match self.change(region, at, word) {
@@ -194,6 +196,7 @@ impl<'a, R: Files<File = File> + Net + Clock> Board for FileBoard<'a, R> {
         }
     }
 
+    #[tactic(auto, using(flash_traits::proofs::Counting::raised_flash))]
     fn erase(&mut self, region: Region) -> Result<(), Failed> {
         self.counts.erases = self.counts.erases.saturating_add(1);
         match self.image.erase(region) {
@@ -205,6 +208,7 @@ impl<'a, R: Files<File = File> + Net + Clock> Board for FileBoard<'a, R> {
         }
     }
 
+    #[tactic(auto, using(flash_traits::proofs::Counting::raised_recv))]
     fn recv(&mut self, into: &mut [u8]) -> Result<Event, Failed> {
         self.counts.receptions = self.counts.receptions.saturating_add(1);
         match self.receive(into) {
@@ -216,6 +220,7 @@ impl<'a, R: Files<File = File> + Net + Clock> Board for FileBoard<'a, R> {
         }
     }
 
+    #[tactic(auto, using(flash_traits::proofs::Counting::raised_send))]
     fn send(&mut self, peer: u8, bytes: &[u8]) -> Result<(), Failed> {
         self.counts.sendings = self.counts.sendings.saturating_add(1);
         match self.transmit(peer, bytes) {

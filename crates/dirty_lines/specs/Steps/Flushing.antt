@@ -25,7 +25,7 @@ pub record HasPutEntries {B : Type 0} (g : Ghosts B) (armed : Bool)
       (PutsLines (2 * length entries) (joined entries))
   pub erases : armed ≡ true → ErasesNothing g before now
   pub erased : (g.moment now).erases ≤ raised_by (length entries) (g.moment before).erases
-  pub counts : (k : Fault) → g.faults before k ≤ g.faults now k
+  pub counts : g.faults now ≡ g.faults before
 
 -- The first entry is refused: the store is armed and spilled and the entry exceeds the room, or a
 -- sector is to be voided and the guard row is used up.

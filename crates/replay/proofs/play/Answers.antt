@@ -1,7 +1,9 @@
-use Rattle.std.proofs.Common.{[], ◌++◌, ◌+◌, ◌∙◌, refl, length, arith}
+use Rattle.std.proofs.Common.{[], ◌++◌, ◌+◌, ◌∙◌, refl, length, ap, arith}
 use Rattle.std.proofs.lemmas.Result.{err_from_is_err_and}
 use Rattle.script_board.specs.Taking.{events_of}
 use Rattle.replay.proofs.Steps.{adds_none, adds_then, goes_on_none, goes_on_then, breaks_then}
+use Rattle.replay.specs.Breaks.{counted_at, input_counted, output_counted}
+use Rattle.replay.proofs.Causes.{ok_otherwise, err_otherwise}
 use Rattle.replay.proofs.Uses.{no_cut-append, no_end-append, end-append, waits_then, few_none, few_then, breaks_off_then, end_uses, more_uses}
 use Rattle.replay.proofs.play.Goals as goal
 
@@ -12,8 +14,9 @@ events-init g c = record {
   told = λ told. told;
   plays = λ told. ([], [], adds_none (g.P.Player.took c.args.player.now) (g.P.Player.printed c.args.player.now), goes_on_none c.args.node.now, refl, tt, tt, omega arith, few_none _);
   remaining = omega arith;
-  input_counts = omega arith;
-  output_counts = omega arith;
+  unfailed = λ none. none;
+  input_counts = refl;
+  output_counts = refl;
 }
 
 pub returns-in_err-event-clause-plays : goal.returns-in_err-event-clause-plays
@@ -65,6 +68,31 @@ events-preserved g c = record {
         few_then i.0 e.0 _ _ i.7 i.8 e.6,
       );
   remaining = omega (arith, c.events.invariant.remaining, c.in_ok-event.ensures.remaining);
-  input_counts = omega (arith, c.events.invariant.input_counts, c.in_ok-event.ensures.input_counts);
-  output_counts = omega (arith, c.events.invariant.output_counts, c.in_ok-event.ensures.output_counts);
+  unfailed = λ none. c.in_ok-event.ensures.unfailed (c.events.invariant.unfailed none) (ok_otherwise _);
+  input_counts = c.in_ok-event.ensures.input_counts ∙ c.events.invariant.input_counts;
+  output_counts = c.in_ok-event.ensures.output_counts ∙ c.events.invariant.output_counts;
 }
+
+pub returns-in_err-event-clause-unfailed : goal.returns-in_err-event-clause-unfailed
+returns-in_err-event-clause-unfailed g c =
+    let passed = err_from_is_err_and c.from_residual.result c.from_residual.ensures.1 in
+    rw (passed.1, passed.2) (λ none other. c.in_err-event.ensures.unfailed (c.events.invariant.unfailed none) (err_otherwise c.in_err-event.field-0.0 other))
+
+pub returns-in_err-event-clause-input_counts : goal.returns-in_err-event-clause-input_counts
+returns-in_err-event-clause-input_counts g c =
+    let passed = err_from_is_err_and c.from_residual.result c.from_residual.ensures.1 in
+    rw (passed.1, passed.2) (c.in_err-event.ensures.input_counts ∙ ap (counted_at input_counted c.in_err-event.field-0.0) c.events.invariant.input_counts)
+
+pub returns-in_err-event-clause-output_counts : goal.returns-in_err-event-clause-output_counts
+returns-in_err-event-clause-output_counts g c =
+    let passed = err_from_is_err_and c.from_residual.result c.from_residual.ensures.1 in
+    rw (passed.1, passed.2) (c.in_err-event.ensures.output_counts ∙ ap (counted_at output_counted c.in_err-event.field-0.0) c.events.invariant.output_counts)
+
+pub returns-in-End-clause-unfailed : goal.returns-in-End-clause-unfailed
+returns-in-End-clause-unfailed g c = λ none other. c.in_ok-event.ensures.unfailed (c.events.invariant.unfailed none) (ok_otherwise _)
+
+pub returns-in-End-clause-input_counts : goal.returns-in-End-clause-input_counts
+returns-in-End-clause-input_counts g c = c.in_ok-event.ensures.input_counts ∙ c.events.invariant.input_counts
+
+pub returns-in-End-clause-output_counts : goal.returns-in-End-clause-output_counts
+returns-in-End-clause-output_counts g c = c.in_ok-event.ensures.output_counts ∙ c.events.invariant.output_counts

@@ -17,8 +17,9 @@ invariant-events g l =
           × GoesOn l.fn.node l.node (events_of lines) frames × (l.node.budget ≡ l.fn.node.budget)
           × HasNoLossNow lines × HasNoEnd lines × (p.waiting l.player ≡ p.waiting l.fn.player + loses lines) × FewWait (p.waiting l.fn.player) lines;
       remaining : p.remaining l.player ≤ p.remaining l.fn.player;
-      input_counts : p.input_faults l.fn.player ≤ p.input_faults l.player;
-      output_counts : p.output_faults l.fn.player ≤ p.output_faults l.player;
+      unfailed : p.unfailed l.fn.player → p.unfailed l.player;
+      input_counts : p.input_faults l.player ≡ p.input_faults l.fn.player;
+      output_counts : p.output_faults l.player ≡ p.output_faults l.fn.player;
     }
 
 abbrev pub decreases-events : goal.decreases-events

@@ -1,12 +1,12 @@
-use Rattle.std.proofs.Common.{ℕ, List, [], ◌++◌, sym, subst, append-nil, arith}
+use Rattle.std.proofs.Common.{ℕ, List, [], ◌++◌, refl, sym, ◌∙◌, ap, subst, append-nil}
 use Rattle.sector_image.specs.FirstBad.{Place, FirstBad}
 use Rattle.sector_image.specs.Stands.{Stands}
 use Rattle.sector_image.proofs.ImageLaws.{never_both}
 use Rattle.script_board.specs.Printing.{frame_lines, loss_line}
-use Rattle.replay.specs.Breaks.{OnForeign}
+use Rattle.replay.specs.Breaks.{OnForeign, input_counted, output_counted}
 use Rattle.replay.specs.Histories.{Ended}
 use Rattle.replay.specs.declared.Break.TheVariants.{Lost, Stopped}
-use Rattle.replay.proofs.Causes.{stopped_by, foreign_map}
+use Rattle.replay.proofs.Causes.{stopped_by, foreign_map, lost_counts, stopped_counts, ok_otherwise, lost_otherwise, stopped_otherwise}
 use Rattle.replay.proofs.Steps.{next_none, next_then, next_quiet, breaks_from_by}
 use Rattle.replay.proofs.Uses.{breaks_by}
 use Rattle.replay.proofs.Histories.{printed_then, ended_none, ended_more, replayed, cut_short, stands_safe}
@@ -27,8 +27,9 @@ runs-init g c =
         subst (λ (n : ℕ). Ended p.arming w [] [] n w) (sym c.requires.none_waits) (ended_none p.arming w),
         (b, stands),
       );
-      input_counts = omega arith;
-      output_counts = omega arith;
+      unfailed = λ none. none;
+      input_counts = refl;
+      output_counts = refl;
     }
 
 pub returns-in-Ok-clause-replayed : goal.returns-in-Ok-clause-replayed
@@ -91,6 +92,27 @@ runs-preserved g c =
                 (ended_more p.arming _ _ _ i.0 i.1 _ _ i.4 r.0 r.1 i.5.0 i.5.1 r.2 uses r.6 broke)),
             stands_safe p.arming i.5.0 _ _ r.2 _ (p.words c.print_loss.new.self) (broke.safe i.5.0 i.5.1) loss.words,
           );
-      input_counts = omega (arith, before.input_counts, run.input_counts, loss.input_counts);
-      output_counts = omega (arith, before.output_counts, run.output_counts, loss.output_counts);
+      unfailed = λ none. loss.unfailed (run.unfailed (before.unfailed none) (lost_otherwise _ c.in-Err-Lost.field-0-is));
+      input_counts = loss.input_counts ∙ lost_counts input_counted _ _ _ c.in-Err-Lost.field-0-is run.input_counts ∙ before.input_counts;
+      output_counts = loss.output ∙ lost_counts output_counted _ _ _ c.in-Err-Lost.field-0-is run.output_counts ∙ before.output_counts;
     }
+
+pub returns-in-Ok-clause-unfailed : goal.returns-in-Ok-clause-unfailed
+returns-in-Ok-clause-unfailed g c = λ none other. c.in-Ok.ensures.unfailed (c.runs.invariant.unfailed none) (ok_otherwise _)
+
+pub returns-in-Err-Stopped-clause-unfailed : goal.returns-in-Err-Stopped-clause-unfailed
+returns-in-Err-Stopped-clause-unfailed g c = λ none other. c.in-Err-Stopped.ensures.unfailed (c.runs.invariant.unfailed none) (stopped_otherwise _ c.in-Err-Stopped.stop c.in-Err-Stopped.field-0-is other)
+
+pub returns-in-Ok-clause-input_counts : goal.returns-in-Ok-clause-input_counts
+returns-in-Ok-clause-input_counts g c = c.in-Ok.ensures.input_counts ∙ c.runs.invariant.input_counts
+
+pub returns-in-Err-Stopped-clause-input_counts : goal.returns-in-Err-Stopped-clause-input_counts
+returns-in-Err-Stopped-clause-input_counts g c =
+    stopped_counts input_counted _ c.in-Err-Stopped.stop _ _ c.in-Err-Stopped.field-0-is c.in-Err-Stopped.ensures.input_counts ∙ ap (input_counted c.in-Err-Stopped.stop) c.runs.invariant.input_counts
+
+pub returns-in-Ok-clause-output_counts : goal.returns-in-Ok-clause-output_counts
+returns-in-Ok-clause-output_counts g c = c.in-Ok.ensures.output_counts ∙ c.runs.invariant.output_counts
+
+pub returns-in-Err-Stopped-clause-output_counts : goal.returns-in-Err-Stopped-clause-output_counts
+returns-in-Err-Stopped-clause-output_counts g c =
+    stopped_counts output_counted _ c.in-Err-Stopped.stop _ _ c.in-Err-Stopped.field-0-is c.in-Err-Stopped.ensures.output_counts ∙ ap (output_counted c.in-Err-Stopped.stop) c.runs.invariant.output_counts

@@ -14,8 +14,9 @@ invariant-runs g l =
           × (p.printed l.player ≡ p.printed l.fn.player ++ text)
           × Ended p.arming (p.words l.fn.player) lines text (p.waiting l.player) (p.words l.player)
           × ((now : List ℕ) × Stands (p.words l.player) now);
-      input_counts : p.input_faults l.fn.player ≤ p.input_faults l.player;
-      output_counts : p.output_faults l.fn.player ≤ p.output_faults l.player;
+      unfailed : p.unfailed l.fn.player → p.unfailed l.player;
+      input_counts : p.input_faults l.player ≡ p.input_faults l.fn.player;
+      output_counts : p.output_faults l.player ≡ p.output_faults l.fn.player;
     }
 
 abbrev pub decreases-runs : goal.decreases-runs

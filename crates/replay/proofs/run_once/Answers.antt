@@ -1,8 +1,10 @@
-use Rattle.std.proofs.Common.{◌+◌, [], ◌∙◌, ℕ, length, subst, arith}
+use Rattle.std.proofs.Common.{◌+◌, [], ◌∙◌, ℕ, length, ap, subst, arith}
 use Rattle.std.proofs.lemmas.Result.{err_from_is_err_and}
 use Rattle.script_board.specs.Hearing.{FewWait}
 use Rattle.script_board.specs.Taking.{events_of}
+use Rattle.replay.specs.Breaks.{counted_at, after_break, input_counted, output_counted}
 use Rattle.replay.specs.Playing.{BreaksFrom, BreaksSo}
+use Rattle.replay.proofs.Causes.{ok_otherwise, err_otherwise}
 use Rattle.replay.proofs.Steps.{adds_then, adds_quiet, breaks_from}
 use Rattle.replay.proofs.Uses.{few_none, open_breaks_off, close_uses}
 use Rattle.replay.proofs.Histories.{closed}
@@ -48,3 +50,42 @@ returns-clause-ends g c = λ told.
       close_uses c.close.result p.0 _ _ _ p.5.0 p.5.1 p.5.2 q.uses q.refused,
       subst (λ (n : ℕ). FewWait n p.0) o.uses p.6,
     )
+
+pub returns-in_err-node-clause-unfailed : goal.returns-in_err-node-clause-unfailed
+returns-in_err-node-clause-unfailed g c =
+    let passed = err_from_is_err_and c.from_residual.result c.from_residual.ensures.1 in
+    rw (passed.1, passed.2) (λ none other. c.in_err-node.ensures.unfailed none (err_otherwise c.in_err-node.field-0.0 other))
+
+pub returns-in_err-node-clause-input_counts : goal.returns-in_err-node-clause-input_counts
+returns-in_err-node-clause-input_counts g c =
+    let passed = err_from_is_err_and c.from_residual.result c.from_residual.ensures.1 in
+    rw (passed.1, passed.2) c.in_err-node.ensures.input_counts
+
+pub returns-in_err-node-clause-output_counts : goal.returns-in_err-node-clause-output_counts
+returns-in_err-node-clause-output_counts g c =
+    let passed = err_from_is_err_and c.from_residual.result c.from_residual.ensures.1 in
+    rw (passed.1, passed.2) c.in_err-node.ensures.output_counts
+
+pub returns-in_err-play-clause-unfailed : goal.returns-in_err-play-clause-unfailed
+returns-in_err-play-clause-unfailed g c =
+    let passed = err_from_is_err_and c.from_residual-in_err-play.result c.from_residual-in_err-play.ensures.1 in
+    rw (passed.1, passed.2) (λ none other. c.in_err-play.ensures.unfailed (c.in_ok-node.ensures.unfailed none (ok_otherwise _)) (err_otherwise c.in_err-play.field-0.0 other))
+
+pub returns-in_err-play-clause-input_counts : goal.returns-in_err-play-clause-input_counts
+returns-in_err-play-clause-input_counts g c =
+    let passed = err_from_is_err_and c.from_residual-in_err-play.result c.from_residual-in_err-play.ensures.1 in
+    rw (passed.1, passed.2) (c.in_err-play.ensures.input_counts ∙ ap (counted_at input_counted c.in_err-play.field-0.0) c.in_ok-node.ensures.input_counts)
+
+pub returns-in_err-play-clause-output_counts : goal.returns-in_err-play-clause-output_counts
+returns-in_err-play-clause-output_counts g c =
+    let passed = err_from_is_err_and c.from_residual-in_err-play.result c.from_residual-in_err-play.ensures.1 in
+    rw (passed.1, passed.2) (c.in_err-play.ensures.output_counts ∙ ap (counted_at output_counted c.in_err-play.field-0.0) c.in_ok-node.ensures.output_counts)
+
+pub returns-clause-unfailed : goal.returns-clause-unfailed
+returns-clause-unfailed g c = λ none other. c.close.ensures.unfailed (c.in_ok-play.ensures.unfailed (c.in_ok-node.ensures.unfailed none (ok_otherwise _)) (ok_otherwise _)) other
+
+pub returns-clause-input_counts : goal.returns-clause-input_counts
+returns-clause-input_counts g c = c.close.ensures.input_counts ∙ ap (after_break input_counted c.close.result) (c.in_ok-play.ensures.input_counts ∙ c.in_ok-node.ensures.input_counts)
+
+pub returns-clause-output_counts : goal.returns-clause-output_counts
+returns-clause-output_counts g c = c.close.ensures.output_counts ∙ ap (after_break output_counted c.close.result) (c.in_ok-play.ensures.output_counts ∙ c.in_ok-node.ensures.output_counts)

@@ -3,7 +3,6 @@ use Rattle.std.specs.Prelude.{◌≡◌, ◌≢◌, ◌≤◌, ℕ, ◌+◌, ◌
 use Rattle.std.specs.Prelude.{None, IsSome, List, [], ◌++◌, length, take, Result, Err, OnOk}
 use Rattle.std.specs.Borrow.{GName}
 use Rattle.flash_traits.specs.Words.{Words}
-use Rattle.flash_traits.specs.Causes.{Rose}
 use Rattle.flash_traits.specs.Losses.{SentFrame}
 use Rattle.flash_traits.specs.declared.board.Board as board
 use Rattle.flash_traits.specs.declared.stream.Source as source
@@ -136,8 +135,6 @@ module _ {S K : Type 0} {g : source.Ghosts S} {h : sink.Ghosts K} where
     pub told_rest : TellsRest place → n.tells_rest
     pub told_written : TellsWritten place → n.tells_written
     pub grows : TellsWritten place → take (length n.written) (written_at place) ≡ n.written
-    pub input_counts : n.input_faults ≤ input_faults_at place
-    pub output_counts : n.output_faults ≤ output_faults_at place
 
   -- these lines were taken since
   pub record Added {N : Type 0} (n : start.Ghosts N) (place : Option (ScriptBoard S K g h))
@@ -152,9 +149,9 @@ module _ {S K : Type 0} {g : source.Ghosts S} {h : sink.Ghosts K} where
       TellsWritten place → written_at place ≡ n.written ++ frame_lines frames
 
   -- The player holds a board over the source and the sink of the start, and what was printed since
-  -- follows what was printed then. Where a line failed, the sink did.
-  pub record HoldsAt {M : Type 0} (m : beginning.Ghosts M) (printed : Bool)
-      (place : Option (ScriptBoard S K g h)) : Type 0 where
+  -- follows what was printed then.
+  pub record HoldsAt {M : Type 0} (m : beginning.Ghosts M) (place : Option (ScriptBoard S K g h))
+      : Type 0 where
     pub some : IsSome place
     pub input : input_of place ≡ m.input
     pub out : out_of place ≡ m.out
@@ -162,9 +159,6 @@ module _ {S K : Type 0} {g : source.Ghosts S} {h : sink.Ghosts K} where
     pub told_rest : TellsRest place → m.tells_rest
     pub told_written : TellsWritten place → m.tells_written
     pub grows : TellsWritten place → (text : List ℕ) × (written_at place ≡ m.written ++ text)
-    pub input_counts : m.input_faults ≤ input_faults_at place
-    pub output_counts : m.output_faults ≤ output_faults_at place
-    pub failed : printed ≡ false → Rose m.output_faults (output_faults_at place)
 
   -- nothing failed in what was printed, and all bytes are told
   pub record ToldAt (printed : Bool) (place : Option (ScriptBoard S K g h)) : Type 0 where

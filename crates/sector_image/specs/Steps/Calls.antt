@@ -5,7 +5,7 @@ use Rattle.flash_traits.specs.declared.board.Fault.TheVariants.{Read}
 use Rattle.flash_traits.specs.declared.numbers.TheConstants.{GUARD_HALFWORDS}
 use Rattle.flash_traits.specs.Words.{IsSectorSize}
 use Rattle.flash_traits.specs.Calls.{OnlyReads}
-use Rattle.flash_traits.specs.Causes.{Rose}
+use Rattle.flash_traits.specs.Causes.{counts_after, told_by}
 use Rattle.sector_log.specs.Storage.{storage_bytes}
 use Rattle.sector_image.specs.declared.kept.Survey.{Survey}
 use Rattle.sector_image.specs.declared.kept.SurveyError.{SurveyError}
@@ -13,7 +13,7 @@ use Rattle.sector_image.specs.Images.{both_bytes}
 use Rattle.sector_image.specs.Stands.{Stands}
 use Rattle.sector_image.specs.FirstBad.{Place}
 use Rattle.sector_image.specs.Fits.{FitsShape}
-use Rattle.sector_image.specs.Refusals.{OnForeign, OnSurveyFault}
+use Rattle.sector_image.specs.Refusals.{OnForeign, OnSurveyFault, fault_in}
 
 -- What every step that surveys an image is given: an attached board, a count that a guard row may
 -- have, and room for two lists of the storage's bytes.
@@ -29,8 +29,8 @@ pub record ReadsOrRefuses {B T : Type 0} (g : Ghosts B) (bad : Place → Type 0)
     (result : Result T SurveyError) (new : B) : Type 0 where
   pub reads : OnlyReads g old new
   pub foreign : IfErr result (λ e. OnForeign e (λ place. g.tells new → bad place))
-  pub fault : IfErr result (λ e. OnSurveyFault e (λ kind. (kind ≡ Read)
-      × Rose (g.faults old Read) (g.faults new Read)))
+  pub fault : IfErr result (λ e. OnSurveyFault e (λ kind. kind ≡ Read))
+  pub counts : g.faults new ≡ counts_after (told_by fault_in result) (g.faults old)
 
 -- Where the call finds an image, its state fits the board and the bytes in memory, and where the
 -- board tells its words, they stand for those of the image.

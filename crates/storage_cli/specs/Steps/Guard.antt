@@ -5,7 +5,7 @@ use Rattle.flash_traits.specs.Words.{Words}
 use Rattle.flash_traits.specs.Losses.{Received, SentFrame}
 use Rattle.guard_row.specs.Row.{IsGuardRow}
 use Rattle.sector_image.specs.Stands.{Stands}
-use Rattle.vehicle_node.specs.Guard.{MayWear}
+use Rattle.vehicle_runs.specs.Guard.{MayWear}
 use Rattle.vehicle_node.specs.Standing.{Node, StaysWithin}
 
 -- Events were received, the last of which may not be finished, and where the words are told, the

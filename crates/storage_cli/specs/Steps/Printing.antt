@@ -1,5 +1,6 @@
 -- How a command ends that prints a text of an image.
 use Rattle.std.specs.Prelude.{ℕ, List, Result, Ok, Err}
+use Rattle.flash_traits.specs.Counts.{raised}
 use Rattle.flash_traits.specs.Words.{Words}
 use Rattle.image_report.specs.declared.errors.ReportError.{ReportError}
 use Rattle.image_report.specs.declared.errors.ReportError.TheVariants as errors
@@ -48,6 +49,11 @@ OnWhole printed.Prefix P = Unit {0}
 abbrev pub OnPrefix : Printed → Type 0 → Type 0
 OnPrefix printed.Whole P = Unit {0}
 OnPrefix printed.Prefix P = P
+
+-- the sink's count of faults where a text was printed so far
+abbrev pub sink_count_at : Printed → ℕ → ℕ
+sink_count_at printed.Whole before = before
+sink_count_at printed.Prefix before = raised before
 
 -- the status where a text was printed so far
 abbrev pub status_of_printed : Printed → ℕ

@@ -5,17 +5,17 @@ use Rattle.flash_traits.specs.Words.{Words}
 use Rattle.flash_traits.specs.Losses.{Received, SentFrame, Outcome}
 use Rattle.flash_traits.specs.Calls.{Passes}
 use Rattle.sector_image.specs.Stands.{Stands}
-use Rattle.vehicle_node.specs.Safe.{Safe, SafeSince, Adds}
 use Rattle.flash_traits.specs.Counts.{counts}
 use Rattle.vehicle_core.specs.Acts.{Act}
-use Rattle.vehicle_node.specs.Arming.{IsArmedOnce}
-use Rattle.vehicle_node.specs.Reading.{Reads}
+use Rattle.vehicle_runs.specs.Safe.{Safe, SafeSince, Adds}
+use Rattle.vehicle_runs.specs.Arming.{IsArmedOnce}
+use Rattle.vehicle_runs.specs.Reading.{Reads}
+use Rattle.vehicle_runs.specs.Runs.{Run, run_of}
 use Rattle.vehicle_node.specs.Standing.{Node, StandsForRun, StaysWithin, armed_in}
 use Rattle.storage_cli.specs.declared.stop.Served.{Served}
 use Rattle.storage_cli.specs.declared.stop.Stop.{Stop}
 use Rattle.storage_cli.specs.declared.stop.Stop.TheVariants as stop
 use Rattle.session_boards.specs.Session.{HasNoEnd, EndsOnce}
-use Rattle.vehicle_node.specs.Runs.{Run, run_of}
 use Rattle.replay.specs.Histories.{IsWholeRun}
 use Rattle.storage_cli.specs.Serving.{is_armed_after_events, EventsUnworn, ServeUnworn}
 

@@ -1,5 +1,6 @@
 -- How a replay ends, as the program keeps it.
 use Rattle.std.specs.Prelude.{◌≡◌, ℕ, List, ◌++◌, Result, Ok, Err}
+use Rattle.flash_traits.specs.Counts.{raised}
 use Rattle.flash_traits.specs.Words.{Words}
 use Rattle.flash_traits.specs.Causes.{Rose}
 use Rattle.replay.specs.Breaks.{OnForeign, OnInput}
@@ -31,6 +32,30 @@ OnWhole replayed.Prefix P = Unit {0}
 abbrev pub OnPrefix : Replayed → Type 0 → Type 0
 OnPrefix (replayed.Whole digest) P = Unit {0}
 OnPrefix replayed.Prefix P = P
+
+-- how often the source has failed behind a stop: once more where it says so
+abbrev pub input_at : Stop → ℕ → ℕ
+input_at stop.Words before = before
+input_at stop.Memory before = before
+input_at (stop.Foreign foreign) before = before
+input_at stop.Read before = before
+input_at stop.Flash before = before
+input_at stop.Link before = before
+input_at stop.Worn before = before
+input_at (stop.Turns turns) before = before
+input_at stop.Attach before = before
+input_at stop.Input before = raised before
+input_at (stop.Script line) before = before
+
+-- the same behind a replay, and how often the sink has failed
+abbrev pub input_after : Result Replayed Stop → ℕ → ℕ
+input_after (Ok replayed) before = before
+input_after (Err why) before = input_at why before
+
+abbrev pub output_after : Result Replayed Stop → ℕ → ℕ
+output_after (Ok (replayed.Whole digest)) before = before
+output_after (Ok replayed.Prefix) before = raised before
+output_after (Err why) before = before
 
 -- a text was printed of lines of the script
 pub record HasPart (budget : ℕ) (before : Words) (rest_before rest_now : List ℕ)

@@ -1,7 +1,7 @@
 -- Why a command stops, as the program keeps it: its status, its line and its cause.
-use Rattle.std.specs.Prelude.{◌≡◌, ◌⊎◌, ◌≤◌, ℕ, List, Result, Ok, Err}
+use Rattle.std.specs.Prelude.{◌≡◌, ◌⊎◌, ℕ, List, Result, Ok, Err}
 use Rattle.flash_traits.specs.Words.{Words}
-use Rattle.flash_traits.specs.Causes.{Rose}
+use Rattle.flash_traits.specs.Causes.{raised_at}
 use Rattle.flash_traits.specs.declared.board.Fault.{Fault}
 use Rattle.flash_traits.specs.declared.board.Fault.TheVariants as fault
 use Rattle.sector_image.specs.FirstBad.{FirstBad, foreign_place}
@@ -65,20 +65,26 @@ stop_of_survey (survey.Fault kind) = stop_of_fault kind
 stop_of_survey (survey.Foreign region offset word) =
     stop.Foreign (record { region = region; offset = offset; word = word })
 
--- the fault of the board that a stop tells has its cause
+-- The counts of the board's faults where a command stops: that of the fault which the stop tells is
+-- one higher, and no other changes.
 abbrev pub IsCausedBy : Stop → (Fault → ℕ) → (Fault → ℕ) → Type 0
-IsCausedBy stop.Read before now = Rose (before fault.Read) (now fault.Read)
-IsCausedBy stop.Flash before now = Rose (before fault.Flash) (now fault.Flash)
-IsCausedBy stop.Link before now = Rose (before fault.Recv) (now fault.Recv)
-    ⊎ Rose (before fault.Send) (now fault.Send)
-IsCausedBy stop.Attach before now = Rose (before fault.Attach) (now fault.Attach)
-IsCausedBy _ before now = Unit {0}
+IsCausedBy stop.Words before now = now ≡ before
+IsCausedBy stop.Memory before now = now ≡ before
+IsCausedBy (stop.Foreign foreign) before now = now ≡ before
+IsCausedBy stop.Read before now = now ≡ raised_at fault.Read before
+IsCausedBy stop.Flash before now = now ≡ raised_at fault.Flash before
+IsCausedBy stop.Link before now = (now ≡ raised_at fault.Recv before)
+    ⊎ (now ≡ raised_at fault.Send before)
+IsCausedBy stop.Worn before now = now ≡ before
+IsCausedBy (stop.Turns turns) before now = now ≡ before
+IsCausedBy stop.Attach before now = now ≡ raised_at fault.Attach before
+IsCausedBy stop.Input before now = now ≡ before
+IsCausedBy (stop.Script line) before now = now ≡ before
 
--- no count falls, and a stop has its cause
-pub record StopsByCause {T : Type 0} (before now : Fault → ℕ) (result : Result T Stop)
-    : Type 0 where
-  pub later : (k : Fault) → before k ≤ now k
-  pub cause : (why : Stop) → result ≡ Err why → IsCausedBy why before now
+-- and where it doesn't stop, none changes
+abbrev pub StopsByCause : {T : Type 0} → (Fault → ℕ) → (Fault → ℕ) → Result T Stop → Type 0
+StopsByCause before now (Ok did) = now ≡ before
+StopsByCause before now (Err why) = IsCausedBy why before now
 
 -- a foreign halfword is the first one
 abbrev pub IsFirst : Words → Stop → Type 0

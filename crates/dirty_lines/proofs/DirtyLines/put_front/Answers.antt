@@ -70,7 +70,7 @@ returns-clause-put g c =
       omega (arith, count, next.longest.some),
       subst (λ (l : Lines). HasPutEntries g.B.Board c.args.armed (entry ∷ []) l (lines_of c.put.new.self c.truncate_front.new.self.items) c.args.board.now c.put.new.board) c.self.view_is
           (one_put g.B.Board g.met.B.Board.reads c.args.armed entry next.behind items c.truncate_front.new.self.items store c.put.new.self fits next.whole next.longest rest
-          put.fits put.put put.alone put.guard put.ahead put.free put.spare put.stays put.spills (λ voids guard. put.used_up voids guard) put.copied (λ is spilled exceeds. (put.too_large is spilled exceeds).1) put.changes put.erases put.erases_once c.put.ensures.counts),
+          put.fits put.put put.alone put.guard put.ahead put.free put.spare put.stays put.spills (λ voids guard. put.used_up voids guard) put.copied (λ is spilled exceeds. (put.too_large is spilled exceeds).1) put.changes put.erases put.erases_once put.counts),
     )
 
 pub returns-clause-taken : goal.returns-clause-taken

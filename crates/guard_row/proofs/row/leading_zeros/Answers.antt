@@ -11,6 +11,7 @@ loop-at-preserved g c =
     λ told. c.in_ok-word.ensures.word told ∙ ap (λ (w : Words). slice_index w.guard c.loop-at.at) (c.loop-at.invariant.reads.changes.content (c.read_halfword.ensures.reads.changes.told told)) in
     record {
       reads = reads_then g.B.Board g.met.B.Board.reads c.loop-at.invariant.reads c.read_halfword.ensures.reads;
+      counts = c.in_ok-word.ensures.fails.cause ∙ c.loop-at.invariant.counts;
       zeros = λ told k lt. elim (cases_eq k c.loop-at.at) [
         | inl is ↦ ap (λ (n : ℕ). slice_index (g.B.Board.words c.args.board.now).guard n) is ∙ sym (read_word told) ∙ (omega (arith, c.if-word-ne0.false))
         | inr other ↦ c.loop-at.invariant.zeros (c.read_halfword.ensures.reads.changes.told told) k (omega (arith, lt, other))

@@ -9,10 +9,10 @@ returns-in-Some-clause-writes c = clears_one c.args.current.now c.args.types c.i
 
 pub returns-in-None-clause-writes : goal.returns-in-None-clause-writes
 returns-in-None-clause-writes c =
-    clears_both c.args.current.now c.args.types c.clear-in-None.new.batch.items c.in-None.is (after_first c.args.current.now c.args.batch.now.items c.clear.new.batch.items c.clear-in-None.new.batch.items c.requires.batch c.clear.ensures.writes c.clear-in-None.ensures)
+    clears_both c.args.current.now c.args.types c.clear-in-None.new.batch.items c.in-None.is (after_first c.args.current.now c.args.batch.now.items c.clear.new.batch.items c.clear-in-None.new.batch.items c.requires.batch c.clear.ensures.writes c.clear-in-None.ensures.writes)
 
 pub returns-in-None-clause-safe : goal.returns-in-None-clause-safe
 returns-in-None-clause-safe c =
     let b = c.args.current.now in
     let small : IsBytes b = λ i. omega (arith, c.type_inv.current i) in
-    clear_both_safe b c.clear-in-None.new.batch.items c.requires.size small (after_first b c.args.batch.now.items c.clear.new.batch.items c.clear-in-None.new.batch.items c.requires.batch c.clear.ensures.writes c.clear-in-None.ensures)
+    clear_both_safe b c.clear-in-None.new.batch.items c.requires.size small (after_first b c.args.batch.now.items c.clear.new.batch.items c.clear-in-None.new.batch.items c.requires.batch c.clear.ensures.writes c.clear-in-None.ensures.writes)

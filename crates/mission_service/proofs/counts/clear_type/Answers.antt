@@ -16,4 +16,4 @@ pub returns-in-Fence-clause-safe : goal.returns-in-Fence-clause-safe
 returns-in-Fence-clause-safe c =
     let b = c.args.current.now in
     let small : IsBytes b = λ i. omega (arith, c.type_inv.current i) in
-    clear_fence_safe b c.clear-in-Fence.new.batch.items c.requires.size small (from_empty b clear_fence_writes c.args.batch.now.items c.clear-in-Fence.new.batch.items c.requires.batch c.clear-in-Fence.ensures)
+    clear_fence_safe b c.clear-in-Fence.new.batch.items c.requires.size small (from_empty b clear_fence_writes c.args.batch.now.items c.clear-in-Fence.new.batch.items c.requires.batch c.clear-in-Fence.ensures.writes)

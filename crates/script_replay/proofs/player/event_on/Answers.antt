@@ -1,20 +1,21 @@
-use Rattle.std.proofs.Common.{◌≡◌, ℕ, false, List, [], Option, Some, Result, IfOk, IfErr, sym, ◌∙◌, ap, subst}
+use Rattle.std.proofs.Common.{◌⊎◌, ◌≡◌, ℕ, false, List, [], Option, Some, Result, IfOk, IfErr, sym, ◌∙◌, ap, subst}
+use Rattle.flash_traits.specs.declared.board.Fault.{Fault}
+use Rattle.flash_traits.specs.declared.board.Fault.TheVariants.{Read, Flash, Recv, Send}
 use Rattle.flash_traits.specs.Budget.{budget_of}
-use Rattle.flash_traits.specs.Causes.{Rose}
-use Rattle.replay.specs.Breaks.{OnStopped, OnRefused, OnInput}
+use Rattle.replay.specs.Breaks.{OnStopped, OnRefused, after_break, input_counted, output_counted}
 use Rattle.replay.specs.Playing.{GoesOn}
 use Rattle.replay.specs.declared.Break.{Break}
 use Rattle.script_replay.specs.Held.{HasLists}
 use Rattle.script_board.specs.declared.board.ScriptMark.{ScriptMark}
 use Rattle.script_replay.specs.Steps.Answers.{ended}
-use Rattle.script_replay.specs.Steps.Places.{Plays, RefusesAt, Returns, input_faults_at}
+use Rattle.script_replay.specs.Steps.Places.{Plays, RefusesAt, Returns, input_faults_at, output_faults_at}
 use Rattle.script_replay.proofs.Boards.{listed}
 use Rattle.script_replay.proofs.Played.{event_within, event_end, goes_same, wears_heard}
 use Rattle.script_replay.proofs.Uses.{CameBy}
 use Rattle.flash_traits.specs.Losses.{Received, SentFrame}
 use Rattle.vehicle_node.specs.declared.Turn.{Turn}
-use Rattle.script_replay.proofs.Ended.{on_refused, on_input}
-use Rattle.script_replay.proofs.Heard.{refused_so, input_so}
+use Rattle.script_replay.proofs.Ended.{no_fault, no_attach_of_four, on_refused, ended_input, ended_output}
+use Rattle.script_replay.proofs.Heard.{refused_so}
 use Rattle.script_replay.proofs.Returned.{returned}
 use Rattle.script_replay.proofs.player.event_on.Given as given
 use Rattle.script_replay.proofs.player.event_on.Goals as goal
@@ -67,13 +68,22 @@ returns-clause-refused g c =
     subst (λ p. IfErr c.ended.result (OnStopped (OnRefused (RefusesAt p)))) (sym c.put_back.ensures.back)
     (subst (λ (x : Result Turn Break). IfErr x (OnStopped (OnRefused (RefusesAt (Some b))))) (sym (is_ended g c))
     (on_refused (RefusesAt (Some b)) b.mark c.event-answer.result
-    (λ line is. refused_so c.event-answer.new.board.buffer b.mark _ _ _ _ _ l.lists.lines c.event-answer.new.board.heard _ line l.lists.hears is)))
+    (λ line is. refused_so c.event-answer.new.board.buffer b.mark _ _ _ _ _ _ l.lists.lines c.event-answer.new.board.heard _ line l.lists.hears is)))
 
-pub returns-clause-input : goal.returns-clause-input
-returns-clause-input g c =
-    let l = heard g c in
-    let b = c.event-answer.new.board.board in
-    subst (λ p. IfErr c.ended.result (OnStopped (OnInput (Rose g.N.Start.input_faults (input_faults_at p))))) (sym c.put_back.ensures.back)
-    (subst (λ (x : Result Turn Break). IfErr x (OnStopped (OnInput (Rose g.N.Start.input_faults (input_faults_at (Some b)))))) (sym (is_ended g c))
-    (on_input _ b.mark c.event-answer.result
-    (λ is. input_so c.event-answer.new.board.buffer b.mark _ _ _ _ _ l.lists.lines c.event-answer.new.board.heard _ l.lists.hears is)))
+pub returns-clause-input_counts : goal.returns-clause-input_counts
+returns-clause-input_counts g c =
+    ap input_faults_at c.put_back.ensures.back ∙ c.event-answer.new.board.input_counts ∙ ended_input c.event-answer.new.board.board.mark c.event-answer.result g.N.Start.input_faults
+    ∙ ap (λ (x : Result (Turn) Break). after_break input_counted x g.N.Start.input_faults) (sym (is_ended g c))
+
+pub returns-clause-output_counts : goal.returns-clause-output_counts
+returns-clause-output_counts g c =
+    ap output_faults_at c.put_back.ensures.back ∙ c.event-answer.new.board.output_counts ∙ ended_output c.event-answer.new.board.board.mark c.event-answer.result g.N.Start.output_faults
+    ∙ ap (λ (x : Result (Turn) Break). after_break output_counted x g.N.Start.output_faults) (sym (is_ended g c))
+
+pub ended-requires : goal.ended-requires
+ended-requires g c = record {
+  no_fault = λ none.
+      let held = c.event-answer.new.board in
+      no_fault (λ (kind : Fault). (kind ≡ Read) ⊎ ((kind ≡ Flash) ⊎ ((kind ≡ Recv) ⊎ (kind ≡ Send)))) no_attach_of_four held.attaches held.reads held.writes held.receptions held.sendings (held.on (sym c.put_back.ensures.mark ∙ none)) _
+      Turn c.event-answer.result c.event-answer.ensures.counts c.event-answer.ensures.fault;
+}

@@ -1,9 +1,10 @@
-use Rattle.std.proofs.Common.{◌≡◌, ◌≢◌, ℕ, false, [], Option, Some, Result, Err, IfErr, sym, ◌∙◌, ap, subst}
+use Rattle.std.proofs.Common.{◌⊎◌, ◌≡◌, ◌≢◌, ℕ, false, [], Option, Some, Result, Err, IfErr, sym, ◌∙◌, ap, subst}
+use Rattle.flash_traits.specs.declared.board.Fault.{Fault}
+use Rattle.flash_traits.specs.declared.board.Fault.TheVariants.{Read, Flash}
 use Rattle.flash_traits.specs.Budget.{budget_of}
 use Rattle.flash_traits.specs.Words.{Words}
-use Rattle.flash_traits.specs.Causes.{Rose}
 use Rattle.vehicle_node.specs.Standing.{Node}
-use Rattle.replay.specs.Breaks.{OnStopped, OnForeign, OnRefused, OnInput}
+use Rattle.replay.specs.Breaks.{OnStopped, OnForeign, OnRefused, after_break, input_counted, output_counted}
 use Rattle.sector_image.specs.FirstBad.{FirstBad}
 use Rattle.replay.specs.Playing.{OpenEnds, QuietUses}
 use Rattle.replay.specs.declared.Break.{Break}
@@ -13,9 +14,9 @@ use Rattle.script_board.specs.Boards.{words_in}
 use Rattle.script_board.specs.declared.board.ScriptMark.{ScriptMark}
 use Rattle.script_replay.specs.Held.{HasLists}
 use Rattle.script_replay.specs.Steps.Answers.{ended}
-use Rattle.script_replay.specs.Steps.Places.{Returns, Added, Printed, TellsWritten, words_at, waiting_at, input_faults_at}
-use Rattle.script_replay.proofs.Ended.{no_output, quiet_uses, on_foreign, on_refused, on_input}
-use Rattle.script_replay.proofs.Heard.{waits_refused, waits_input}
+use Rattle.script_replay.specs.Steps.Places.{Returns, Added, Printed, TellsWritten, words_at, waiting_at, input_faults_at, output_faults_at}
+use Rattle.script_replay.proofs.Ended.{no_fault, no_attach, no_output, quiet_uses, on_foreign, on_refused, ended_input, ended_output}
+use Rattle.script_replay.proofs.Heard.{waits_refused}
 use Rattle.script_replay.proofs.Returned.{returned, opened, open_end, quiet_within, quiet_so, quiet_added}
 use Rattle.script_replay.proofs.player.open_on.Given as given
 use Rattle.script_replay.proofs.player.open_on.Goals as goal
@@ -70,7 +71,20 @@ returns-clause-refused g c = subst (λ (x : Result Node Break). IfErr x (OnStopp
     (on_refused (λ line. ⊥) c.open-answer.new.board.board.mark c.open-answer.result
     (λ line is. waits_refused c.open-answer.new.board.board.mark line _ _ is (quiet_so g.N.Start c.open-answer.new.board (lists g c).1 c.requires.no_room).1))
 
-pub returns-clause-input : goal.returns-clause-input
-returns-clause-input g c = subst (λ (x : Result Node Break). IfErr x (OnStopped (OnInput (Rose g.N.Start.input_faults (input_faults_at c.put_back.new.place))))) (sym (is_ended g c))
-    (on_input _ c.open-answer.new.board.board.mark c.open-answer.result
-    (λ is. absurd (waits_input c.open-answer.new.board.board.mark _ _ is (quiet_so g.N.Start c.open-answer.new.board (lists g c).1 c.requires.no_room).1)))
+pub returns-clause-input_counts : goal.returns-clause-input_counts
+returns-clause-input_counts g c =
+    ap input_faults_at c.put_back.ensures.back ∙ c.open-answer.new.board.input_counts ∙ ended_input c.open-answer.new.board.board.mark c.open-answer.result g.N.Start.input_faults
+    ∙ ap (λ (x : Result (Node) Break). after_break input_counted x g.N.Start.input_faults) (sym (is_ended g c))
+
+pub returns-clause-output_counts : goal.returns-clause-output_counts
+returns-clause-output_counts g c =
+    ap output_faults_at c.put_back.ensures.back ∙ c.open-answer.new.board.output_counts ∙ ended_output c.open-answer.new.board.board.mark c.open-answer.result g.N.Start.output_faults
+    ∙ ap (λ (x : Result (Node) Break). after_break output_counted x g.N.Start.output_faults) (sym (is_ended g c))
+
+pub ended-requires : goal.ended-requires
+ended-requires g c = record {
+  no_fault = λ none.
+      let held = c.open-answer.new.board in
+      no_fault (λ (kind : Fault). (kind ≡ Read) ⊎ (kind ≡ Flash)) no_attach held.attaches held.reads held.writes held.receptions held.sendings (held.on (sym c.put_back.ensures.mark ∙ none)) _
+      Node c.open-answer.result c.open-answer.ensures.counts c.open-answer.ensures.fault;
+}

@@ -14,7 +14,7 @@ returns-in_err-home-clause-calls g c = refuses_still g.B.Board g.met.B.Board.rea
     c.in_err-home.ensures.calls
 
 pub returns-in_err-other-clause-calls : goal.returns-in_err-other-clause-calls
-returns-in_err-other-clause-calls g c = refuses_then g.B.Board g.met.B.Board.reads c.from_residual-in_err-other.result c.in_err-other.field-0.0 c.from_residual-in_err-other.ensures.1 c.bytes_at.ensures.calls.reads
+returns-in_err-other-clause-calls g c = refuses_then g.B.Board g.met.B.Board.reads c.from_residual-in_err-other.result c.in_err-other.field-0.0 c.from_residual-in_err-other.ensures.1 c.bytes_at.ensures.calls.reads c.in_ok-home.ensures.calls.counts
     (λ place told bad.
     let W = g.B.Board.words c.args.board.now in
     let told_mid = c.bytes_at-2.ensures.calls.reads.changes.told told in

@@ -18,5 +18,5 @@ returns-in_err-guard-clause-fault g c =
 pub returns-clause-foreign : goal.returns-clause-foreign
 returns-clause-foreign g c =
     let counted : OnlyReads g.B.Board c.args.board.now c.count.new.board =
-    record { changes = c.count.ensures.changes; keeps_told = c.count.ensures.keeps_told; moment = c.count.ensures.moment; counts = c.count.ensures.counts } in
-    (surveys_after g.B.Board g.met.B.Board.reads c.survey_sectors-survey.result counted c.survey_sectors-survey.ensures.calls).foreign
+    record { changes = c.count.ensures.changes; keeps_told = c.count.ensures.keeps_told; moment = c.count.ensures.moment } in
+    (surveys_after g.B.Board g.met.B.Board.reads c.survey_sectors-survey.result counted c.in_ok-guard.ensures.counts c.survey_sectors-survey.ensures.calls).foreign

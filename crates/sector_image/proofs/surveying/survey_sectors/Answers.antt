@@ -13,7 +13,7 @@ survey_alone-requires-clause-heads g c = λ told.
     (subst (λ (w : Words). AreHeads w c.args.guard (mark_of c.in_ok-heads_of.field-0) (other_mark_of c.in_ok-heads_of.field-0)) (sym same) (c.in_ok-heads_of.ensures.heads told))
 
 pub returns-in-Alone-clause-calls : goal.returns-in-Alone-clause-calls
-returns-in-Alone-clause-calls g c = surveys_after g.B.Board g.met.B.Board.reads c.survey_alone.result c.heads_of.ensures.calls.reads c.survey_alone.ensures.calls
+returns-in-Alone-clause-calls g c = surveys_after g.B.Board g.met.B.Board.reads c.survey_alone.result c.heads_of.ensures.calls.reads c.in_ok-heads_of.ensures.calls.counts c.survey_alone.ensures.calls
 
 pub returns-in-Alone-clause-finds : goal.returns-in-Alone-clause-finds
 returns-in-Alone-clause-finds g c = finds_after g.B.Board g.met.B.Board.reads c.survey_alone.result c.heads_of.ensures.calls.reads c.survey_alone.ensures.calls.reads c.survey_alone.ensures.finds
@@ -25,7 +25,7 @@ survey_marked-requires-clause-heads g c = λ told.
     (subst (λ (w : Words). AreHeads w c.args.guard (mark_of c.in_ok-heads_of.field-0) (other_mark_of c.in_ok-heads_of.field-0)) (sym same) (c.in_ok-heads_of.ensures.heads told))
 
 pub returns-in-Marked-clause-calls : goal.returns-in-Marked-clause-calls
-returns-in-Marked-clause-calls g c = surveys_after g.B.Board g.met.B.Board.reads c.survey_marked.result c.heads_of.ensures.calls.reads c.survey_marked.ensures.calls
+returns-in-Marked-clause-calls g c = surveys_after g.B.Board g.met.B.Board.reads c.survey_marked.result c.heads_of.ensures.calls.reads c.in_ok-heads_of.ensures.calls.counts c.survey_marked.ensures.calls
 
 pub returns-in-Marked-clause-finds : goal.returns-in-Marked-clause-finds
 returns-in-Marked-clause-finds g c = finds_after g.B.Board g.met.B.Board.reads c.survey_marked.result c.heads_of.ensures.calls.reads c.survey_marked.ensures.calls.reads c.survey_marked.ensures.finds
@@ -37,7 +37,7 @@ survey_spilled-requires-clause-heads g c = λ told.
     (subst (λ (w : Words). AreHeads w c.args.guard (mark_of c.in_ok-heads_of.field-0) (other_mark_of c.in_ok-heads_of.field-0)) (sym same) (c.in_ok-heads_of.ensures.heads told))
 
 pub returns-in-Spilled-clause-calls : goal.returns-in-Spilled-clause-calls
-returns-in-Spilled-clause-calls g c = surveys_after g.B.Board g.met.B.Board.reads c.survey_spilled.result c.heads_of.ensures.calls.reads c.survey_spilled.ensures.calls
+returns-in-Spilled-clause-calls g c = surveys_after g.B.Board g.met.B.Board.reads c.survey_spilled.result c.heads_of.ensures.calls.reads c.in_ok-heads_of.ensures.calls.counts c.survey_spilled.ensures.calls
 
 pub returns-in-Spilled-clause-finds : goal.returns-in-Spilled-clause-finds
 returns-in-Spilled-clause-finds g c = finds_after g.B.Board g.met.B.Board.reads c.survey_spilled.result c.heads_of.ensures.calls.reads c.survey_spilled.ensures.calls.reads c.survey_spilled.ensures.finds

@@ -20,7 +20,7 @@ use Rattle.sector_image.proofs.surveying.survey_spilled.Goals as goal
 
 -- the log was read before, so it can't fail now
 pub returns-in_err-log_at-clause-calls : goal.returns-in_err-log_at-clause-calls
-returns-in_err-log_at-clause-calls g c = refuses_then g.B.Board g.met.B.Board.reads c.from_residual-in_err-log_at.result c.in_err-log_at.field-0.0 c.from_residual-in_err-log_at.ensures.1 c.logs_of.ensures.calls.reads
+returns-in_err-log_at-clause-calls g c = refuses_then g.B.Board g.met.B.Board.reads c.from_residual-in_err-log_at.result c.in_err-log_at.field-0.0 c.from_residual-in_err-log_at.ensures.1 c.logs_of.ensures.calls.reads c.in_ok-logs.ensures.calls.counts
     (λ place told bad.
     let W = g.B.Board.words c.args.board.now in
     let told1 = c.log_at.ensures.calls.reads.changes.told told in
@@ -56,6 +56,7 @@ returns-then-left-logs-clause-calls g c = record {
       (no_room W c.args.guard c.in_ok-logs.logs.home c.in_ok-logs.logs.other c.in_ok-completable.completable c.logs_of.new.whole c.logs_of.new.upper c.log_at.new.into logs value known
       (omega (arith, c.if-left-logs.true, left, long, c.geometry-sector_bytes.ensures, geometry)));
   fault = tt;
+  counts = c.in_ok-completable.ensures.fails.cause ∙ c.in_ok-log_at.ensures.calls.counts ∙ c.in_ok-logs.ensures.calls.counts;
 }
 
 pub returns-clause-finds : goal.returns-clause-finds

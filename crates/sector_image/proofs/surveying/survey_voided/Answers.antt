@@ -17,7 +17,7 @@ returns-in_err-head_at-clause-calls g c = refuses_still g.B.Board g.met.B.Board.
     c.in_err-head_at.ensures.calls
 
 pub returns-in_err-home-clause-calls : goal.returns-in_err-home-clause-calls
-returns-in_err-home-clause-calls g c = refuses_then g.B.Board g.met.B.Board.reads c.from_residual-in_err-home.result c.in_err-home.field-0.0 c.from_residual-in_err-home.ensures.1 c.head_at.ensures.calls.reads
+returns-in_err-home-clause-calls g c = refuses_then g.B.Board g.met.B.Board.reads c.from_residual-in_err-home.result c.in_err-home.field-0.0 c.from_residual-in_err-home.ensures.1 c.head_at.ensures.calls.reads c.in_ok-head_at.ensures.calls.counts
     (λ place told bad.
     let W = g.B.Board.words c.args.board.now in
     let region = c.first_sector-region.result in

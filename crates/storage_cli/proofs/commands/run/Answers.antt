@@ -1,9 +1,10 @@
-use Rattle.std.proofs.Common.{◌≡◌, ◌∙◌, ℕ, sym, subst, refl, inr, Option, Some}
+use Rattle.std.proofs.Common.{◌≡◌, ◌∙◌, ℕ, sym, subst, refl, inl, inr, Option, Some}
 use Rattle.command_line.specs.Commands.{command_line_of}
 use Rattle.command_line.specs.Lines.{CommandLine, gen, line_of_words}
 use Rattle.command_line.specs.declared.Command.TheVariants as command
 use Rattle.storage_cli.specs.Sessions.{PrintsSession, WearsOut}
 use Rattle.storage_cli.specs.Statuses.{texts, Prints}
+use Rattle.storage_cli.proofs.Outcomes.{board_same}
 use Rattle.storage_cli.proofs.TextEndings.{cut_short_of, line_given}
 use Rattle.storage_cli.proofs.commands.run.Goals as goal
 
@@ -77,3 +78,24 @@ returns-in-Ok-Some-Replay-clause-cut_short g c = λ failed told_out.
     let ran = c.run_replay in
     cut_short_of line (Some (command_line_of (command.Replay a.image))) (g.B.Board.tells ran.new.board) (g.B.Board.words c.args.board.now) (g.K.Sink.written c.args.out.now) (g.K.Sink.written ran.new.out)
     (line_given line a.field-0 a.field-0-0 (command.Replay a.image) a.ensures.value a.field-0-is a.field-0-0-is) (inr (ran.ensures.cut_short failed told_out))
+
+pub returns-in-Ok-Some-Serve-clause-told_faults : goal.returns-in-Ok-Some-Serve-clause-told_faults
+returns-in-Ok-Some-Serve-clause-told_faults g c = record { board = c.run_serve.ensures.ends.told; input = inl refl; output = c.run_serve.ensures.ends.printed }
+
+pub returns-in-Ok-Some-Format-clause-told_faults : goal.returns-in-Ok-Some-Format-clause-told_faults
+returns-in-Ok-Some-Format-clause-told_faults g c = record { board = c.run_format.ensures.ends.told; input = inl refl; output = c.run_format.ensures.ends.printed }
+
+pub returns-in-Ok-Some-Dump-clause-told_faults : goal.returns-in-Ok-Some-Dump-clause-told_faults
+returns-in-Ok-Some-Dump-clause-told_faults g c = record { board = c.run_text.ensures.ends.told; input = inl refl; output = c.run_text.ensures.ends.printed }
+
+pub returns-in-Ok-Some-Report-clause-told_faults : goal.returns-in-Ok-Some-Report-clause-told_faults
+returns-in-Ok-Some-Report-clause-told_faults g c = record { board = c.run_text-in-Ok-Some-Report.ensures.ends.told; input = inl refl; output = c.run_text-in-Ok-Some-Report.ensures.ends.printed }
+
+pub returns-in-Ok-Some-Gen-clause-told_faults : goal.returns-in-Ok-Some-Gen-clause-told_faults
+returns-in-Ok-Some-Gen-clause-told_faults g c = record { board = board_same _ _ _ refl; input = inl refl; output = c.run_gen.ensures.counts }
+
+pub returns-in-Ok-None-clause-told_faults : goal.returns-in-Ok-None-clause-told_faults
+returns-in-Ok-None-clause-told_faults g c = record { board = board_same _ _ _ refl; input = inl refl; output = c.print_stop.ensures.counts }
+
+pub returns-in-Err-clause-told_faults : goal.returns-in-Err-clause-told_faults
+returns-in-Err-clause-told_faults g c = record { board = board_same _ _ _ refl; input = inl refl; output = c.print_stop-in-Err.ensures.counts }

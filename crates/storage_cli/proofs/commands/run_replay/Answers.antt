@@ -1,11 +1,11 @@
-use Rattle.std.proofs.Common.{◌≡◌, ◌≢◌, ◌⊎◌, ◌∙◌, ap, subst, refl, inl, inr, arith, append_assoc, take, ℕ, List, ◌++◌, ⊎_elim}
+use Rattle.std.proofs.Common.{◌≡◌, ◌≢◌, ◌⊎◌, ◌∙◌, ap, subst, refl, inl, inr, arith, append_assoc, take, ℕ, List, ◌++◌, ⊎_elim, Ok}
 use Rattle.flash_traits.specs.Causes.{Rose}
 use Rattle.storage_cli.specs.declared.replaying.Replayed.{Replayed}
 use Rattle.storage_cli.specs.declared.replaying.Replayed.TheVariants as replayed
-use Rattle.storage_cli.specs.Steps.Replaying.{OnWhole, OnPrefix}
-use Rattle.storage_cli.proofs.Causes.{rose_later}
+use Rattle.storage_cli.specs.Steps.Replaying.{OnWhole, OnPrefix, output_after}
+use Rattle.storage_cli.specs.Statuses.{ToldOutput}
 use Rattle.storage_cli.proofs.Completeness.{none_named, replay_complete}
-use Rattle.storage_cli.proofs.Outcomes.{attached, faults_none, faults_stopped, not_done, stops_early}
+use Rattle.storage_cli.proofs.Outcomes.{attached, board_same, board_stopped, input_told, output_rose, faults_none, faults_stopped, not_done, stops_early}
 use Rattle.storage_cli.proofs.TextEndings.{never_0}
 use Rattle.storage_cli.proofs.ReplayLines.{replay_done, prints_nothing, untouched, prints_stop, names_first, stopped, memory_or_part, input_rose, replay_stopped}
 use Rattle.storage_cli.proofs.commands.run_replay.Goals as goal
@@ -19,8 +19,20 @@ returns-in-Ok-Whole-clause-faults g c = faults_none c.print.result.0 _ _ c.print
 pub returns-in-Ok-Whole-clause-input_fault : goal.returns-in-Ok-Whole-clause-input_fault
 returns-in-Ok-Whole-clause-input_fault g c = not_done c.print.result.0 9 c.print.ensures.status (λ z. omega (arith, z)) (λ z. omega (arith, z))
 
+pub returns-in-Ok-Whole-clause-told : goal.returns-in-Ok-Whole-clause-told
+returns-in-Ok-Whole-clause-told g c =
+    let a = c.in-Ok-Whole in
+    let before = g.K.Sink.faults c.args.out.now in
+    let mid = g.K.Sink.faults c.replay_on.new.out in
+    let same : mid ≡ before = subst (λ (r : Replayed). mid ≡ output_after (Ok r) before) a.field-0-is a.ensures.output_counts in
+    record {
+      board = board_same c.print.result.0 _ _ a.ensures.cause;
+      input = inl a.ensures.input_counts;
+      output = subst (λ (n : ℕ). ToldOutput c.print.result.0 n (g.K.Sink.faults c.print.new.out)) same c.print.ensures.counts;
+    }
+
 pub returns-in-Ok-Whole-clause-output : goal.returns-in-Ok-Whole-clause-output
-returns-in-Ok-Whole-clause-output g c = λ failed. rose_later _ _ _ c.replay_on.ensures.output_counts (c.print.ensures.output failed)
+returns-in-Ok-Whole-clause-output g c = output_rose c.print.result.0 _ _ (returns-in-Ok-Whole-clause-told g c).output
 
 pub returns-in-Ok-Whole-clause-lines : goal.returns-in-Ok-Whole-clause-lines
 returns-in-Ok-Whole-clause-lines g c = prints_nothing c.print.result.0 _ _ c.print.ensures.status
@@ -71,6 +83,17 @@ returns-in-Ok-Whole-clause-complete g c = λ nothing input tell b stands worn sc
     replay_complete c.print.result.0 _ _ _ _ nothing (returns-in-Ok-Whole-clause-output g c) (returns-in-Ok-Whole-clause-faults g c) (returns-in-Ok-Whole-clause-known g c)
     (not_done c.print.result.0 3 c.print.ensures.status (λ z. omega (arith, z)) (λ z. omega (arith, z))) worn (λ e. input (returns-in-Ok-Whole-clause-input_fault g c e)) script
 
+pub returns-in-Ok-Prefix-clause-told : goal.returns-in-Ok-Prefix-clause-told
+returns-in-Ok-Prefix-clause-told g c =
+    let a = c.in-Ok-Prefix in
+    let before = g.K.Sink.faults c.args.out.now in
+    let now = g.K.Sink.faults c.replay_on.new.out in
+    record {
+      board = board_same 10 _ _ a.ensures.cause;
+      input = inl a.ensures.input_counts;
+      output = inl (refl, subst (λ (r : Replayed). now ≡ output_after (Ok r) before) a.field-0-is a.ensures.output_counts);
+    }
+
 pub returns-in-Ok-Prefix-clause-output : goal.returns-in-Ok-Prefix-clause-output
 returns-in-Ok-Prefix-clause-output g c = λ failed.
     let P : Type 0 = Rose (g.K.Sink.faults c.args.out.now) (g.K.Sink.faults c.replay_on.new.out) in
@@ -85,15 +108,22 @@ returns-in-Err-clause-known g c =
     _ _ _ _ _ _ _ _ _ c.in-Err.ensures.stops
 
 pub returns-in-Err-clause-faults : goal.returns-in-Err-clause-faults
-returns-in-Err-clause-faults g c = faults_stopped c.print_stop.result.0 c.in-Err.stop c.print_stop.ensures.status _ _ (c.in-Err.ensures.cause.cause c.in-Err.stop refl)
+returns-in-Err-clause-faults g c = faults_stopped c.print_stop.result.0 c.in-Err.stop c.print_stop.ensures.status _ _ c.in-Err.ensures.cause
 
 pub returns-in-Err-clause-input_fault : goal.returns-in-Err-clause-input_fault
 returns-in-Err-clause-input_fault g c = λ e.
     input_rose g.K.Sink c.args.out.now c.replay_on.new.out c.print_stop.new.out c.print_stop.result.0 c.in-Err.stop c.print_stop.ensures.status c.print_stop.ensures.line c.print_stop.ensures.told c.replay_on.ensures.grows
     _ _ _ _ _ _ _ _ _ e c.in-Err.ensures.stops
 
+pub returns-in-Err-clause-told : goal.returns-in-Err-clause-told
+returns-in-Err-clause-told g c = record {
+  board = board_stopped c.print_stop.result.0 c.in-Err.stop c.print_stop.ensures.status _ _ c.in-Err.ensures.cause;
+  input = input_told c.print_stop.result.0 c.in-Err.stop c.print_stop.ensures.status _ _ c.in-Err.ensures.input_counts;
+  output = subst (λ (n : ℕ). ToldOutput c.print_stop.result.0 n (g.K.Sink.faults c.print_stop.new.out)) c.in-Err.ensures.output_counts c.print_stop.ensures.counts;
+}
+
 pub returns-in-Err-clause-output : goal.returns-in-Err-clause-output
-returns-in-Err-clause-output g c = λ failed. rose_later _ _ _ c.replay_on.ensures.output_counts (c.print_stop.ensures.output failed)
+returns-in-Err-clause-output g c = output_rose c.print_stop.result.0 _ _ (returns-in-Err-clause-told g c).output
 
 pub returns-in-Err-clause-lines : goal.returns-in-Err-clause-lines
 returns-in-Err-clause-lines g c =
@@ -125,7 +155,7 @@ returns-in-Err-clause-foreign_where g c = λ past told place bad.
 
 pub returns-in-Err-clause-same_words : goal.returns-in-Err-clause-same_words
 returns-in-Err-clause-same_words g c = λ past.
-    c.in-Err.ensures.same_words (attached Replayed c.print_stop.result.0 (g.B.Board.faults c.args.board.now) (g.B.Board.faults c.replay_on.new.board) c.in-Err.stop c.print_stop.ensures.status (c.in-Err.ensures.cause.cause c.in-Err.stop refl) past)
+    c.in-Err.ensures.same_words (attached Replayed c.print_stop.result.0 (g.B.Board.faults c.args.board.now) (g.B.Board.faults c.replay_on.new.board) c.in-Err.stop c.print_stop.ensures.status c.in-Err.ensures.cause past)
 
 pub returns-in-Err-clause-replayed : goal.returns-in-Err-clause-replayed
 returns-in-Err-clause-replayed g c = λ done. absurd (never_0 c.print_stop.result.0 c.in-Err.stop c.print_stop.ensures.status done)

@@ -3,7 +3,7 @@ use Rattle.flash_traits.specs.Budget.{budget_of}
 use Rattle.storage_cli.specs.declared.stop.Served.{Served}
 use Rattle.storage_cli.specs.Texts.{PrintedLine}
 use Rattle.storage_cli.specs.Texts as texts
-use Rattle.storage_cli.proofs.Outcomes.{attached, faults_none, faults_stopped, foreign_named, foreign_told, memory_told, not_done, prints_none, prints_stopped, serve_done, serve_stopped, stops_early, stops_worn, worn_told}
+use Rattle.storage_cli.proofs.Outcomes.{attached, board_same, board_stopped, faults_none, faults_stopped, foreign_named, foreign_told, memory_told, not_done, prints_none, prints_stopped, serve_done, serve_stopped, stops_early, stops_worn, worn_told}
 use Rattle.storage_cli.proofs.Completeness.{none_named, serve_complete}
 use Rattle.storage_cli.proofs.Done.{serves_done, serves_stopped, turns_printed}
 use Rattle.storage_cli.proofs.commands.run_serve.Goals as goal
@@ -15,6 +15,8 @@ pub returns-in-Ok-clause-ends : goal.returns-in-Ok-clause-ends
 returns-in-Ok-clause-ends g c = record {
   faults = faults_none c.print.result.0 (g.B.Board.faults c.args.board.now) (g.B.Board.faults c.serve.new.board) c.print.ensures.status;
   output = c.print.ensures.output;
+  told = board_same c.print.result.0 _ _ c.in-Ok.ensures.cause;
+  printed = c.print.ensures.counts;
   lines = prints_none c.print.result.0 _ c.print.ensures.status;
 }
 
@@ -52,8 +54,10 @@ returns-in-Err-clause-known g c = serve_stopped c.print_stop.result.0 c.in-Err.s
 
 pub returns-in-Err-clause-ends : goal.returns-in-Err-clause-ends
 returns-in-Err-clause-ends g c = record {
-  faults = faults_stopped c.print_stop.result.0 c.in-Err.stop c.print_stop.ensures.status (g.B.Board.faults c.args.board.now) (g.B.Board.faults c.serve.new.board) (c.in-Err.ensures.cause.cause c.in-Err.stop refl);
+  faults = faults_stopped c.print_stop.result.0 c.in-Err.stop c.print_stop.ensures.status (g.B.Board.faults c.args.board.now) (g.B.Board.faults c.serve.new.board) c.in-Err.ensures.cause;
   output = c.print_stop.ensures.output;
+  told = board_stopped c.print_stop.result.0 c.in-Err.stop c.print_stop.ensures.status _ _ c.in-Err.ensures.cause;
+  printed = c.print_stop.ensures.counts;
   lines = prints_stopped c.print_stop.result.0 c.in-Err.stop c.print_stop.ensures.status _ c.print_stop.ensures.line;
 }
 
@@ -83,14 +87,14 @@ returns-in-Err-clause-worn_where g c = λ past told used.
 
 pub returns-in-Err-clause-losses : goal.returns-in-Err-clause-losses
 returns-in-Err-clause-losses g c = λ past.
-    c.in-Err.ensures.losses (attached Served c.print_stop.result.0 (g.B.Board.faults c.args.board.now) (g.B.Board.faults c.serve.new.board) c.in-Err.stop c.print_stop.ensures.status (c.in-Err.ensures.cause.cause c.in-Err.stop refl) past)
+    c.in-Err.ensures.losses (attached Served c.print_stop.result.0 (g.B.Board.faults c.args.board.now) (g.B.Board.faults c.serve.new.board) c.in-Err.stop c.print_stop.ensures.status c.in-Err.ensures.cause past)
 
 pub returns-in-Ok-clause-left_alone : goal.returns-in-Ok-clause-left_alone
 returns-in-Ok-clause-left_alone g c = λ past. c.in-Ok.ensures.left_alone tt
 
 pub returns-in-Err-clause-left_alone : goal.returns-in-Err-clause-left_alone
 returns-in-Err-clause-left_alone g c = λ past.
-    c.in-Err.ensures.left_alone (attached Served c.print_stop.result.0 (g.B.Board.faults c.args.board.now) (g.B.Board.faults c.serve.new.board) c.in-Err.stop c.print_stop.ensures.status (c.in-Err.ensures.cause.cause c.in-Err.stop refl) past)
+    c.in-Err.ensures.left_alone (attached Served c.print_stop.result.0 (g.B.Board.faults c.args.board.now) (g.B.Board.faults c.serve.new.board) c.in-Err.stop c.print_stop.ensures.status c.in-Err.ensures.cause past)
 
 pub returns-in-Err-clause-serves : goal.returns-in-Err-clause-serves
 returns-in-Err-clause-serves g c = λ over.

@@ -15,6 +15,7 @@ loop-at-preserved g c =
     λ told. c.in_ok-word.ensures.word told ∙ ap (λ (w : Words). slice_index (halfwords_in w region) at) (c.loop-at.invariant.reads.changes.content (c.read_halfword.ensures.reads.changes.told told)) in
     record {
       reads = reads_then g.B.Board g.met.B.Board.reads c.loop-at.invariant.reads c.read_halfword.ensures.reads;
+      counts = c.in_ok-word.ensures.fails.cause ∙ c.loop-at.invariant.counts;
       copied = λ told k lt. elim (cases_eq k at) [
         | inl is ↦ ap (λ (n : ℕ). halfword_at c.put.new.bytes (c.args.start + 2 * n)) is ∙ c.put.ensures.word ∙ word told ∙ ap (λ (n : ℕ). slice_index (halfwords_in (g.B.Board.words c.args.board.now) region) n) (sym is)
         | inr other ↦ earlier_stays c.put.new.bytes c.loop-at.bytes at k c.args.start (omega (arith, lt, other)) c.put.ensures.before

@@ -22,7 +22,7 @@ returns-in_err-served-clause-stops g c =
     let e = c.in_err-served.ensures in
     let few : g.N.Session.rounds ≤ 1000 = omega (arith, c.requires.range, c.requires.session) in
     on_stop c.from_residual-in_err-served.result why c.from_residual-in_err-served.ensures.1 IsSessionStop
-    (session_stop why no_faults no_faults _ fresh_storage e.stops (λ k. refl) (e.cause.cause why refl) c.one_of_both.ensures
+    (session_stop why no_faults no_faults _ fresh_storage e.stops (λ k. refl) e.cause c.one_of_both.ensures
     (subst (λ (w : Words). Stands w fresh_storage) (sym c.in_ok-board.ensures.words) fresh_stands) (e.foreign tt)
     (not_over _ _ g.N.Session.rounds _ _ why e.completes c.session_ends.ensures few c.tells_session.ensures.events))
 
@@ -30,7 +30,7 @@ pub unreachable-requires : goal.unreachable-requires
 unreachable-requires g c =
     let done = c.in_ok-served.ensures.completes tt in
     let stood = subst (λ (w : Words). Stands w fresh_storage) (sym c.in_ok-board.ensures.words) fresh_stands in
-    survey_answers c.in_default.field-0 _ _ c.one_of_both.ensures (done.whole tt fresh_storage stood).whole.all_lines c.in_default.ensures.foreign c.in_default.ensures.fault
+    survey_answers c.in_default.field-0 _ _ c.one_of_both.ensures (done.whole tt fresh_storage stood).whole.all_lines c.in_default.ensures.foreign c.in_default.ensures.counts
 
 pub returns-clause-summary : goal.returns-clause-summary
 returns-clause-summary g c =

@@ -16,14 +16,14 @@ returns-in_err-survey-clause-foreign g c = λ told.
 pub returns-in_err-survey-clause-stops : goal.returns-in_err-survey-clause-stops
 returns-in_err-survey-clause-stops g c =
     let e = c.in_err-survey.field-0.0 in
-    on_stop c.from_residual.result (stop_of_survey e) c.from_residual.ensures.1 IsReadStop (survey_stop e _ c.in_err-survey.ensures.fault)
+    on_stop c.from_residual.result (stop_of_survey e) c.from_residual.ensures.1 IsReadStop (survey_stop e c.in_err-survey.ensures.fault)
 
 pub returns-in_err-survey-clause-cause : goal.returns-in_err-survey-clause-cause
 returns-in_err-survey-clause-cause g c =
     let e = c.in_err-survey.field-0.0 in
     let before = g.B.Board.faults c.args.board.now in
     let now = g.B.Board.faults c.survey.new.board in
-    caused c.from_residual.result (stop_of_survey e) c.from_residual.ensures.1 before now c.survey.ensures.reads.counts (survey_cause e before now c.in_err-survey.ensures.fault)
+    caused c.from_residual.result (stop_of_survey e) c.from_residual.ensures.1 before now (survey_cause e before now c.in_err-survey.ensures.counts)
 
 pub returns-in_err-copy_image-clause-foreign : goal.returns-in_err-copy_image-clause-foreign
 returns-in_err-copy_image-clause-foreign g c = λ told.
@@ -42,9 +42,8 @@ returns-in_err-copy_image-clause-cause g c =
     let before = g.B.Board.faults c.args.board.now in
     let mid = g.B.Board.faults c.survey.new.board in
     let now = g.B.Board.faults c.copy_image.new.board in
-    let reads = reads_then g.B.Board g.met.B.Board.reads c.survey.ensures.reads c.copy_image.ensures.reads in
-    caused c.from_residual-in_err-copy_image.result (stop_of_fault e) c.from_residual-in_err-copy_image.ensures.1 before now reads.counts
-    (cause_later (stop_of_fault e) before mid now c.survey.ensures.reads.counts (read_cause e mid now c.in_err-copy_image.ensures.fails.kind c.in_err-copy_image.ensures.fails.cause.failed))
+    caused c.from_residual-in_err-copy_image.result (stop_of_fault e) c.from_residual-in_err-copy_image.ensures.1 before now
+    (cause_later (stop_of_fault e) before mid now c.in_ok-survey.ensures.counts (read_cause e mid now c.in_err-copy_image.ensures.fails.kind c.in_err-copy_image.ensures.fails.cause))
 
 pub returns-in_err-copy_image-clause-reads : goal.returns-in_err-copy_image-clause-reads
 returns-in_err-copy_image-clause-reads g c = reads_then g.B.Board g.met.B.Board.reads c.survey.ensures.reads c.copy_image.ensures.reads

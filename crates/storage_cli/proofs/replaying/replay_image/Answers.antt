@@ -8,8 +8,9 @@ use Rattle.storage_cli.specs.Replays.{AllTell}
 use Rattle.storage_cli.specs.declared.stop.Stop.TheVariants as stop
 use Rattle.storage_cli.specs.declared.replaying.Replayed.{Replayed}
 use Rattle.storage_cli.specs.Steps.Stops.{StopsEarly}
+use Rattle.storage_cli.specs.Steps.Replaying.{input_after, output_after}
 use Rattle.storage_cli.proofs.Causes.{on_stop, on_result, caused, never_both}
-use Rattle.storage_cli.proofs.ReplayStops.{early_read, read_early, never_whole, output_failed, ending_causes, stops_inside, foreign_map}
+use Rattle.storage_cli.proofs.ReplayStops.{early_read, read_early, read_input, input_ends, output_ends, never_whole, output_failed, ending_causes, stops_inside, foreign_map}
 use Rattle.storage_cli.proofs.ReplayRuns.{whole_run, part_run, no_foreign}
 use Rattle.storage_cli.proofs.replaying.replay_image.Goals as goal
 
@@ -42,8 +43,7 @@ returns-in_err-read_image-clause-foreign_where g c = λ told place bad.
 pub returns-in_err-read_image-clause-cause : goal.returns-in_err-read_image-clause-cause
 returns-in_err-read_image-clause-cause g c =
     let why = c.in_err-read_image.field-0.0 in
-    let cause = c.in_err-read_image.ensures.cause in
-    caused c.from_residual-in_err-read_image.result why c.from_residual-in_err-read_image.ensures.1 _ _ cause.later (cause.cause why refl)
+    caused c.from_residual-in_err-read_image.result why c.from_residual-in_err-read_image.ensures.1 _ _ c.in_err-read_image.ensures.cause
 
 pub geometry-sector_bytes-requires : goal.geometry-sector_bytes-requires
 geometry-sector_bytes-requires g c = subst IsSectorSize (sym c.read_image.ensures.reads.changes.geometry) c.requires.attached
@@ -55,7 +55,7 @@ pub returns-in-Ok-clause-foreign_where : goal.returns-in-Ok-clause-foreign_where
 returns-in-Ok-clause-foreign_where g c = λ told place bad. absurd (never_both (g.B.Board.words c.args.board.now) place (c.in_ok-read_image.ensures.stands told) bad)
 
 pub returns-in-Ok-clause-cause : goal.returns-in-Ok-clause-cause
-returns-in-Ok-clause-cause g c = record { later = c.read_image.ensures.reads.counts; cause = λ why is. absurd (cc) }
+returns-in-Ok-clause-cause g c = c.in_ok-read_image.ensures.cause
 
 pub returns-in-Ok-clause-whole : goal.returns-in-Ok-clause-whole
 returns-in-Ok-clause-whole g c = λ tell.
@@ -72,7 +72,7 @@ pub returns-clause-foreign_where : goal.returns-clause-foreign_where
 returns-clause-foreign_where g c = λ told place bad. absurd (never_both (g.B.Board.words c.args.board.now) place (c.in_ok-read_image.ensures.stands told) bad)
 
 pub returns-clause-cause : goal.returns-clause-cause
-returns-clause-cause g c = ending_causes c.in-Err.why c.ending_of.result c.ending_of.ensures _ _ c.read_image.ensures.reads.counts
+returns-clause-cause g c = ending_causes c.in-Err.why c.ending_of.result c.ending_of.ensures _ _ c.in_ok-read_image.ensures.cause
 
 pub returns-clause-whole : goal.returns-clause-whole
 returns-clause-whole g c = never_whole c.in-Err.why c.ending_of.result c.ending_of.ensures _
@@ -100,3 +100,47 @@ returns-clause-stops g c =
     (foreign_map c.in-Err.why (λ place. g.S.Source.tells_rest c.replay_script.new.input → g.K.Sink.tells_written c.replay_script.new.out → (b : List ℕ) → Stands (words_of sector_bytes copy) b → ⊥) (tell → ⊥)
     (λ place never t. no_foreign told w copy size sector_bytes c.geometry-sector_bytes.ensures copied c.in_ok-read_image.ensures.stands rest_before rest_now written_before written_now t.0 (never t.1 t.2)) c.in-Err.ensures.foreign)
     c.in-Err.ensures.input told
+
+pub returns-in_err-images-clause-input_counts : goal.returns-in_err-images-clause-input_counts
+returns-in_err-images-clause-input_counts g c =
+    let n = g.S.Source.faults c.args.input.now in
+    on_result c.from_residual.result stop.Memory c.from_residual.ensures.1 (λ r. n ≡ input_after r n) refl
+
+pub returns-in_err-images-clause-output_counts : goal.returns-in_err-images-clause-output_counts
+returns-in_err-images-clause-output_counts g c =
+    let n = g.K.Sink.faults c.args.out.now in
+    on_result c.from_residual.result stop.Memory c.from_residual.ensures.1 (λ r. n ≡ output_after r n) refl
+
+pub returns-in_err-copy-clause-input_counts : goal.returns-in_err-copy-clause-input_counts
+returns-in_err-copy-clause-input_counts g c =
+    let n = g.S.Source.faults c.args.input.now in
+    on_result c.from_residual-in_err-copy.result stop.Memory c.from_residual-in_err-copy.ensures.1 (λ r. n ≡ input_after r n) refl
+
+pub returns-in_err-copy-clause-output_counts : goal.returns-in_err-copy-clause-output_counts
+returns-in_err-copy-clause-output_counts g c =
+    let n = g.K.Sink.faults c.args.out.now in
+    on_result c.from_residual-in_err-copy.result stop.Memory c.from_residual-in_err-copy.ensures.1 (λ r. n ≡ output_after r n) refl
+
+pub returns-in_err-images-clause-cause : goal.returns-in_err-images-clause-cause
+returns-in_err-images-clause-cause g c = caused c.from_residual.result stop.Memory c.from_residual.ensures.1 _ _ refl
+
+pub returns-in_err-copy-clause-cause : goal.returns-in_err-copy-clause-cause
+returns-in_err-copy-clause-cause g c = caused c.from_residual-in_err-copy.result stop.Memory c.from_residual-in_err-copy.ensures.1 _ _ refl
+
+pub returns-in_err-read_image-clause-input_counts : goal.returns-in_err-read_image-clause-input_counts
+returns-in_err-read_image-clause-input_counts g c =
+    let n = g.S.Source.faults c.args.input.now in
+    let why = c.in_err-read_image.field-0.0 in
+    on_result c.from_residual-in_err-read_image.result why c.from_residual-in_err-read_image.ensures.1 (λ r. n ≡ input_after r n) (read_input why n c.in_err-read_image.ensures.stops)
+
+pub returns-in_err-read_image-clause-output_counts : goal.returns-in_err-read_image-clause-output_counts
+returns-in_err-read_image-clause-output_counts g c =
+    let n = g.K.Sink.faults c.args.out.now in
+    let why = c.in_err-read_image.field-0.0 in
+    on_result c.from_residual-in_err-read_image.result why c.from_residual-in_err-read_image.ensures.1 (λ r. n ≡ output_after r n) refl
+
+pub returns-clause-input_counts : goal.returns-clause-input_counts
+returns-clause-input_counts g c = input_ends c.in-Err.why c.ending_of.result c.ending_of.ensures _ _ c.in-Err.ensures.input_counts
+
+pub returns-clause-output_counts : goal.returns-clause-output_counts
+returns-clause-output_counts g c = output_ends c.in-Err.why c.ending_of.result c.ending_of.ensures _ _ c.in-Err.ensures.output_counts

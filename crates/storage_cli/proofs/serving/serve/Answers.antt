@@ -1,5 +1,7 @@
-use Rattle.std.proofs.Common.{◌∙◌, ap, sym, subst, ℕ, []}
+use Rattle.std.proofs.Common.{◌≡◌, ◌∙◌, ap, sym, subst, ℕ, []}
 use Rattle.std.specs.Prelude.{⊤}
+use Rattle.flash_traits.specs.declared.board.Fault.{Fault}
+use Rattle.flash_traits.specs.declared.board.Fault.TheVariants.{Attach}
 use Rattle.flash_traits.specs.Budget.{budget_of}
 use Rattle.flash_traits.specs.Words.{Words, HasShape}
 use Rattle.sector_image.specs.FirstBad.{FirstBad}
@@ -7,8 +9,9 @@ use Rattle.sector_image.specs.Stands.{Stands}
 use Rattle.storage_cli.specs.Serving.{HasToVoid}
 use Rattle.storage_cli.specs.Steps.Guard.{WearsFrom}
 use Rattle.storage_cli.specs.Steps.Progress.{IsSafeRun, CompletesServe}
+use Rattle.storage_cli.specs.Steps.Stops.{StopsByCause}
 use Rattle.storage_cli.proofs.Causes.{void_from, worn_in, foreign_in}
-use Rattle.storage_cli.proofs.Formatting.{on_ok_part, size_part}
+use Rattle.storage_cli.proofs.Formatting.{no_cause, on_ok_part, size_part}
 use Rattle.storage_cli.proofs.Serves.{safe_run, completes_attached, wears_attached}
 use Rattle.storage_cli.proofs.serving.serve.Goals as goal
 
@@ -78,3 +81,10 @@ returns-clause-worn_lines g c =
     worn_in c.serve_image.result (WearsFrom g.B.Board n words (g.B.Board.has_lists a [] []) d) (WearsFrom g.B.Board budget before ⊤ d)
     (λ wears. wears_attached g.B.Board n budget words before a d (ap budget_of (sym c.serve_image.ensures.geometry))
     (λ t. on_ok_part c.attach.result _ ok c.attach.ensures.words (c.serve_image.ensures.told t)) (on_ok_part c.attach.result _ ok c.attach.ensures.lists) wears) c.serve_image.ensures.worn_lines
+
+pub returns-clause-cause : goal.returns-clause-cause
+returns-clause-cause g c =
+    let ok = sym c.is_err.ensures.value ∙ c.if-is_err.false in
+    let before = g.B.Board.faults c.args.board.now in
+    let same : g.B.Board.faults c.attach.new.self ≡ before = no_cause c.attach.result Attach before (g.B.Board.faults c.attach.new.self) ok c.attach.ensures.cause in
+    subst (λ (f : Fault → ℕ). StopsByCause f (g.B.Board.faults c.serve_image.new.board) c.serve_image.result) same c.serve_image.ensures.cause

@@ -1,5 +1,4 @@
-use Rattle.std.proofs.Common.{◌≤◌, ◌+◌, ◌⊎◌, inl, inr, ◌∙◌, ap, sym, refl, arith}
-use Rattle.flash_traits.specs.declared.board.Fault.{Fault}
+use Rattle.std.proofs.Common.{◌+◌, ◌⊎◌, inl, inr, ◌∙◌, ap, sym, refl}
 use Rattle.flash_traits.specs.Budget.{budget_of}
 use Rattle.dirty_lines.specs.Lines.{Lines}
 use Rattle.dirty_lines.specs.Losses.{IsWornForNext}
@@ -7,7 +6,7 @@ use Rattle.storage_cli.specs.Steps.Guard.{WearsSince}
 use Rattle.storage_cli.specs.Steps.Progress.{WasArmedSince}
 use Rattle.storage_cli.specs.Steps.Stops.{stop_of, IsEventStop, OnWorn}
 use Rattle.storage_cli.proofs.Calls.{finishes_none, finishes_more, finishes_end, progress_lost, losses_at, armed_later, wears_later}
-use Rattle.storage_cli.proofs.Causes.{on_err, on_stop, caused, node_cause, event_stop, worn_stop}
+use Rattle.storage_cli.proofs.Causes.{on_err, on_stop, caused, cause_later, node_cause, event_stop, worn_stop}
 use Rattle.storage_cli.proofs.serving.serve_events.Goals as goal
 
 pub loop-events-init : goal.loop-events-init
@@ -17,7 +16,7 @@ loop-events-init g c = record {
   geometry = refl;
   budget = refl;
   alone = λ alone. alone;
-  faults = λ k. omega arith;
+  faults = refl;
 }
 
 pub returns-in_err-turn-clause-losses : goal.returns-in_err-turn-clause-losses
@@ -56,10 +55,14 @@ returns-in_err-turn-clause-worn_lines g c =
 
 pub returns-in_err-turn-clause-cause : goal.returns-in_err-turn-clause-cause
 returns-in_err-turn-clause-cause g c =
-    let e = c.in_err-turn.ensures in
-    let later : (k : Fault) → g.B.Board.faults c.args.board.now k ≤ g.B.Board.faults c.event.new.board k = λ k. omega (arith, c.loop-events.invariant.faults k, e.counts k) in
-    caused c.from_residual.result (stop_of c.in_err-turn.field-0.0) c.from_residual.ensures.1 (g.B.Board.faults c.args.board.now) (g.B.Board.faults c.event.new.board) later
-    (node_cause c.in_err-turn.field-0.0 (g.B.Board.faults c.args.board.now) (g.B.Board.faults c.loop-events.board) (g.B.Board.faults c.event.new.board) _ c.loop-events.invariant.faults e.fault)
+    let e = c.in_err-turn.field-0.0 in
+    let before = g.B.Board.faults c.args.board.now in
+    let mid = g.B.Board.faults c.loop-events.board in
+    let now = g.B.Board.faults c.event.new.board in
+    caused c.from_residual.result (stop_of e) c.from_residual.ensures.1 before now (cause_later (stop_of e) before mid now c.loop-events.invariant.faults (node_cause e mid now c.in_err-turn.ensures.counts))
+
+pub returns-in-End-clause-cause : goal.returns-in-End-clause-cause
+returns-in-End-clause-cause g c = c.in_ok-turn.ensures.counts ∙ c.loop-events.invariant.faults
 
 pub returns-in-End-clause-finished : goal.returns-in-End-clause-finished
 returns-in-End-clause-finished g c =
@@ -74,5 +77,5 @@ loop-events-preserved g c = record {
   geometry = c.in_ok-turn.ensures.geometry ∙ c.loop-events.invariant.geometry;
   budget = c.in_ok-turn.ensures.fits.budget ∙ ap budget_of c.in_ok-turn.ensures.geometry ∙ sym c.loop-events.invariant.fits.budget ∙ c.loop-events.invariant.budget;
   alone = λ alone. c.in_ok-turn.ensures.alone (c.loop-events.invariant.alone alone);
-  faults = λ k. omega (arith, c.loop-events.invariant.faults k, c.in_ok-turn.ensures.counts k);
+  faults = c.in_ok-turn.ensures.counts ∙ c.loop-events.invariant.faults;
 }

@@ -1,4 +1,4 @@
-use Rattle.std.proofs.Common.{◌≡◌, ◌≤◌, None}
+use Rattle.std.proofs.Common.{◌≡◌, None}
 use Rattle.vehicle_node.specs.Standing.{Fits, IsAloneUnlessArmed}
 use Rattle.storage_cli.specs.Steps.Progress.{FinishesEvents}
 use Rattle.storage_cli.proofs.serving.serve_events.Given as goal
@@ -10,5 +10,5 @@ invariant-loop-events g l = record {
   geometry : g.B.Board.sector_bytes l.board ≡ g.B.Board.sector_bytes l.fn.board;
   budget : l.node.budget ≡ l.fn.node.budget;
   alone : IsAloneUnlessArmed l.fn.node → IsAloneUnlessArmed l.node;
-  faults : (k : _) → g.B.Board.faults l.fn.board k ≤ g.B.Board.faults l.board k;
+  faults : g.B.Board.faults l.board ≡ g.B.Board.faults l.fn.board;
 }

@@ -26,13 +26,13 @@ pub returns-in_err-node-clause-foreign_where : goal.returns-in_err-node-clause-f
 returns-in_err-node-clause-foreign_where g c = λ told place bad.
     let e = c.in_err-node.ensures in
     on_result c.from_residual.result (stop_of c.in_err-node.field-0.0) c.from_residual.ensures.1 (λ r. StopsEarly r)
-    (opens_early (g.B.Board.words c.args.board.now) (g.B.Board.tells c.open.new.board) (g.B.Board.faults c.args.board.now) (g.B.Board.faults c.open.new.board) c.in_err-node.field-0.0 ((e.left_alone told place bad).read) e.worn_image told place bad)
+    (opens_early (g.B.Board.words c.args.board.now) (g.B.Board.tells c.open.new.board) c.in_err-node.field-0.0 ((e.left_alone told place bad).read) e.worn_image told place bad)
 
 pub returns-in_err-node-clause-worn_where : goal.returns-in_err-node-clause-worn_where
 returns-in_err-node-clause-worn_where g c = λ told used.
     let e = c.in_err-node.ensures in
     on_result c.from_residual.result (stop_of c.in_err-node.field-0.0) c.from_residual.ensures.1 (λ r. StopsWorn r)
-    (opens_worn (g.B.Board.words c.args.board.now) (g.B.Board.tells c.open.new.board) (g.B.Board.faults c.args.board.now) (g.B.Board.faults c.open.new.board) c.in_err-node.field-0.0 e.fault e.foreign told used)
+    (opens_worn (g.B.Board.words c.args.board.now) (g.B.Board.tells c.open.new.board) c.in_err-node.field-0.0 e.fault e.foreign told used)
 
 pub returns-in_err-node-clause-worn : goal.returns-in_err-node-clause-worn
 returns-in_err-node-clause-worn g c =
@@ -59,8 +59,8 @@ returns-in_err-node-clause-stops g c =
 pub returns-in_err-node-clause-cause : goal.returns-in_err-node-clause-cause
 returns-in_err-node-clause-cause g c =
     let before = g.B.Board.faults c.args.board.now in
-    caused c.from_residual.result (stop_of c.in_err-node.field-0.0) c.from_residual.ensures.1 before (g.B.Board.faults c.open.new.board) c.in_err-node.ensures.counts
-    (node_cause c.in_err-node.field-0.0 before before (g.B.Board.faults c.open.new.board) _ (λ k. omega arith) c.in_err-node.ensures.fault)
+    caused c.from_residual.result (stop_of c.in_err-node.field-0.0) c.from_residual.ensures.1 before (g.B.Board.faults c.open.new.board)
+    (node_cause c.in_err-node.field-0.0 before (g.B.Board.faults c.open.new.board) c.in_err-node.ensures.counts)
 
 pub returns-in_err-end-clause-losses : goal.returns-in_err-end-clause-losses
 returns-in_err-end-clause-losses g c = λ b stands.
@@ -110,10 +110,8 @@ returns-in_err-end-clause-cause g c =
     let before = g.B.Board.faults c.args.board.now in
     let mid = g.B.Board.faults c.open.new.board in
     let now = g.B.Board.faults c.serve_events.new.board in
-    let cause = c.in_err-end.ensures.cause in
-    let later : (k : Fault) → before k ≤ now k = λ k. omega (arith, c.in_ok-node.ensures.counts k, cause.later k) in
-    caused c.from_residual-in_err-end.result c.in_err-end.field-0.0 c.from_residual-in_err-end.ensures.1 before now later
-    (cause_later c.in_err-end.field-0.0 before mid now c.in_ok-node.ensures.counts (cause.cause c.in_err-end.field-0.0 refl))
+    caused c.from_residual-in_err-end.result c.in_err-end.field-0.0 c.from_residual-in_err-end.ensures.1 before now
+    (cause_later c.in_err-end.field-0.0 before mid now c.in_ok-node.ensures.counts c.in_err-end.ensures.cause)
 
 pub returns-in_err-end-clause-foreign_where : goal.returns-in_err-end-clause-foreign_where
 returns-in_err-end-clause-foreign_where g c = λ told place bad.
@@ -169,10 +167,9 @@ returns-in_err-close-clause-cause g c =
     let before = g.B.Board.faults c.args.board.now in
     let mid = g.B.Board.faults c.serve_events.new.board in
     let now = g.B.Board.faults c.close.new.board in
-    let earlier : (k : Fault) → before k ≤ mid k = λ k. omega (arith, c.in_ok-node.ensures.counts k, c.in_ok-end.ensures.cause.later k) in
-    let later : (k : Fault) → before k ≤ now k = λ k. omega (arith, earlier k, c.in_err-close.ensures.counts k) in
-    caused c.from_residual-in_err-close.result (stop_of c.in_err-close.field-0.0) c.from_residual-in_err-close.ensures.1 before now later
-    (node_cause c.in_err-close.field-0.0 before mid now _ earlier c.in_err-close.ensures.fault)
+    let e = c.in_err-close.field-0.0 in
+    caused c.from_residual-in_err-close.result (stop_of e) c.from_residual-in_err-close.ensures.1 before now
+    (cause_later (stop_of e) before mid now (c.in_ok-end.ensures.cause ∙ c.in_ok-node.ensures.counts) (node_cause e mid now c.in_err-close.ensures.counts))
 
 pub returns-in_err-close-clause-foreign_where : goal.returns-in_err-close-clause-foreign_where
 returns-in_err-close-clause-foreign_where g c = λ told place bad.
@@ -277,3 +274,9 @@ returns-in_err-close-clause-worn_lines g c =
     wears_closed g.B.Board budget words c.args.board.now c.open.new.board c.in_ok-node.node o.lists o.within c.serve_events.new.board c.close.new.board c.serve_events.new.node c.args.turns c.in_ok-end.end
     (finished_at g.B.Board c.in_ok-node.node.budget budget same c.in_ok-node.node c.open.new.board c.serve_events.new.node c.serve_events.new.board c.args.turns c.in_ok-end.end c.in_ok-end.ensures.finished)
     (c.in_ok-end.ensures.budget ∙ same) c.in_err-close.ensures.told c.in_err-close.ensures.lists wears) c.in_err-close.ensures.worn_lines)
+
+pub returns-in-Some-clause-cause : goal.returns-in-Some-clause-cause
+returns-in-Some-clause-cause g c = c.in_ok-close.ensures.counts ∙ c.in_ok-end.ensures.cause ∙ c.in_ok-node.ensures.counts
+
+pub returns-in-None-clause-cause : goal.returns-in-None-clause-cause
+returns-in-None-clause-cause g c = c.in_ok-close.ensures.counts ∙ c.in_ok-end.ensures.cause ∙ c.in_ok-node.ensures.counts

@@ -1,4 +1,5 @@
 use Rattle.std.proofs.Common.{◌≡◌, inl, ◌+◌, ℕ, List, [], ◌∷◌, ◌++◌, length, refl, ap, sym, ◌∙◌, arith, length-append}
+use Rattle.flash_traits.specs.Counts.{raised}
 use Rattle.flash_traits.specs.Losses as link
 use Rattle.script_lines.specs.Script as script
 use Rattle.script_lines.specs.Script.{ScriptLine}
@@ -6,19 +7,19 @@ use Rattle.script_lines.specs.Seen.{script_line_of}
 use Rattle.script_board.specs.Marks.{marked}
 use Rattle.script_board.specs.declared.board.ScriptMark.TheVariants.{Lost}
 use Rattle.script_board.specs.Taking.{events_in}
-use Rattle.script_board.specs.Hearing.{loses_in}
+use Rattle.script_board.specs.Hearing.{loses_in, since_after}
 use Rattle.script_board.proofs.TakenLines.{took_nothing, took_still, took_then}
 use Rattle.script_board.proofs.Hearing.{AreLosses-append}
-use Rattle.script_board.proofs.Waits.{loses_more, waits_more, take_front, station_fits, only_none, only_then, loses_nothing, unheard_then}
+use Rattle.script_board.proofs.Waits.{waits_next, since_next, waits_nothing, since_nothing, taken_after, loses_more, waits_more, take_front, station_fits, only_none, only_then, loses_nothing, unheard_then}
 use Rattle.script_board.proofs.board.ScriptBoard.take_event.Goals as goal
 
 pub lines-init : goal.lines-init
 lines-init g c = record {
-  took = ([], 0, took_nothing g.S.Source _ _, omega arith, tt, omega arith, omega arith);
+  took = ([], 0, took_nothing g.S.Source _ _, omega arith, tt, omega arith, omega arith, refl, refl);
   few = λ few. few;
   mark = refl;
-  hears = omega arith;
-  source = omega arith;
+  hears = refl;
+  source = refl;
   failures = refl;
   others = only_none c.args.self.now;
   same_input = refl;
@@ -41,11 +42,13 @@ lines-preserved g c =
         AreLosses-append i.0 (line ∷ []) i.4 (ap loses_in is, tt),
         omega (arith, i.5, c.in-Ok.ensures.counted, length-append i.0 (line ∷ [])),
         omega (arith, i.6, long, loses_more i.0 line),
+        waits_next _ _ _ i.0 line i.7 c.in-Ok.ensures.waits,
+        since_next _ _ _ _ _ i.0 line i.7 i.8 (c.in-Ok.ensures.since ∙ taken_after _ _ line _ is refl),
       );
       few = λ few. c.in-Ok.ensures.few (c.lines.invariant.few few);
       mark = c.in-Ok.ensures.unmarked ∙ c.lines.invariant.mark;
-      hears = omega (arith, c.lines.invariant.hears, c.in-Ok.ensures.cause.later);
-      source = omega (arith, c.lines.invariant.source, c.in-Ok.ensures.source);
+      hears = c.in-Ok.ensures.cause ∙ c.lines.invariant.hears;
+      source = c.in-Ok.ensures.source ∙ c.lines.invariant.source;
       failures = c.in-Ok.ensures.unfailed ∙ c.lines.invariant.failures;
       others = only_then c.args.self.now c.lines.self c.next_line.new.self c.lines.invariant.others c.in-Ok.ensures.others;
       same_input = c.in-Ok.ensures.same_input ∙ c.lines.invariant.same_input;
@@ -67,15 +70,20 @@ returns-in-LossNow-clause-took g c =
       omega (arith, i.3, t.2, c.lose_now.ensures.taken),
       omega (arith, i.5, c.in-Ok.ensures.counted, c.lose_now.ensures.line, length-append i.0 (line ∷ [])),
       omega (arith, i.6, long, same, loses_more i.0 line),
-      inl (i.0, ap (λ (l : ScriptLine). i.0 ++ l ∷ []) is, i.4, c.lose_now.ensures.mark ∙ ap (λ m. marked m Lost) mark),
-      λ few. let now = c.in-Ok.ensures.few (c.lines.invariant.few few) in omega (arith, now, i.6, long, loses_more i.0 line),
+      inl (
+        i.0,
+        ap (λ (l : ScriptLine). i.0 ++ l ∷ []) is,
+        i.4,
+        c.lose_now.ensures.mark ∙ ap (λ m. marked m Lost) mark,
+        ap (λ i. g.S.Source.faults i.now) c.lose_now.ensures.input ∙ c.in-Ok.ensures.source ∙ c.lines.invariant.source,
+      ),
+      (λ few. let now = c.in-Ok.ensures.few (c.lines.invariant.few few) in omega (arith, now, i.6, long, loses_more i.0 line)),
+      ap (λ v. v.items) c.lose_now.ensures.waits ∙ waits_next _ _ _ i.0 line i.7 c.in-Ok.ensures.waits,
+      since_next _ c.lines.self.waiting.items _ c.lines.self.since _ i.0 line i.7 i.8 (c.lose_now.ensures.since ∙ sym (ap (λ (l : ScriptLine). since_after c.lines.self.waiting.items c.lines.self.since l) is)),
     )
 
 pub returns-in-LossNow-clause-cause : goal.returns-in-LossNow-clause-cause
-returns-in-LossNow-clause-cause g c = record {
-  later = omega (arith, c.lines.invariant.hears, c.in-Ok.ensures.cause.later, c.lose_now.ensures.cause);
-  failed = omega (arith, c.lines.invariant.hears, c.in-Ok.ensures.cause.later, c.lose_now.ensures.cause);
-}
+returns-in-LossNow-clause-cause g c = c.lose_now.ensures.cause ∙ ap raised (c.in-Ok.ensures.cause ∙ c.lines.invariant.hears)
 
 pub returns-in-Idle-clause-took : goal.returns-in-Idle-clause-took
 returns-in-Idle-clause-took g c =
@@ -91,7 +99,9 @@ returns-in-Idle-clause-took g c =
       omega (arith, i.5, c.in-Ok.ensures.counted, length-append i.0 (line ∷ [])),
       omega (arith, i.6, long, loses_more i.0 line),
       (i.0, line, refl, i.4, ap events_in is),
-      λ few. let now = c.in-Ok.ensures.few (c.lines.invariant.few few) in omega (arith, now, i.6, long, loses_more i.0 line),
+      (λ few. let now = c.in-Ok.ensures.few (c.lines.invariant.few few) in omega (arith, now, i.6, long, loses_more i.0 line)),
+      waits_next _ _ _ i.0 line i.7 c.in-Ok.ensures.waits,
+      since_next _ _ _ _ _ i.0 line i.7 i.8 (c.in-Ok.ensures.since ∙ taken_after _ _ line _ is refl),
     )
 
 pub returns-in-End-clause-took : goal.returns-in-End-clause-took
@@ -108,7 +118,9 @@ returns-in-End-clause-took g c =
       omega (arith, i.5, c.in-Ok.ensures.counted, length-append i.0 (line ∷ [])),
       ap length c.clear.ensures,
       (i.0, line, refl, i.4, ap events_in is),
-      λ few. let now = c.in-Ok.ensures.few (c.lines.invariant.few few) in omega (arith, now, i.6, long, loses_more i.0 line),
+      (λ few. let now = c.in-Ok.ensures.few (c.lines.invariant.few few) in omega (arith, now, i.6, long, loses_more i.0 line)),
+      c.clear.ensures,
+      since_next _ _ _ _ _ i.0 line i.7 i.8 (c.in-Ok.ensures.since ∙ taken_after _ _ line _ is refl),
     )
 
 pub returns-in-Datagram-clause-bounds : goal.returns-in-Datagram-clause-bounds
@@ -133,7 +145,9 @@ returns-in-Datagram-clause-took g c =
       omega (arith, i.5, c.in-Ok.ensures.counted, length-append i.0 (line ∷ [])),
       omega (arith, i.6, long, loses_more i.0 line),
       (i.0, line, refl, i.4, ap events_in is ∙ ap (λ (b : List ℕ). link.Datagram c.in-Datagram.station b ∷ []) (sym front)),
-      λ few. let now = c.in-Ok.ensures.few (c.lines.invariant.few few) in omega (arith, now, i.6, long, loses_more i.0 line),
+      (λ few. let now = c.in-Ok.ensures.few (c.lines.invariant.few few) in omega (arith, now, i.6, long, loses_more i.0 line)),
+      waits_next _ _ _ i.0 line i.7 c.in-Ok.ensures.waits,
+      since_next _ _ _ _ _ i.0 line i.7 i.8 (c.in-Ok.ensures.since ∙ taken_after _ _ line _ is refl),
     )
 
 pub returns-in-Err-clause-took : goal.returns-in-Err-clause-took
@@ -148,5 +162,7 @@ returns-in-Err-clause-took g c =
       omega (arith, i.5, c.in-Err.ensures.same_line, length-append i.0 (let none : List ScriptLine = [] in none)),
       omega (arith, i.6, same, loses_nothing i.0),
       unheard_then _ _ _ _ _ _ _ _ _ _ _ c.lines.invariant.mark c.lines.invariant.failures c.lines.invariant.source (AreLosses-append i.0 [] i.4 tt) c.in-Err.ensures.why,
-      λ few. let now = c.lines.invariant.few few in omega (arith, now, i.6, loses_nothing i.0),
+      (λ few. let now = c.lines.invariant.few few in omega (arith, now, i.6, loses_nothing i.0)),
+      c.in-Err.ensures.no_more ∙ i.7 ∙ sym (waits_nothing c.args.self.now.waiting.items i.0),
+      c.in-Err.ensures.same_since ∙ i.8 ∙ sym (since_nothing c.args.self.now.waiting.items c.args.self.now.since i.0),
     )

@@ -7,6 +7,7 @@ use Rattle.script_board.specs.Waiting.{first_leaves}
 use Rattle.script_board.specs.declared.board.ScriptMark.TheVariants.{Lost}
 use Rattle.script_board.proofs.Listed.{lists_same, unread_by, still_output}
 use Rattle.script_board.proofs.Leaving.{leaves_may}
+use Rattle.flash_traits.proofs.Counting.{by_kind}
 use Rattle.script_board.proofs.device.ScriptBoardBoard.erase.Goals as goal
 
 pub returns-in-Err-clause-changes : goal.returns-in-Err-clause-changes
@@ -27,3 +28,6 @@ returns-in-Err-clause-changes g c =
       here = λ o now. absurd now;
       keeps = λ kept n now. absurd now;
     }
+
+pub returns-in-Err-clause-cause : goal.returns-in-Err-clause-cause
+returns-in-Err-clause-cause g c = by_kind _ _ (search rules) (search rules) (search rules) (search rules) (search rules)

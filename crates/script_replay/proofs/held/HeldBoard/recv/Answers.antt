@@ -1,9 +1,9 @@
 use Rattle.std.proofs.Common.{◌≡◌, ◌≤◌, [], ◌∷◌, length, take, length-append, rules, arith, refl, sym, ap, ◌∙◌, subst}
 use Rattle.flash_traits.specs.Losses.{received, Unchanged}
 use Rattle.script_replay.proofs.Lists.{none_is, none_no_output, lists_same, stands_then}
-use Rattle.script_replay.proofs.Hearing.{not_on, unheard_mark, lists_heard, lists_unheard}
+use Rattle.script_replay.proofs.Hearing.{not_on, none_input, unheard_input, unheard_output, lists_heard, lists_unheard}
 use Rattle.script_replay.proofs.Left.{left_same, left_heard, after_either, same_words}
-use Rattle.script_replay.proofs.Steps.{recv_fails, held_passes}
+use Rattle.script_replay.proofs.Steps.{held_passes}
 use Rattle.script_replay.proofs.held.HeldBoard.recv.Goals as goal
 
 pub returns-then-is_some-clause-lists : goal.returns-then-is_some-clause-lists
@@ -22,8 +22,6 @@ invariant_of-self-in-Err g c =
     let was = c.args.self.now in
     let on = none_is was.board.mark _ c.is_some.ensures c.if-is_some.false in
     let off = now.marked (was.unfailed on) in
-    let input_counts : g.N.Start.input_faults ≤ g.S.Source.faults c.take_event.new.self.input.now = omega (arith, was.input_counts, now.source) in
-    let output_counts : g.N.Start.output_faults ≤ g.K.Sink.faults c.take_event.new.self.out.now = subst (λ o. g.N.Start.output_faults ≤ g.K.Sink.faults o.now) (sym now.others.out) was.output_counts in
     record {
       same_input = now.same_input ∙ was.same_input;
       same_out = ap (λ o. o.ghost_name) now.others.out ∙ was.same_out;
@@ -32,9 +30,8 @@ invariant_of-self-in-Err g c =
       on = λ is. not_on c.take_event.new.self.mark _ off is;
       unfailed = λ is. not_on c.take_event.new.self.mark _ off is;
       kept = λ told. subst (λ o. take (length g.N.Start.written) (g.K.Sink.written o.now) ≡ g.N.Start.written) (sym now.others.out) (was.kept (subst (λ o. g.K.Sink.tells_written o.now) now.others.out told));
-      input_counts = input_counts;
-      output_counts = output_counts;
-      output = λ is. absurd (unheard_mark _ _ _ _ _ _ _ on (was.unfailed on) now.took.6 is);
+      input_counts = unheard_input was.board.mark _ _ _ _ _ _ _ _ on (was.unfailed on) was.input_counts now.took.6;
+      output_counts = ap (λ o. g.K.Sink.faults o.now) now.others.out ∙ unheard_output was.board.mark _ _ _ _ _ _ _ _ on (was.unfailed on) _ was.output_counts now.took.6;
     }
 
 pub returns-in-Ok-clause-lists : goal.returns-in-Ok-clause-lists
@@ -61,7 +58,7 @@ returns-in-Err-clause-lists g c e f =
     let roomy = sym was.same_room ∙ c.if-not-self.false in
     let none = none_is was.heard _ c.is_some-else-not-self.ensures c.if-is_some-2.false in
     stands_then g.N.Start c.args.self.now.board _ _ _ _ _ _ _ _ _ _ _ (omega arith)
-    (lists_unheard g.N.Start c.args.self.now.board _ on now.others.out now.took.0 now.took.1 now.took.2 now.took.4 _ _ _ _ _ roomy none (was.unfailed on) was.input_counts now.took.5 now.took.6 now.took.7)
+    (lists_unheard g.N.Start c.args.self.now.board _ on now.others.out now.took.0 now.took.1 now.took.2 now.took.4 _ _ _ _ _ roomy none (was.unfailed on) (none_input was.board.mark _ _ on was.input_counts) now.took.5 now.took.6 now.took.7)
 
 pub returns-in-Err-clause-time : goal.returns-in-Err-clause-time
 returns-in-Err-clause-time g c =
@@ -71,6 +68,3 @@ returns-in-Err-clause-time g c =
     held_passes c.args.self.now _ _ _ (search rules)
     (left_same g.N.Start c.args.self.now.board _ _ _ _ (ap (λ o. o.now) now.others.out) (λ other is. none_no_output (sym on ∙ is)) words)
     (left_same g.N.Start c.args.self.now.board _ _ _ _ (ap (λ o. o.now) now.others.out) (λ other is. none_no_output (sym on ∙ is)) words)
-
-pub returns-in-Err-clause-cause : goal.returns-in-Err-clause-cause
-returns-in-Err-clause-cause g c = recv_fails c.args.self.now.attaches c.args.self.now.failed c.refuse-in-Err.new.failed _ c.refuse-in-Err.ensures

@@ -2,7 +2,7 @@ use Rattle.std.proofs.Common.{false, [], ℕ, subst}
 use Rattle.flash_traits.specs.Budget.{budget_of}
 use Rattle.replay.specs.Playing.{CloseEnds}
 use Rattle.script_replay.specs.Steps.Places.{words_at}
-use Rattle.script_replay.proofs.Places.{starts_now, holds_then, told_then, adds_then, fails_by}
+use Rattle.script_replay.proofs.Places.{starts_now, holds_then, told_then, adds_then}
 use Rattle.script_replay.proofs.Remaining.{quiet_less, quiet_fewer}
 use Rattle.script_replay.proofs.player.ScriptPlayerPlayer.close.Goals as goal
 
@@ -10,8 +10,7 @@ pub close_on-closed-requires-clause-starts : goal.close_on-closed-requires-claus
 close_on-closed-requires-clause-starts g c = starts_now false c.args.self.now.place c.requires.holds.some
 
 pub returns-clause-holds : goal.returns-clause-holds
-returns-clause-holds g c = holds_then false c.args.self.now.place c.close_on-closed.new.place c.close_on-closed.ensures.back g.M.Beginning c.args.self.now.printed c.still_printed-self.result c.requires.holds
-    (λ is. fails_by _ c.close_on-closed.result c.args.self.now.printed c.close_on-closed.ensures.output (c.still_printed-self.ensures.failed is))
+returns-clause-holds g c = holds_then false c.args.self.now.place c.close_on-closed.new.place c.close_on-closed.ensures.back g.M.Beginning c.requires.holds
 
 pub returns-clause-told : goal.returns-clause-told
 returns-clause-told g c = λ told. told_then false c.args.self.now.place c.close_on-closed.new.place c.close_on-closed.ensures.back c.args.self.now.printed c.still_printed-self.result c.still_printed-self.ensures.before told

@@ -3,7 +3,7 @@ use Rattle.flash_traits.specs.Budget.{budget_of}
 use Rattle.script_board.specs.Taking.{events_of}
 use Rattle.replay.specs.Playing.{EventEnds}
 use Rattle.script_replay.specs.Steps.Places.{words_at}
-use Rattle.script_replay.proofs.Places.{starts_now, holds_then, told_then, adds_then, fails_by}
+use Rattle.script_replay.proofs.Places.{starts_now, holds_then, told_then, adds_then}
 use Rattle.script_replay.proofs.Remaining.{remains_less, remains_fewer, lost_fewer}
 use Rattle.script_replay.proofs.player.ScriptPlayerPlayer.event.Goals as goal
 
@@ -11,8 +11,7 @@ pub event_on-played-requires-clause-starts : goal.event_on-played-requires-claus
 event_on-played-requires-clause-starts g c = starts_now true c.args.self.now.place c.requires.holds.some
 
 pub returns-clause-holds : goal.returns-clause-holds
-returns-clause-holds g c = holds_then true c.args.self.now.place c.event_on-played.new.place c.event_on-played.ensures.back g.M.Beginning c.args.self.now.printed c.still_printed-self.result c.requires.holds
-    (λ is. fails_by _ c.event_on-played.result c.args.self.now.printed c.event_on-played.ensures.output (c.still_printed-self.ensures.failed is))
+returns-clause-holds g c = holds_then true c.args.self.now.place c.event_on-played.new.place c.event_on-played.ensures.back g.M.Beginning c.requires.holds
 
 pub returns-clause-told : goal.returns-clause-told
 returns-clause-told g c = λ told. told_then true c.args.self.now.place c.event_on-played.new.place c.event_on-played.ensures.back c.args.self.now.printed c.still_printed-self.result c.still_printed-self.ensures.before told

@@ -3,7 +3,7 @@ use Rattle.flash_traits.specs.Budget.{budget_of}
 use Rattle.sector_image.specs.FirstBad.{FirstBad}
 use Rattle.replay.specs.Playing.{OpenEnds}
 use Rattle.script_replay.specs.Steps.Places.{ToldAt, words_at}
-use Rattle.script_replay.proofs.Places.{starts_now, holds_then, told_then, adds_then, foreign_less, fails_by}
+use Rattle.script_replay.proofs.Places.{starts_now, holds_then, told_then, adds_then, foreign_less}
 use Rattle.script_replay.proofs.Remaining.{quiet_less, quiet_fewer}
 use Rattle.script_replay.proofs.player.ScriptPlayerPlayer.open.Goals as goal
 
@@ -11,8 +11,7 @@ pub open_on-opened-requires-clause-starts : goal.open_on-opened-requires-clause-
 open_on-opened-requires-clause-starts g c = starts_now false c.args.self.now.place c.requires.some
 
 pub returns-clause-holds : goal.returns-clause-holds
-returns-clause-holds g c = holds_then false c.args.self.now.place c.open_on-opened.new.place c.open_on-opened.ensures.back g.M.Beginning c.args.self.now.printed c.still_printed-self.result c.requires
-    (λ is. fails_by _ c.open_on-opened.result c.args.self.now.printed c.open_on-opened.ensures.output (c.still_printed-self.ensures.failed is))
+returns-clause-holds g c = holds_then false c.args.self.now.place c.open_on-opened.new.place c.open_on-opened.ensures.back g.M.Beginning c.requires
 
 pub returns-clause-told : goal.returns-clause-told
 returns-clause-told g c = λ told. told_then false c.args.self.now.place c.open_on-opened.new.place c.open_on-opened.ensures.back c.args.self.now.printed c.still_printed-self.result c.still_printed-self.ensures.before told

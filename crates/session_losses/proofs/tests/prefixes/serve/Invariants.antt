@@ -1,5 +1,0 @@
-use Rattle.vehicle_node.specs.Standing.{Fits}
-use Rattle.session_losses.proofs.tests.prefixes.serve.Given as goal
-
-abbrev pub invariant-events : goal.invariant-events
-invariant-events g l = Fits g.B.Board l.board l.node

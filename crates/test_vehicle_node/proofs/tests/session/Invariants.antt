@@ -1,0 +1,5 @@
+use Rattle.vehicle_node.specs.Standing.{Fits}
+use Rattle.test_vehicle_node.proofs.tests.session.Given as goal
+
+abbrev pub invariant-events : goal.invariant-events
+invariant-events g l = Fits g.B.Board l.board l.node
