@@ -1,7 +1,7 @@
 #!/usr/bin/env python3
 """Refuses each command one allocation, one number at a time: tests/refused_memory.py [FIRST [LAST]]
 
-It runs the tests of crates/cli_sessions/src/memory.rt by `rt try --test --fail-alloc N`, for N from FIRST, or 1, to
+It runs the tests of crates/test_storage_cli/src/memory.rt by `rt try --test --fail-alloc N`, for N from FIRST, or 1, to
 LAST, or until no command made so many. Each number is built anew and takes about a minute, so the gate leaves it out.
 For each number it says what became of each command:
 
@@ -28,7 +28,7 @@ RESULT = re.compile(r"^test memory::(\w+)_with_memory \.\.\. (ok|FAILED)(?:\n +e
 def outcomes(number):
     """What became of each command where the allocation with this number is refused."""
     done = subprocess.run(["rt", "try", "--test", "--fail-alloc", str(number), "--", "with_memory"],
-                          cwd=os.path.join(TOP, "crates", "cli_sessions"), check=False, text=True, errors="replace",
+                          cwd=os.path.join(TOP, "crates", "test_storage_cli"), check=False, text=True, errors="replace",
                           stdin=subprocess.DEVNULL, stdout=subprocess.PIPE, stderr=subprocess.STDOUT)
     found = {name: "done" if passed == "ok" else cause or "WRONG"
              for name, passed, cause in RESULT.findall(done.stdout)}

@@ -3,7 +3,7 @@
 
 A quote stands in a document between two marks,
 
-    <!-- quote crates/vehicle_node/specs/Safe.antt Safe SafeAt -->
+    <!-- quote crates/vehicle_runs/specs/Safe.antt Safe SafeAt -->
     <!-- end -->
 
 the first of which names a file of specs/ and definitions there, or a file of code, a function and its clauses. Between
